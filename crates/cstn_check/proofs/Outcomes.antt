@@ -5,6 +5,7 @@ use Rattle.std.proofs.lemmas.Bool.{false≢true}
 use Rattle.std.proofs.lemmas.List.{length-map}
 use Rattle.std.proofs.Math.Seq.{take-append_seam}
 use Rattle.cstn_label.specs.Read.{the_bound}
+use Rattle.cstn_net.specs.Limits.{most_load}
 use Rattle.cstn_net.specs.Networks.{Network, IsWellFormed, count}
 use Rattle.cstn_rules.specs.declared.entries.Entry.{Entry as DeclaredEntry}
 use Rattle.cstn_rules.specs.Rules.{Refutes}
@@ -37,7 +38,7 @@ refuted_itself net s k e good kept short there refutes =
 -- a log in which no entry but perhaps the last refutes, and the last doesn't, is open
 pub open_from : (net : Network) (s : State) (e : DeclaredEntry) → s.nodes ≡ count net → IsDerivation net (the_entries s.entries) →
     IsKept net (the_entries s.entries) → IsRefutedLast net (the_entries s.entries) → s.births < 2 ^ 61 →
-    length s.entries ≤ s.cap → s.cap ≤ 4194304 → slice_get s.entries (length s.entries - 1) ≡ Some e →
+    length s.entries ≤ s.cap → s.cap ≤ most_load → slice_get s.entries (length s.entries - 1) ≡ Some e →
     ¬ Refutes net (the_bound e.bound) → IsOpen net s
 open_from net s e nodes derivation kept last births short few there not =
     let L = the_entries s.entries in

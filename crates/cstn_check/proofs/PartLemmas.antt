@@ -7,6 +7,7 @@ use Rattle.std.proofs.lemmas.Bool.{cases_Bool}
 use Rattle.std.proofs.lemmas.List.{length-map}
 use Rattle.std.proofs.lemmas.Option.{slice_get_within, slice_get-get_or}
 use Rattle.cstn_label.specs.Bounds.{Bound}
+use Rattle.cstn_net.specs.Limits.{most_deadline, most_load}
 use Rattle.cstn_net.specs.Networks.{Network, IsWellFormed, count, limit}
 use Rattle.cstn_rules.specs.declared.entries.Entry.{Entry as DeclaredEntry}
 use Rattle.cstn_rules.specs.Derivations.{Entry, IsRefutation}
@@ -44,7 +45,7 @@ pub part_refutes : (net : Network) (list steps : List Entry) → IsRefutation ne
 part_refutes net list steps refuting is = subst (λ l. IsRefutation net l) (sym is) (part_refutation net list refuting)
 
 pub part_text : (net : Network) (list : List Entry) (r : RefutationParts) → IsRefutation net list → r.load ≡ length list →
-    the_steps r ≡ part list → length list ≤ 4194304 → FitsText r
+    the_steps r ≡ part list → length list ≤ most_load → FitsText r
 part_text net list r refuting load is few =
     let inside = slice_get_within list (length list - 1) refuting.last refuting.is_last in
     let long : length (the_steps r) ≡ length r.steps = length-map r.steps the_entry in
@@ -53,7 +54,7 @@ part_text net list r refuting load is few =
     record { load_low = omega arith; load_high = omega arith; few = omega arith }
 
 module _ (net : Network) (good : IsWellFormed net) (list : List Entry) (kept : IsKept net list) where
-  limit_in_time : (x : ℕ) → limit net x ≤ 1000000
+  limit_in_time : (x : ℕ) → limit net x ≤ most_deadline
   limit_in_time zero = omega arith
   limit_in_time (suc x) = good.in_time
 
@@ -87,7 +88,7 @@ module _ (net : Network) (good : IsWellFormed net) (list : List Entry) (kept : I
       ap (λ l. slice_get l k) (sym is) ∙ entry_at steps k (get_or steps k d) (slice_get-get_or steps k d inside)
 
   -- the part of a list that refutes has the form of steps
-  pub part_steps : (steps : List DeclaredEntry) → IsRefutation net list → the_entries steps ≡ part list → length list ≤ 4194304 →
+  pub part_steps : (steps : List DeclaredEntry) → IsRefutation net list → the_entries steps ≡ part list → length list ≤ most_load →
       AreSteps steps
   part_steps steps refuting is few =
       let long : length (the_entries steps) ≡ length steps = length-map steps the_entry in

@@ -3,6 +3,7 @@ use Rattle.std.proofs.Common.{ℕ, zero, suc, ◌≡◌, ◌+◌, ◌*◌, ◌^�
 use Rattle.std.specs.Prelude.{slice_index_or}
 use Rattle.std.proofs.Math.Nat.{mul_assoc, pow-suc}
 use Rattle.std.proofs.lemmas.Nat.{mul-le}
+use Rattle.cstn_net.specs.Limits.{most_time_points, most_deadline}
 use Rattle.cstn_check.specs.Growth.{observed}
 use Rattle.cstn_check.specs.Room.{factor}
 
@@ -51,5 +52,5 @@ most_next n h os x inside = by (slice_index_or os x None) refl
     by (Some p) e = most_more n h os x p inside e
 
 -- the bound where nothing is observed is small
-pub first_small : (n h : ℕ) → n ≤ 1024 → h ≤ 1000000 → n * (h + 2) ≤ 1024002048
-first_small n h few soon = let le = mul-le n (h + 2) 1024 1000002 few (omega arith) in omega (arith, le)
+pub first_small : (n h : ℕ) → n ≤ most_time_points → h ≤ most_deadline → n * (h + 2) ≤ 1024002048
+first_small n h few soon = let le = mul-le n (h + 2) most_time_points 1000002 few (omega arith) in omega (arith, le)

@@ -18,7 +18,7 @@ use crate::growth::{Grown, grow};
 use crate::plans::live_bounds;
 use crate::verdicts::Verdict;
 use cstn_label::Bound;
-use cstn_log::Log;
+use cstn_log::{Cap, Log};
 use cstn_net::{Network, network_is_well_formed};
 use cstn_plan::SoundPlan;
 use cstn_refute::Refutation;
@@ -51,13 +51,11 @@ impl Model for Check {
 impl Check {
     /// A check of the network, whose log has at most `cap` entries. All memory for the verdict and for a plan is taken here;
     /// fails only where memory is refused, and drops the network then.
-    pub fn start(alloc: Global, net: Network, cap: u32) -> Result<Check, AllocError>
-        requires some { 1 ≤ cap }
-        requires most { cap ≤ 4194304 }
-        ensures start { IfOk result (λ check. check ≡ record { net = net; cap = cap; verdict = None; tries = 0 }) }
+    pub fn start(alloc: Global, net: Network, cap: Cap) -> Result<Check, AllocError>
+        ensures start { IfOk result (λ check. check ≡ record { net = net; cap = cap.entries; verdict = None; tries = 0 }) }
     {
         let log = Log::start(alloc, &net, cap)?;
-        let bounds = Vec::with_capacity(alloc, cap as usize)?;
+        let bounds = Vec::with_capacity(alloc, cap.entries as usize)?;
         Ok(Check {
             net,
             log,

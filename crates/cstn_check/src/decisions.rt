@@ -1,5 +1,5 @@
 // What is said of the verdict on a network.
-ghost use Rattle.std.specs.Prelude.{ℕ, ◌≡◌, ◌≤◌, ◌++◌, IfOk, Some, length, codes, decimal};
+ghost use Rattle.std.specs.Prelude.{ℕ, ◌≡◌, ◌++◌, IfOk, Some, length, codes, decimal};
 ghost use Rattle.cstn_net.specs.Networks.{IsWellFormed, count};
 ghost use Rattle.cstn_net.specs.Read.{the_network};
 ghost use Rattle.cstn_check.specs.Growth.{log_of, load_of};
@@ -11,6 +11,7 @@ ghost use Rattle.cstn_check.specs.Decisions.{TellsVerdict, checked};
 ghost use Rattle.cstn_reply.specs.Read.{the_said};
 
 use crate::{Check, Verdict};
+use cstn_log::Cap;
 use cstn_net::Network;
 use cstn_reply::{Outcome, Said};
 use cstn_text::Names;
@@ -26,12 +27,10 @@ pub enum Judged {
 }
 
 /// Checks a network, whose log may have `cap` entries. Fails for want of memory alone.
-pub fn judge(alloc: Global, network: Network, names: &Names, cap: u32) -> Result<Judged, AllocError>
-    requires some { 1 ≤ cap }
-    requires most { cap ≤ 4194304 }
+pub fn judge(alloc: Global, network: Network, names: &Names, cap: Cap) -> Result<Judged, AllocError>
     requires well_formed { IsWellFormed (the_network network) }
     requires named { length names.now ≡ count (the_network network) }
-    ensures judged { IfOk result (TellsVerdict cap names.now network) }
+    ensures judged { IfOk result (TellsVerdict cap.entries names.now network) }
 {
     let mut check = Check::start(alloc, network, cap)?;
     match check.run() {
@@ -61,13 +60,11 @@ pub fn check_text(
     alloc: Global,
     network: Network,
     names: &Names,
-    cap: u32,
+    cap: Cap,
 ) -> Result<Said, AllocError>
-    requires some { 1 ≤ cap }
-    requires most { cap ≤ 4194304 }
     requires well_formed { IsWellFormed (the_network network) }
     requires named { length names.now ≡ count (the_network network) }
-    ensures said { IfOk result (λ said. the_said said ≡ checked cap names.now (the_network network)) }
+    ensures said { IfOk result (λ said. the_said said ≡ checked cap.entries names.now (the_network network)) }
 {
     match judge(alloc, network, names, cap)? {
         Judged::Yes { load, .. } => {
@@ -97,10 +94,10 @@ fn refuted(alloc: Global, check: &Check, names: &Names) -> Result<Said, AllocErr
 }
 
 /// What is said where a log has more than `cap` entries. Fails for want of memory alone.
-pub fn full(alloc: Global, cap: u32) -> Result<Said, AllocError>
-    ensures said { IfOk result (λ said. the_said said ≡ record { outcome = Outcome.Full; text = full_line cap }) }
+pub fn full(alloc: Global, cap: Cap) -> Result<Said, AllocError>
+    ensures said { IfOk result (λ said. the_said said ≡ record { outcome = Outcome.Full; text = full_line cap.entries }) }
 {
-    let text = format!(in alloc; "full {cap}\n")?;
+    let text = format!(in alloc; "full {}\n", cap.entries)?;
     Ok(Said {
         outcome: Outcome::Full,
         text: text.into_bytes(),

@@ -6,21 +6,21 @@ ghost use Rattle.cstn_check.specs.Growth.{most_entries};
 ghost use Rattle.cstn_check.specs.Room.{factor};
 
 use cstn_label::{NodeId, Prop};
+use cstn_log::Cap;
 use cstn_net::Network;
 
 /// No log of the network, or of the network with fewer constraints, can have more than `cap` entries.
-pub fn is_never_full(net: &Network, cap: u32) -> bool
-    requires most { cap ≤ 4194304 }
-    ensures within { result ≡ true → most_entries (the_network net.now) ≤ cap }
+pub fn is_never_full(net: &Network, cap: Cap) -> bool
+    ensures within { result ≡ true → most_entries (the_network net.now) ≤ cap.entries }
 {
     let mut most = net.count() as u64 * (net.deadline() as u64 + 2);
     for x in 0..net.count() {
-        if most > cap as u64 {
+        if most > cap.entries as u64 {
             return false;
         }
         most *= factor(net.observes(NodeId(x)));
     }
-    most <= cap as u64
+    most <= cap.entries as u64
 }
 
 // How many marks a label may have of what a time-point observes.

@@ -4,6 +4,7 @@ use Rattle.std.specs.Prelude.{◌&&◌, nat_lt, if◌then◌else◌, bytes_eq, O
 use Rattle.std.specs.List.{All}
 use Rattle.std.proofs.lemmas.List.Elements.{All-get_or, All-head, All-tail}
 use Rattle.cstn_label.specs.Bounds.{Bound}
+use Rattle.cstn_net.specs.Limits.{most_load}
 use Rattle.cstn_text.specs.Names.{AreNames}
 use Rattle.cstn_text.specs.PrintedLabels.{printed_label, label_read}
 use Rattle.cstn_text.proofs.PrintedLabelLemmas.{label_back}
@@ -17,14 +18,14 @@ use Rattle.cstn_closed.specs.Texts.{line_read, tells, told, bound_lines, printed
 use Rattle.cstn_closed.specs.Orders.{AreLines, IsTextOfBounds}
 use Rattle.cstn_closed.specs.Written.{IsPrintableBound, AreWritten}
 
-few_lines : (k : ℕ) → k < 4194304 → nat_lt k 4194304 ≡ true
+few_lines : (k : ℕ) → k < most_load → nat_lt k most_load ≡ true
 few_lines k small = grind arith
 
 -- the line of a bound is read again
-line_back : (names : List (List ℕ)) (k : ℕ) (b : Bound) (label : List ℕ) → AreNames names → k < 4194304 → IsPrintableBound names b → label_read label ≡ Some b.label →
+line_back : (names : List (List ℕ)) (k : ℕ) (b : Bound) (label : List ℕ) → AreNames names → k < most_load → IsPrintableBound names b → label_read label ≡ Some b.label →
     line_read names k (codes "bound " ++ bound_with names b label) ≡ Some b
 line_back names k b label are small is read =
-    ap (λ (o : Option (List ℕ × List ℕ)). o >>= (λ word. if bytes_eq word.0 (codes "bound") && nat_lt k 4194304 then named_bound_read names word.1 else None))
+    ap (λ (o : Option (List ℕ × List ℕ)). o >>= (λ word. if bytes_eq word.0 (codes "bound") && nat_lt k most_load then named_bound_read names word.1 else None))
     (part_back (codes "bound") (bound_with names b label) (word_part (codes "bound") (omega arith) refl))
     ∙ ap (λ t. if t then named_bound_read names (bound_with names b label) else None) (few_lines k small)
     ∙ named_back names b label are is read
@@ -35,11 +36,11 @@ line_free names b label are is read =
     spaced (codes "bound") (bound_with names b label) (free (codes "bound") (word_part (codes "bound") (omega arith) refl)) (bound_free names b label are is read)
 
 -- the lines of bounds, in any order of marks, are read
-lines_read : (names : List (List ℕ)) (before bounds : List Bound) (text : List ℕ) → AreNames names → length before + length bounds ≤ 4194304 →
+lines_read : (names : List (List ℕ)) (before bounds : List Bound) (text : List ℕ) → AreNames names → length before + length bounds ≤ most_load →
     All (IsPrintableBound names) bounds → AreLines names bounds text → AreLinesOf (bound_lines names) before bounds text
 lines_read names before [] text are few each lines = lines
 lines_read names before (b ∷ bounds) text are few each (label, rest, read, whole, lines) =
-    let small : length before < 4194304 = omega (arith, few) in
+    let small : length before < most_load = omega (arith, few) in
     let here = All-head (IsPrintableBound names) b bounds each in
     let longer = length-append before (b ∷ []) in (
       codes "bound " ++ bound_with names b label,

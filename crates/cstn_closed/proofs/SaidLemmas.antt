@@ -6,6 +6,7 @@ use Rattle.std.proofs.lemmas.Bool.{and_parts}
 use Rattle.std.proofs.lemmas.List.Elements.{All-nil, All-cons}
 use Rattle.std.proofs.lemmas.Slice.Eq.{bytes_eq-Decides}
 use Rattle.cstn_label.specs.Bounds.{Bound}
+use Rattle.cstn_net.specs.Limits.{most_load}
 use Rattle.cstn_text.specs.PrintedLabels.{label_read}
 use Rattle.cstn_text.specs.Parts.{part}
 use Rattle.cstn_listing.specs.Listings.{AreLines as AreLinesOf}
@@ -18,12 +19,12 @@ use Rattle.cstn_closed.specs.Texts.{line_read, tells, told, bound_lines}
 use Rattle.cstn_closed.specs.Orders.{AreLines, IsTextOfBounds}
 use Rattle.cstn_closed.specs.Written.{IsPrintableBound, AreWritten}
 
-few_said : (k : ℕ) → nat_lt k 4194304 ≡ true → k < 4194304
+few_said : (k : ℕ) → nat_lt k most_load ≡ true → k < most_load
 few_said k e = grind arith
 
 -- the line is that of a bound that can be written
 record IsLine (names : List (List ℕ)) (k : ℕ) (line : List ℕ) (b : Bound) : Type 0 where
-  few : k < 4194304
+  few : k < most_load
   written : IsPrintableBound names b
   label : List ℕ
   read : label_read label ≡ Some b.label
@@ -32,8 +33,8 @@ record IsLine (names : List (List ℕ)) (k : ℕ) (line : List ℕ) (b : Bound) 
 line_said : (names : List (List ℕ)) (k : ℕ) (line : List ℕ) (b : Bound) → line_read names k line ≡ Some b → IsLine names k line b
 line_said names k line b e =
     let word = then_read (part line) _ b e in
-    let named = if_read (bytes_eq word.0.0 (codes "bound") && nat_lt k 4194304) (named_bound_read names word.0.1) b word.2 in
-    let tests = and_parts (bytes_eq word.0.0 (codes "bound")) (nat_lt k 4194304) named.0 in
+    let named = if_read (bytes_eq word.0.0 (codes "bound") && nat_lt k most_load) (named_bound_read names word.0.1) b word.2 in
+    let tests = and_parts (bytes_eq word.0.0 (codes "bound")) (nat_lt k most_load) named.0 in
     let said = named_said names word.0.1 b named.1 in
     record {
       few = few_said k tests.1;
@@ -46,8 +47,8 @@ line_said names k line b e =
     }
 
 -- what the lines that are left say can be written, and there are few enough
-lines_written : (names : List (List ℕ)) (before bounds : List Bound) (text : List ℕ) → length before ≤ 4194304 → AreLinesOf (bound_lines names) before bounds text →
-    (length before + length bounds ≤ 4194304) × All (IsPrintableBound names) bounds
+lines_written : (names : List (List ℕ)) (before bounds : List Bound) (text : List ℕ) → length before ≤ most_load → AreLinesOf (bound_lines names) before bounds text →
+    (length before + length bounds ≤ most_load) × All (IsPrintableBound names) bounds
 lines_written names before [] text few lines = (omega (arith, few), All-nil (IsPrintableBound names))
 lines_written names before (b ∷ bounds) text few (line, rest, read, free, whole, lines) =
     let is = line_said names (length before) line b read in

@@ -3,6 +3,8 @@ use Rattle.std.specs.Prelude.{ℕ, ◌<◌, ◌≤◌, List, length, pos, ◌≤
 use Rattle.std.specs.List.{All}
 use Rattle.cstn_label.specs.declared.bounds.Bound.{Bound as Declared}
 use Rattle.cstn_label.specs.Bounds.{Bound}
+use Rattle.cstn_net.specs.Limits.{most_load}
+use Rattle.cstn_refute.specs.Limits.{most_least}
 pub use Rattle.cstn_refute.specs.Written.{IsPrintableBound}
 use Rattle.cstn_closed.specs.Closed.{ClosedParts}
 
@@ -10,19 +12,19 @@ use Rattle.cstn_closed.specs.Closed.{ClosedParts}
 pub record IsNamed (names : List (List ℕ)) (b : Declared) : Type 0 where
   pub node : b.node.0 < length names
   pub low : pos 0 ≤ℤ b.least
-  pub high : b.least ≤ℤ pos 1000001
+  pub high : b.least ≤ℤ pos most_least
 
 -- the load and the number of bounds are in the ranges of a text
 pub record FitsText (c : ClosedParts) : Type 0 where
   pub load_low : 1 ≤ c.load
-  pub load_high : c.load ≤ 4194304
+  pub load_high : c.load ≤ most_load
   pub some : 1 ≤ length c.bounds
-  pub few : length c.bounds ≤ 4194304
+  pub few : length c.bounds ≤ most_load
 
 -- a load and bounds that a text can say
 pub record AreWritten (names : List (List ℕ)) (load : ℕ) (bounds : List Bound) : Type 0 where
   pub load_low : 1 ≤ load
-  pub load_high : load ≤ 4194304
+  pub load_high : load ≤ most_load
   pub some : 1 ≤ length bounds
-  pub few : length bounds ≤ 4194304
+  pub few : length bounds ≤ most_load
   pub each : All (IsPrintableBound names) bounds

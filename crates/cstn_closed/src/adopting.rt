@@ -3,6 +3,7 @@ ghost use Rattle.std.specs.Prelude.{◌≡◌, ◌≤◌, map, IfOk};
 ghost use Rattle.std.specs.List.{Contains};
 ghost use Rattle.cstn_label.specs.Bounds.{Bound as TheBound};
 ghost use Rattle.cstn_label.specs.Read.{the_bound};
+ghost use Rattle.cstn_net.specs.Limits.{most_load};
 ghost use Rattle.cstn_net.specs.Read.{the_network};
 ghost use Rattle.cstn_rules.specs.Closed.{IsClosed};
 ghost use Rattle.cstn_rules.specs.Rules.{IsBoundOf};
@@ -20,7 +21,7 @@ impl Closed {
     /// Where the least values are from 0 to the limit + 1, as those of a check are, the list has no fault.
     pub fn of(alloc: Global, plan: &SoundPlan, load: u32) -> Result<Closed, AllocError>
         requires low { 1 ≤ load }
-        requires high { load ≤ 4194304 }
+        requires high { load ≤ most_load }
         ensures of { IfOk result (λ c. c ≡ record { load = load; bounds = plan.now.bounds }) }
         ensures accepted { ((b : TheBound) → Contains (map the_bound plan.now.bounds) b → IsBoundOf (the_network plan.now.net) b)
             → IfOk result (λ c. IsFaultless (the_network plan.now.net) (the_bounds c)) }

@@ -8,7 +8,6 @@ mod errors;
 mod index;
 mod instances;
 mod laws;
-mod limits;
 mod lists;
 mod marks;
 mod minimal;

@@ -2,8 +2,10 @@
 ghost use Rattle.std.specs.Prelude.{ℕ, ◌≡◌, ◌<◌, ◌≤◌, ◌+◌, ◌≤ℤ◌, pos, Some, [], length, map, IfOk, IfErr, IfSome};
 ghost use Rattle.std.specs.List.{All};
 ghost use Rattle.std.specs.Option.{option_map};
+ghost use Rattle.cstn_label.specs.Limits.{most_ids};
 ghost use Rattle.cstn_label.specs.Bounds.{Bound as TheBound};
 ghost use Rattle.cstn_label.specs.Read.{the_bound};
+ghost use Rattle.cstn_net.specs.Limits.{most_load};
 ghost use Rattle.cstn_text.specs.Parts.{parts_at};
 ghost use Rattle.cstn_listing.specs.Listings.{at_end, is_some_listed, or_wrong, told_after};
 ghost use Rattle.cstn_closed.specs.Closed.{the_bounds};
@@ -12,10 +14,10 @@ ghost use Rattle.cstn_closed.specs.Written.{AreWritten, FitsText, IsNamed};
 ghost use Rattle.cstn_closed.specs.Read.{IsWrong};
 
 use crate::errors::ClosedError;
-use crate::limits::MOST_BOUNDS;
 use crate::lists::Closed;
 use cstn_label::Bound;
 use cstn_listing::{part, read_load};
+use cstn_net::MAX_LOAD;
 use cstn_refute::read_named_bound;
 use cstn_text::{Names, cut_at};
 use std::alloc::{AllocError, Global};
@@ -25,7 +27,7 @@ impl Closed {
     /// the text ends without a bound, or without its last LF, that is the line that is missing or cut. Fails with `Memory`
     /// where memory is refused.
     pub fn read(alloc: Global, names: &Names, bytes: &[u8]) -> Result<Closed, ClosedError>
-        requires few { length names.now ≤ 65536 }
+        requires few { length names.now ≤ most_ids }
         ensures accepted { IfOk result (λ c. told names.now bytes.now ≡ tells c.load (the_bounds c)) }
         ensures line { IfErr result (IsWrong (told names.now bytes.now)) }
 
@@ -44,7 +46,7 @@ impl Closed {
 
 // The list of a load and of the bounds on the lines of `bytes`.
 fn read_bounds(alloc: Global, names: &Names, load: u32, bytes: &[u8]) -> Result<Closed, ClosedError>
-    requires few { length names.now ≤ 65536 }
+    requires few { length names.now ≤ most_ids }
     ensures accepted { IfOk result (λ c. told_after (bound_lines names.now) load [] (parts_at 10 bytes.now).0 (parts_at 10 bytes.now).1
         ≡ tells c.load (the_bounds c)) }
     ensures line { IfErr result (IsWrong (told_after (bound_lines names.now) load [] (parts_at 10 bytes.now).0 (parts_at 10 bytes.now).1)) }
@@ -68,10 +70,10 @@ fn read_bounds(alloc: Global, names: &Names, load: u32, bytes: &[u8]) -> Result<
 
 // The bound at the place k, read from its line, or `Line` with the number of the line where that isn't of the form.
 fn read_next(names: &Names, k: u32, line: &[u8]) -> Result<Bound, ClosedError>
-    requires few { length names.now ≤ 65536 }
-    requires place { k ≤ 4194304 }
+    requires few { length names.now ≤ most_ids }
+    requires place { k ≤ most_load }
     ensures bound { IfOk result (λ b. line_read names.now k line.now ≡ Some (the_bound b)) }
-    ensures few { IfOk result (λ b. k < 4194304) }
+    ensures few { IfOk result (λ b. k < most_load) }
     ensures line { (next : TheBound → Told) → IfErr result (IsWrong (or_wrong (line_read names.now k line.now) (k + 2) next)) }
 {
     match read_line(names, k, line) {
@@ -82,12 +84,12 @@ fn read_next(names: &Names, k: u32, line: &[u8]) -> Result<Bound, ClosedError>
 
 // The bound on a line, if the line is of the form and k is below the greatest number of bounds.
 fn read_line(names: &Names, k: u32, line: &[u8]) -> Option<Bound>
-    requires few { length names.now ≤ 65536 }
+    requires few { length names.now ≤ most_ids }
     ensures bound { option_map the_bound result ≡ line_read names.now k line.now }
-    ensures few { IfSome result (λ b. k < 4194304) }
+    ensures few { IfSome result (λ b. k < most_load) }
 {
     let (word, rest) = part(line)?;
-    if word == b"bound".as_slice() && k < MOST_BOUNDS {
+    if word == b"bound".as_slice() && k < MAX_LOAD {
         read_named_bound(names, rest)
     } else {
         None
@@ -96,7 +98,7 @@ fn read_line(names: &Names, k: u32, line: &[u8]) -> Option<Bound>
 
 // The list of the load and the bounds, if there is a bound and the text ends behind the LF of the last one.
 fn finish(load: u32, bounds: Vec<Bound>, left: &[u8]) -> Result<Closed, ClosedError>
-    requires few { length bounds.items ≤ 4194304 }
+    requires few { length bounds.items ≤ most_load }
     ensures accepted { IfOk result (λ c. at_end is_some_listed load (map the_bound bounds.items) left.now ≡ tells c.load (the_bounds c)) }
     ensures line { IfErr result (IsWrong (at_end is_some_listed load (map the_bound bounds.items) left.now)) }
 {

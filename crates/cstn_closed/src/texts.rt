@@ -1,5 +1,6 @@
 // The check of a text of bounds.
 ghost use Rattle.std.specs.Prelude.{◌≡◌, ◌≤◌, ◌<◌, ◌++◌, ℕ, List, length, IfOk, codes, decimal, [], ◌∷◌, slice_index_or};
+ghost use Rattle.cstn_label.specs.Limits.{most_ids};
 ghost use Rattle.cstn_net.specs.Networks.{count};
 ghost use Rattle.cstn_net.specs.Read.{the_network};
 ghost use Rattle.cstn_text.specs.PrintedNames.{printed_name};
@@ -24,7 +25,7 @@ pub fn closedcheck_text(
     text: &[u8],
 ) -> Result<Said, AllocError>
     requires named { length names.now ≡ count (the_network network.now) }
-    requires few { length names.now ≤ 65536 }
+    requires few { length names.now ≤ most_ids }
     ensures said { IfOk result (λ said. IsCertificateOf names.now text.now (the_network network.now) (the_said said)) }
 {
     match Closed::read(alloc, names, text) {

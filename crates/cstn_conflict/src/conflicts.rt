@@ -17,6 +17,7 @@ use crate::errors::ConflictError;
 use crate::ids::{Ids, ids_of};
 use crate::laws::refutations_stand;
 use crate::search::{No, leave_out, no_on, refutation_of};
+use cstn_log::Cap;
 use cstn_net::{Network, network_is_well_formed};
 use cstn_refute::Refutation;
 use std::alloc::Global;
@@ -33,15 +34,13 @@ pub struct Conflict {
 /// entries. A constraint that gave no entry of the last no's log is left out with no check, for the log without it is the same;
 /// and where no log can be full, so is one that gave no step of the last refutation, which still refutes the network without it.
 /// The refutation is that of the check of the network with the conflict set. The network is dropped, also on failure.
-pub fn smallest(alloc: Global, net: Network, cap: u32) -> Result<Conflict, ConflictError>
-    requires some { 1 ≤ cap }
-    requires most { cap ≤ 4194304 }
+pub fn smallest(alloc: Global, net: Network, cap: Cap) -> Result<Conflict, ConflictError>
     // But for want of memory, it fails exactly where the network is consistent or a log is full.
     ensures consistent { (load : ℕ) → IsErrOf result (ConflictError.Consistent load)
-        → (load ≡ load_of (the_network net)) × (load_of (the_network net) ≤ cap) × IsConsistent (the_network net) }
-    ensures full { IsErrOf result ConflictError.Full → is_conflict_full cap (the_network net) ≡ true }
-    ensures bounded { IsErrOf result ConflictError.Full → cap < most_entries (the_network net) }
-    ensures refused { IsOk result → (IsConsistent (the_network net) → ⊥) × (is_conflict_full cap (the_network net) ≡ false) }
+        → (load ≡ load_of (the_network net)) × (load_of (the_network net) ≤ cap.entries) × IsConsistent (the_network net) }
+    ensures full { IsErrOf result ConflictError.Full → is_conflict_full cap.entries (the_network net) ≡ true }
+    ensures bounded { IsErrOf result ConflictError.Full → cap.entries < most_entries (the_network net) }
+    ensures refused { IsOk result → (IsConsistent (the_network net) → ⊥) × (is_conflict_full cap.entries (the_network net) ≡ false) }
 
     ensures ids { IfOk result (λ conflict. conflict.ids ≡ conflict_set (the_network net)) }
     ensures ascending { IfOk result (λ conflict. AllPairs (λ a b. a < b) conflict.ids) }
@@ -73,16 +72,14 @@ fn left_over(
     net: Network,
     ids: &[u32],
     first: No,
-    cap: u32,
+    cap: Cap,
 ) -> Result<(Network, Refutation), ConflictError>
-    requires some { 1 ≤ cap }
-    requires most { cap ≤ 4194304 }
     requires ids { ids.now ≡ ids_of (the_network net) }
     requires ascending { AllPairs (λ a b. a < b) ids.now }
-    requires first { IsNoOn cap (the_network net) ids.now first }
+    requires first { IsNoOn cap.entries (the_network net) ids.now first }
     ensures never { (load : ℕ) → IsErrOf result (ConflictError.Consistent load) → ⊥ }
-    ensures full { IsErrOf result ConflictError.Full → is_any_above cap (the_network net) ≡ true }
-    ensures within { IsOk result → is_any_above cap (the_network net) ≡ false }
+    ensures full { IsErrOf result ConflictError.Full → is_any_above cap.entries (the_network net) ≡ true }
+    ensures within { IsOk result → is_any_above cap.entries (the_network net) ≡ false }
     ensures left { IfOk result (λ left. the_network left.0 ≡ with_ids (the_network net) (conflict_set (the_network net))) }
     ensures ids { IfOk result (λ left. ids_of (the_network left.0) ≡ conflict_set (the_network net)) }
     ensures refutation { IfOk result (λ left. IsRefutationOf (the_network left.0) left.1) }

@@ -13,6 +13,7 @@ ghost use Rattle.cstn_conflict.specs.Trials.{IsNoOn, givers, smaller};
 use crate::errors::ConflictError;
 use crate::givers::{givers_of_log, givers_of_steps};
 use cstn_check::{Check, Verdict, is_never_full};
+use cstn_log::Cap;
 use cstn_net::{Network, network_is_well_formed};
 use cstn_refute::Refutation;
 use std::alloc::{AllocError, Global};
@@ -31,11 +32,10 @@ pub(crate) struct No {
 
 impl No {
     // What the check leaves; a log may have `cap` entries.
-    fn of(alloc: Global, check: &Check, ids: &[u32], cap: u32) -> Result<No, AllocError>
-        requires most { cap ≤ 4194304 }
+    fn of(alloc: Global, check: &Check, ids: &[u32], cap: Cap) -> Result<No, AllocError>
         requires ascending { AllPairs (λ a b. a < b) ids.now }
         requires no { (load : ℕ) × (check.now.verdict ≡ Some (Verdict.No load)) }
-        ensures decides { IfOk result (λ no. (list : List Entry) × Decides cap (the_network check.now.net) no.roomy list
+        ensures decides { IfOk result (λ no. (list : List Entry) × Decides cap.entries (the_network check.now.net) no.roomy list
             × (no.gave.items ≡ givers ids.now list)) }
         ensures refutation { IfOk result (λ no. IfSome no.refutation (IsRefutationOf (the_network check.now.net))) }
     {
@@ -71,15 +71,13 @@ impl No {
 
 // A check of the network that has said no; its log may have `cap` entries. Fails where the network is consistent or the log is
 // full. The network is dropped then.
-fn refuting_check(alloc: Global, net: Network, cap: u32) -> Result<Check, ConflictError>
-    requires some { 1 ≤ cap }
-    requires most { cap ≤ 4194304 }
+fn refuting_check(alloc: Global, net: Network, cap: Cap) -> Result<Check, ConflictError>
     ensures consistent { (load : ℕ) → IsErrOf result (ConflictError.Consistent load)
-        → (load ≡ load_of (the_network net)) × (load_of (the_network net) ≤ cap) × IsConsistent (the_network net) }
-    ensures full { IsErrOf result ConflictError.Full → cap < load_of (the_network net) }
+        → (load ≡ load_of (the_network net)) × (load_of (the_network net) ≤ cap.entries) × IsConsistent (the_network net) }
+    ensures full { IsErrOf result ConflictError.Full → cap.entries < load_of (the_network net) }
     ensures no { IfOk result (λ check. (load : ℕ) × (check.verdict ≡ Some (Verdict.No load))) }
     ensures network { IfOk result (λ check. check.net ≡ net) }
-    ensures within { IfOk result (λ check. load_of (the_network net) ≤ cap) }
+    ensures within { IfOk result (λ check. load_of (the_network net) ≤ cap.entries) }
     ensures refuted { IfOk result (λ check. is_consistent (the_network net) ≡ false) }
 {
     network_is_well_formed(&net);
@@ -93,14 +91,12 @@ fn refuting_check(alloc: Global, net: Network, cap: u32) -> Result<Check, Confli
 
 /// The no of a check of the network whose log may have `cap` entries. Fails where the network is consistent or the log is full.
 /// The network is dropped.
-pub(crate) fn no_on(alloc: Global, net: Network, ids: &[u32], cap: u32) -> Result<No, ConflictError>
-    requires some { 1 ≤ cap }
-    requires most { cap ≤ 4194304 }
+pub(crate) fn no_on(alloc: Global, net: Network, ids: &[u32], cap: Cap) -> Result<No, ConflictError>
     requires ascending { AllPairs (λ a b. a < b) ids.now }
     ensures consistent { (load : ℕ) → IsErrOf result (ConflictError.Consistent load)
-        → (load ≡ load_of (the_network net)) × (load_of (the_network net) ≤ cap) × IsConsistent (the_network net) }
-    ensures full { IsErrOf result ConflictError.Full → cap < load_of (the_network net) }
-    ensures no { IfOk result (IsNoOn cap (the_network net) ids.now) }
+        → (load ≡ load_of (the_network net)) × (load_of (the_network net) ≤ cap.entries) × IsConsistent (the_network net) }
+    ensures full { IsErrOf result ConflictError.Full → cap.entries < load_of (the_network net) }
+    ensures no { IfOk result (IsNoOn cap.entries (the_network net) ids.now) }
 {
     let check = refuting_check(alloc, net, cap)?;
     let no = No::of(alloc, &check, ids, cap)?;
@@ -113,15 +109,13 @@ fn no_without(
     net: &Network,
     id: u32,
     ids: &[u32],
-    cap: u32,
+    cap: Cap,
 ) -> Result<No, ConflictError>
-    requires some { 1 ≤ cap }
-    requires most { cap ≤ 4194304 }
     requires ascending { AllPairs (λ a b. a < b) ids.now }
     ensures consistent { (load : ℕ) → IsErrOf result (ConflictError.Consistent load)
-        → (load_of (without id (the_network net.now)) ≤ cap) × IsConsistent (without id (the_network net.now)) }
-    ensures full { IsErrOf result ConflictError.Full → cap < load_of (without id (the_network net.now)) }
-    ensures no { IfOk result (IsNoOn cap (without id (the_network net.now)) ids.now) }
+        → (load_of (without id (the_network net.now)) ≤ cap.entries) × IsConsistent (without id (the_network net.now)) }
+    ensures full { IsErrOf result ConflictError.Full → cap.entries < load_of (without id (the_network net.now)) }
+    ensures no { IfOk result (IsNoOn cap.entries (without id (the_network net.now)) ids.now) }
 {
     let mut less = net.copy(alloc)?;
     less.take_out(id);
@@ -138,18 +132,16 @@ pub(crate) fn leave_out(
     last: &mut No,
     ids: &[u32],
     k: usize,
-    cap: u32,
+    cap: Cap,
 ) -> Result<(), ConflictError>
-    requires some { 1 ≤ cap }
-    requires most { cap ≤ 4194304 }
     requires ascending { AllPairs (λ a b. a < b) ids.now }
     requires inside { k < length ids.now }
-    requires last { IsNoOn cap (the_network net.old) ids.now last.old }
+    requires last { IsNoOn cap.entries (the_network net.old) ids.now last.old }
     ensures never { (load : ℕ) → IsErrOf result (ConflictError.Consistent load) → ⊥ }
-    ensures full { IsErrOf result ConflictError.Full → cap < load_of (without (get_or ids.now k 0) (the_network net.old)) }
-    ensures within { IsOk result → load_of (without (get_or ids.now k 0) (the_network net.old)) ≤ cap }
+    ensures full { IsErrOf result ConflictError.Full → cap.entries < load_of (without (get_or ids.now k 0) (the_network net.old)) }
+    ensures within { IsOk result → load_of (without (get_or ids.now k 0) (the_network net.old)) ≤ cap.entries }
     ensures left { IsOk result → the_network net.new ≡ smaller (get_or ids.now k 0) (the_network net.old) }
-    ensures last { IsOk result → IsNoOn cap (the_network net.new) ids.now last.new }
+    ensures last { IsOk result → IsNoOn cap.entries (the_network net.new) ids.now last.new }
 {
     network_is_well_formed(net);
     let id = ids[k];
@@ -175,12 +167,10 @@ pub(crate) fn refutation_of(
     alloc: Global,
     net: &Network,
     kept: Option<Refutation>,
-    cap: u32,
+    cap: Cap,
 ) -> Result<Refutation, ConflictError>
-    requires some { 1 ≤ cap }
-    requires most { cap ≤ 4194304 }
     requires refuted { is_consistent (the_network net.now) ≡ false }
-    requires within { load_of (the_network net.now) ≤ cap }
+    requires within { load_of (the_network net.now) ≤ cap.entries }
     requires kept { IfSome kept (IsRefutationOf (the_network net.now)) }
     ensures never { (load : ℕ) → IsErrOf result (ConflictError.Consistent load) → ⊥ }
     ensures never_full { IsErrOf result ConflictError.Full → ⊥ }

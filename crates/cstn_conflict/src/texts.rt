@@ -1,5 +1,5 @@
 // The constraints to blame for a no.
-ghost use Rattle.std.specs.Prelude.{◌≡◌, ◌≤◌, ◌<◌, ◌++◌, ◌∷◌, IfOk, length, flat_map, decimal, OnOk};
+ghost use Rattle.std.specs.Prelude.{◌≡◌, ◌<◌, ◌++◌, ◌∷◌, IfOk, length, flat_map, decimal, OnOk};
 ghost use Rattle.std.specs.List.{All};
 ghost use Rattle.cstn_net.specs.Networks.{IsWellFormed, count};
 ghost use Rattle.cstn_net.specs.Read.{the_network};
@@ -11,6 +11,7 @@ ghost use Rattle.cstn_conflict.specs.Texts.{ids_line, blamed};
 
 use crate::{Conflict, ConflictError, sets_are_decided, smallest};
 use cstn_check::{full, yes_line};
+use cstn_log::Cap;
 use cstn_net::Network;
 use cstn_reply::{Outcome, Said};
 use cstn_text::Names;
@@ -24,13 +25,11 @@ pub fn conflict_text(
     alloc: Global,
     network: Network,
     names: &Names,
-    cap: u32,
+    cap: Cap,
 ) -> Result<Said, AllocError>
-    requires some { 1 ≤ cap }
-    requires most { cap ≤ 4194304 }
     requires well_formed { IsWellFormed (the_network network) }
     requires named { length names.now ≡ count (the_network network) }
-    ensures said { IfOk result (λ said. the_said said ≡ blamed cap names.now (the_network network)) }
+    ensures said { IfOk result (λ said. the_said said ≡ blamed cap.entries names.now (the_network network)) }
 {
     sets_are_decided();
     match smallest(alloc, network, cap) {

@@ -1,5 +1,6 @@
 -- Numbers as texts.
-use Rattle.std.specs.Prelude.{ℕ, ◌<◌, ◌≤◌, ◌&&◌, nat_lt, nat_le, List, ◌∷◌, [], length, drop, Option, Some, None, if◌then◌else◌, codes, ℤ, pos, neg_ℤ}
+use Rattle.std.specs.Prelude.{ℕ, ◌+◌, ◌<◌, ◌≤◌, ◌&&◌, nat_lt, nat_le, List, ◌∷◌, [], length, drop, Option, Some, None, if◌then◌else◌, codes, ℤ, pos, neg_ℤ}
+use Rattle.cstn_net.specs.Limits.{most_reaction}
 use Rattle.cstn_markup.specs.Bytes.{◌>>=◌, when, begins, past, number_after}
 
 -- 1 to 10 decimal digits, of a value below the limit
@@ -14,11 +15,11 @@ deadline_of bytes = short_number 4294967296 bytes
 
 -- from 1 to 1,000 ticks
 abbrev pub IsReaction : ℕ → Type 0
-IsReaction ticks = (0 < ticks) × (ticks ≤ 1000)
+IsReaction ticks = (0 < ticks) × (ticks ≤ most_reaction)
 
 -- 1 to 4 digits of a value from 1 to 1,000
 abbrev pub few_ticks : List ℕ → Option ℕ
-few_ticks digits = when (nat_le (length digits) 4) digits >>= λ few. short_number 1001 few >>= λ n. when (nat_lt 0 n) n
+few_ticks digits = when (nat_le (length digits) 4) digits >>= λ few. short_number (most_reaction + 1) few >>= λ n. when (nat_lt 0 n) n
 
 -- a reaction in ticks; an empty text is a reaction of one tick
 abbrev pub reaction_in : List ℕ → Option ℕ

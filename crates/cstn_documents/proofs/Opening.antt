@@ -1,12 +1,14 @@
 -- What is said of a document that was opened.
 use Rattle.std.proofs.Common.{◌≡◌, ◌≢◌, ℕ, zero, suc, ◌+◌, ◌^◌, get_or, ◌≤◌, ◌<◌, List, [], ◌∷◌, length, refl, ap, sym, ◌∙◌, subst, inl, inr, arith}
 use Rattle.std.specs.Prelude.{Option, Result, Ok, Err, IfOk, IsErrAnd, slice_index_or, codes}
+use Rattle.cstn_net.specs.Limits.{most_constraints}
 use Rattle.cstn_io.specs.Contents.{IsFile as IsRead, IsLongFile}
 use Rattle.std.specs.List.{All}
 use Rattle.std.proofs.lemmas.List.{length-map, get_or-map}
 use Rattle.cstn_net.specs.declared.constraints.Constraint.{Constraint as LentConstraint}
 use Rattle.cstn_net.specs.Networks.{Network, Constraint, IsWellFormed, count}
 use Rattle.cstn_net.specs.Read.{NetworkParts, the_network, the_constraint}
+use Rattle.cstn_text.specs.Limits.{most_text}
 use Rattle.cstn_element.specs.declared.errors.DocError.{DocError}
 use Rattle.cstn_element.specs.declared.errors.DocError.TheVariants.{NotUtf8, Shape, NameTwice, UnknownNode, Value, LabelText, Contingent, EdgeType, NoDeadline, Net, Lift, Memory}
 use Rattle.cstn_element.specs.Results.{Refusal}
@@ -25,6 +27,7 @@ use Rattle.cstn_lift.specs.Lowered.{numbered, lowered}
 use Rattle.cstn_lift.specs.Read.{LabelledParts, the_labelled}
 use Rattle.std.proofs.Math.Path.{fun_ext}
 use Rattle.cstn_net.specs.declared.errors.NetError.{NetError}
+use Rattle.cstn_documents.specs.Limits.{most_document}
 use Rattle.cstn_documents.specs.Refusals.{refusal_text, fault_text, label_fault_text}
 use Rattle.cstn_reply.specs.Texts.{Said, say}
 use Rattle.cstn_documents.specs.Documents.{AreEmpty, IsRefusalOf, IsLabelsTold}
@@ -36,7 +39,6 @@ use Rattle.cstn_reply.specs.Read.{the_said}
 use Rattle.cstn_reply.specs.declared.output.Said.{Said as SaidText}
 use Rattle.cstn_reply.specs.declared.output.Outcome.TheVariants.{Document, Script}
 use Rattle.cstn_documents.proofs.Contents.{long_content, long_is_there, is_content, is_there}
-use Rattle.cstn_documents.specs.Limits.{most_constraints, most_document, most_text}
 
 -- a refusal by the grammar
 refused_said : (told : Result Parts Refusal) (refusal : Refusal) (said : Said) → told ≡ Err refusal → said ≡ say Document (refusal_text refusal) → IsRefusalOf told said

@@ -10,8 +10,8 @@ use Rattle.cstn_graphml.specs.Document.{Parts, document}
 use Rattle.cstn_graphml.specs.Networks.{network_of, labelled_of, IsFit, IsUnfit, IsMislabelled}
 use Rattle.cstn_reply.specs.Texts.{Said, say}
 use Rattle.cstn_reply.specs.declared.output.Outcome.TheVariants.{Document}
-use Rattle.cstn_documents.specs.Refusals.{refusal_text, fault_text, label_fault_text}
 use Rattle.cstn_documents.specs.Limits.{most_document}
+use Rattle.cstn_documents.specs.Refusals.{refusal_text, fault_text, label_fault_text}
 
 -- each of these labels is empty
 abbrev pub AreEmpty : List Label → Type 0

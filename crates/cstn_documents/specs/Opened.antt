@@ -3,6 +3,7 @@ use Rattle.std.specs.Prelude.{◌≡◌, ℕ, ◌≤◌, ◌<◌, ◌^◌, [], �
 use Rattle.std.specs.List.{All}
 use Rattle.cstn_net.specs.Networks.{Network, IsWellFormed, count}
 use Rattle.cstn_net.specs.Read.{NetworkParts, the_network}
+use Rattle.cstn_text.specs.Limits.{most_text}
 use Rattle.cstn_element.specs.declared.errors.DocError.{DocError}
 use Rattle.cstn_element.specs.declared.errors.DocError.TheVariants.{NotUtf8, Shape, NameTwice, UnknownNode, Value, LabelText, Contingent, EdgeType, NoDeadline, Net, Lift, Memory}
 use Rattle.cstn_element.specs.Results.Refusal.{not_utf8, shape, name_twice, unknown_node, bad_value, label_text, contingent, edge_type, no_deadline}
@@ -15,6 +16,7 @@ use Rattle.cstn_lift.specs.Lowered.{lowered}
 use Rattle.cstn_lift.specs.Read.{LabelledParts, the_labelled}
 use Rattle.cstn_graphml.specs.DrawnGraph.{origin_name}
 use Rattle.cstn_reply.specs.declared.output.Outcome.TheVariants.{Document, Script}
+use Rattle.cstn_documents.specs.Limits.{most_document}
 use Rattle.cstn_documents.specs.declared.reading.NamedNetwork.{NamedNetwork}
 use Rattle.cstn_documents.specs.declared.reading.NamedLabelled.{NamedLabelled}
 use Rattle.cstn_reply.specs.declared.output.Said.{Said as SaidText}
@@ -24,7 +26,6 @@ use Rattle.cstn_documents.specs.Refusals.{refusal_text, fault_text, label_fault_
 use Rattle.cstn_reply.specs.Texts.{Said, say}
 use Rattle.cstn_documents.specs.Documents.{AreEmpty, AreUnlabelled, IsSaidOf, IsSaidPlainly}
 use Rattle.cstn_reply.specs.Read.{the_said}
-use Rattle.cstn_documents.specs.Limits.{most_document, most_text}
 
 -- what is said of an error; nothing is said for want of memory
 abbrev pub IsToldBy : DocError → Said → Type 0

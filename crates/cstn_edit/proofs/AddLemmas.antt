@@ -8,6 +8,7 @@ use Rattle.std.proofs.lemmas.List.{length-append, map-append}
 use Rattle.std.proofs.lemmas.List.Elements.{All-push, All-weaker, Contains-append_left}
 use Rattle.cstn_label.specs.declared.props.Prop.{Prop}
 use Rattle.cstn_label.specs.Labels.{Label}
+use Rattle.cstn_net.specs.Limits.{most_edits}
 use Rattle.cstn_net.specs.declared.constraints.Constraint.{Constraint}
 use Rattle.cstn_net.specs.Networks.{Network, Constraint as TheConstraint, IsLeastUnobserved}
 use Rattle.cstn_net.specs.Read.{NetworkParts, the_network, the_constraint}
@@ -54,7 +55,7 @@ more_births births edits (Some o) few = omega arith
 pub added_session : DeriveElsewhere → (old new : NetworkParts) (c : Constraint) (log : State) (room edits : ℕ) (highest : Option ℕ) (last : Option Outcome) →
     IsSession old log room edits highest last →
     new ≡ record old { constraints = old.constraints ++ c ∷ []; spare = new.spare } → new.spare + 1 ≡ old.spare →
-    edits < 1000000 → length old.constraints < room → c.id ≡ next_id highest → IsSession new log room (edits + 1) (Some c.id) None
+    edits < most_edits → length old.constraints < room → c.id ≡ next_id highest → IsSession new log room (edits + 1) (Some c.id) None
 added_session elsewhere old new c log room edits highest last session is spare few more id =
     let all : new.constraints ≡ old.constraints ++ c ∷ [] = ap (λ n. n.constraints) is in
     let long : length new.constraints ≡ length old.constraints + 1 = ap length all ∙ length-append old.constraints (c ∷ []) in

@@ -8,6 +8,7 @@ use Rattle.std.proofs.lemmas.List.{append-nil, get_or_append_left}
 use Rattle.std.proofs.Math.Seq.{get_or-append_seam}
 use Rattle.std.proofs.lemmas.List.Elements.{All-map, All-weaker}
 use Rattle.std.proofs.lemmas.Option.{slice_get_within, none-some}
+use Rattle.cstn_net.specs.Limits.{most_load, most_edits}
 use Rattle.cstn_net.specs.declared.constraints.Constraint.{Constraint}
 use Rattle.cstn_net.specs.Networks.{Network, Constraint as TheConstraint, IsWellFormed, count}
 use Rattle.cstn_net.specs.Read.{NetworkParts, the_network, the_constraint, has_id, without_id, with_most}
@@ -169,13 +170,13 @@ kept_dropped net left old new id points cap is =
 
 -- the births after an edit are within the most that a session allows
 births_after : (before left entries cap edits : ℕ) (last : Option Outcome) → before ≤ most_births edits last → left ≤ before + entries →
-    entries ≤ cap → cap ≤ 4194304 → left ≤ most_births (edits + 1) None
+    entries ≤ cap → cap ≤ most_load → left ≤ most_births (edits + 1) None
 births_after before left entries cap edits None few more short most = omega arith
 births_after before left entries cap edits (Some o) few more short most = omega arith
 
 -- a session is still one after the constraint with this id was taken out or changed, and its entries were dropped
 pub cut_session : (old new : NetworkParts) (log left : State) (room edits id : ℕ) (highest : Option ℕ) (last : Option Outcome) →
-    IsSession old log room edits highest last → edits < 1000000 → length log.entries ≤ log.cap →
+    IsSession old log room edits highest last → edits < most_edits → length log.entries ≤ log.cap →
     the_network new ≡ with_constraints (the_network old) (map the_constraint new.constraints) →
     ((c : TheConstraint) → Contains (map the_constraint old.constraints) c → (c.id ≡ id → ⊥) → Contains (map the_constraint new.constraints) c) →
     length new.constraints ≤ length old.constraints → room ≤ length new.constraints + new.spare →

@@ -15,6 +15,7 @@ use Rattle.cstn_label.specs.declared.marks.Mark.TheVariants.{Absent}
 use Rattle.cstn_label.specs.Labels.{Label, IsPlain}
 use Rattle.cstn_label.specs.Read.{marks}
 use Rattle.cstn_label.specs.Marks.{is_absent, is_plain}
+use Rattle.cstn_net.specs.Limits.{most_edits}
 use Rattle.cstn_net.specs.declared.constraints.Constraint.{Constraint}
 use Rattle.cstn_net.specs.Networks.{Network, Constraint as TheConstraint, IsOnObserved, IsValue, count, is_prop, IsUnobserved, IsLeastUnobserved}
 use Rattle.cstn_net.specs.Read.{NetworkParts, the_network, the_constraint, has_id, without_id, with_most}
@@ -138,41 +139,41 @@ module _ (net : Network) (a : Label) where
 
 -- what a session answers when it adds nothing is the refusal by the definition
 module _ (v : SessionParts) (most : ℤ) (a : Label) where
-  pub add_at_limit : v.edits ≡ 1000000 → Some EditLimit ≡ add_refusal v.room (the_session v) most a
-  add_at_limit many = sym (cond-true _ _ _ (le-leb 1000000 v.edits (omega arith)))
+  pub add_at_limit : v.edits ≡ most_edits → Some EditLimit ≡ add_refusal v.room (the_session v) most a
+  add_at_limit many = sym (cond-true _ _ _ (le-leb most_edits v.edits (omega arith)))
 
-  below_limit : v.edits < 1000000 → add_refusal v.room (the_session v) most a
+  below_limit : v.edits < most_edits → add_refusal v.room (the_session v) most a
       ≡ (if nat_le v.room (length (map the_constraint v.net.constraints)) then Some (NoRoom v.room)
       else if not (is_value most) then Some (ValueRange most)
       else if not (is_plain a) then Some NotPlain else option_map NotObserved (unobserved (the_network v.net) a))
-  below_limit few = cond-false _ _ _ (lt-leb 1000000 v.edits few)
+  below_limit few = cond-false _ _ _ (lt-leb most_edits v.edits few)
 
-  pub add_no_room : v.edits < 1000000 → v.room ≤ length v.net.constraints →
+  pub add_no_room : v.edits < most_edits → v.room ≤ length v.net.constraints →
       Some (NoRoom v.room) ≡ add_refusal v.room (the_session v) most a
   add_no_room few full =
       let long = length-map v.net.constraints the_constraint in
       sym (below_limit few ∙ cond-true _ _ _ (le-leb v.room (length (map the_constraint v.net.constraints)) (omega arith)))
 
-  in_room : v.edits < 1000000 → length v.net.constraints < v.room → add_refusal v.room (the_session v) most a
+  in_room : v.edits < most_edits → length v.net.constraints < v.room → add_refusal v.room (the_session v) most a
       ≡ (if not (is_value most) then Some (ValueRange most)
       else if not (is_plain a) then Some NotPlain else option_map NotObserved (unobserved (the_network v.net) a))
   in_room few room =
       let long = length-map v.net.constraints the_constraint in
       below_limit few ∙ cond-false _ _ _ (lt-leb v.room (length (map the_constraint v.net.constraints)) (omega arith))
 
-  pub add_out_of_range : v.edits < 1000000 → length v.net.constraints < v.room → is_value most ≡ false →
+  pub add_out_of_range : v.edits < most_edits → length v.net.constraints < v.room → is_value most ≡ false →
       Some (ValueRange most) ≡ add_refusal v.room (the_session v) most a
   add_out_of_range few room out = sym (in_room few room ∙ cond-true _ _ _ (ap not out))
 
-  in_range : v.edits < 1000000 → length v.net.constraints < v.room → is_value most ≡ true → add_refusal v.room (the_session v) most a
+  in_range : v.edits < most_edits → length v.net.constraints < v.room → is_value most ≡ true → add_refusal v.room (the_session v) most a
       ≡ (if not (is_plain a) then Some NotPlain else option_map NotObserved (unobserved (the_network v.net) a))
   in_range few room value = in_room few room ∙ cond-false _ _ _ (ap not value)
 
-  pub add_not_plain : v.edits < 1000000 → length v.net.constraints < v.room → is_value most ≡ true → is_plain a ≡ false →
+  pub add_not_plain : v.edits < most_edits → length v.net.constraints < v.room → is_value most ≡ true → is_plain a ≡ false →
       Some NotPlain ≡ add_refusal v.room (the_session v) most a
   add_not_plain few room value odd = sym (in_range few room value ∙ cond-true _ _ _ (ap not odd))
 
-  pub add_by_observed : (o : Option ℕ) → v.edits < 1000000 → length v.net.constraints < v.room → is_value most ≡ true →
+  pub add_by_observed : (o : Option ℕ) → v.edits < most_edits → length v.net.constraints < v.room → is_value most ≡ true →
       is_plain a ≡ true → o ≡ unobserved (the_network v.net) a → option_map NotObserved o ≡ add_refusal v.room (the_session v) most a
   add_by_observed o few room value plain first =
       ap (option_map NotObserved) first ∙ sym (in_range few room value ∙ cond-false _ _ _ (ap not plain))
@@ -207,31 +208,31 @@ some_seen s v id same some =
 
 -- what a session answers when it takes out or changes nothing is the refusal by the definition
 module _ (v : SessionParts) (id : ℕ) where
-  pub remove_at_limit : v.edits ≡ 1000000 → Some EditLimit ≡ remove_refusal (the_session v) id
-  remove_at_limit many = sym (cond-true _ _ _ (le-leb 1000000 v.edits (omega arith)))
+  pub remove_at_limit : v.edits ≡ most_edits → Some EditLimit ≡ remove_refusal (the_session v) id
+  remove_at_limit many = sym (cond-true _ _ _ (le-leb most_edits v.edits (omega arith)))
 
-  pub remove_none : v.edits < 1000000 → has_constraint (the_network v.net) id ≡ false → Some (NoSuch id) ≡ remove_refusal (the_session v) id
-  remove_none few none = sym (cond-false _ _ _ (lt-leb 1000000 v.edits few) ∙ cond-false _ _ _ none)
+  pub remove_none : v.edits < most_edits → has_constraint (the_network v.net) id ≡ false → Some (NoSuch id) ≡ remove_refusal (the_session v) id
+  remove_none few none = sym (cond-false _ _ _ (lt-leb most_edits v.edits few) ∙ cond-false _ _ _ none)
 
-  pub remove_some : v.edits < 1000000 → has_constraint (the_network v.net) id ≡ true → None ≡ remove_refusal (the_session v) id
-  remove_some few some = sym (cond-false _ _ _ (lt-leb 1000000 v.edits few) ∙ cond-true _ _ _ some)
+  pub remove_some : v.edits < most_edits → has_constraint (the_network v.net) id ≡ true → None ≡ remove_refusal (the_session v) id
+  remove_some few some = sym (cond-false _ _ _ (lt-leb most_edits v.edits few) ∙ cond-true _ _ _ some)
 
-  pub change_at_limit : (most : ℤ) → v.edits ≡ 1000000 → Some EditLimit ≡ change_refusal (the_session v) id most
-  change_at_limit most many = sym (cond-true _ _ _ (le-leb 1000000 v.edits (omega arith)))
+  pub change_at_limit : (most : ℤ) → v.edits ≡ most_edits → Some EditLimit ≡ change_refusal (the_session v) id most
+  change_at_limit most many = sym (cond-true _ _ _ (le-leb most_edits v.edits (omega arith)))
 
-  pub change_none : (most : ℤ) → v.edits < 1000000 → has_constraint (the_network v.net) id ≡ false →
+  pub change_none : (most : ℤ) → v.edits < most_edits → has_constraint (the_network v.net) id ≡ false →
       Some (NoSuch id) ≡ change_refusal (the_session v) id most
-  change_none most few none = sym (cond-false _ _ _ (lt-leb 1000000 v.edits few) ∙ cond-true _ _ _ (ap not none))
+  change_none most few none = sym (cond-false _ _ _ (lt-leb most_edits v.edits few) ∙ cond-true _ _ _ (ap not none))
 
-  pub change_out_of_range : (most : ℤ) → v.edits < 1000000 → has_constraint (the_network v.net) id ≡ true → is_value most ≡ false →
+  pub change_out_of_range : (most : ℤ) → v.edits < most_edits → has_constraint (the_network v.net) id ≡ true → is_value most ≡ false →
       Some (ValueRange most) ≡ change_refusal (the_session v) id most
   change_out_of_range most few some out =
-      sym (cond-false _ _ _ (lt-leb 1000000 v.edits few) ∙ cond-false _ _ _ (ap not some) ∙ cond-false _ _ _ out)
+      sym (cond-false _ _ _ (lt-leb most_edits v.edits few) ∙ cond-false _ _ _ (ap not some) ∙ cond-false _ _ _ out)
 
-  pub change_some : (most : ℤ) → v.edits < 1000000 → has_constraint (the_network v.net) id ≡ true → is_value most ≡ true →
+  pub change_some : (most : ℤ) → v.edits < most_edits → has_constraint (the_network v.net) id ≡ true → is_value most ≡ true →
       None ≡ change_refusal (the_session v) id most
   change_some most few some value =
-      sym (cond-false _ _ _ (lt-leb 1000000 v.edits few) ∙ cond-false _ _ _ (ap not some) ∙ cond-true _ _ _ value)
+      sym (cond-false _ _ _ (lt-leb most_edits v.edits few) ∙ cond-false _ _ _ (ap not some) ∙ cond-true _ _ _ value)
 
 -- what contracts see of a session with a further constraint is `with_added`
 one_more_seen : (old : SessionParts) (c : Constraint) (spare : ℕ) → c.id ≡ next_id old.highest →

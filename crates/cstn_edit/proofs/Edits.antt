@@ -2,6 +2,7 @@
 use Rattle.std.proofs.Common.{◌≡◌, ℕ, ◌+◌, List, [], ◌∷◌, ◌++◌, refl, ap, sym, ◌∙◌, subst, append_assoc, inr}
 use Rattle.std.specs.Prelude.{ℤ, if◌then◌else◌, Option, None, Some, codes, decimal}
 use Rattle.cstn_label.specs.Labels.{Label}
+use Rattle.cstn_net.specs.Limits.{most_constraints}
 use Rattle.cstn_text.specs.Numbers.{printed_number}
 use Rattle.cstn_text.specs.Names.{number_of}
 use Rattle.cstn_rules.specs.Derivations.{Entry}
@@ -90,7 +91,7 @@ add_ends : (e : Editing) (from to : List ℕ) (most : ℤ) (a : Label) (x y : Op
 add_ends e from to most a None y = (unknown_name from, refl)
 add_ends e from to most a (Some x) None = (unknown_name to, refl)
 add_ends e from to most a (Some x) (Some y) =
-    edit_ends e (add_refusal 16384 e.session most a) (codes "added " ++ decimal (next_id e.session.highest)) (with_added e.session x y most a)
+    edit_ends e (add_refusal most_constraints e.session most a) (codes "added " ++ decimal (next_id e.session.highest)) (with_added e.session x y most a)
 
 check_ends : (e : Editing) (o : Answered) (next : Session) → Ends (said_of (answered_check e o next))
 check_ends e o next =

@@ -12,6 +12,7 @@ use Rattle.std.proofs.lemmas.List.Quantifiers.{all_pairs_push}
 use Rattle.cstn_label.specs.Marks.{is_plain}
 use Rattle.cstn_label.specs.Labels.{Label}
 use Rattle.cstn_label.specs.Bounds.{Dominates}
+use Rattle.cstn_net.specs.Limits.{most_constraints, most_edits}
 use Rattle.cstn_net.specs.Networks.{Network, Constraint, IsConstraint, IsValue, IsWellFormed, count}
 use Rattle.cstn_net.specs.Strategies.{IsConsistent}
 use Rattle.cstn_net.proofs.ListLemmas.{pairs_map}
@@ -89,7 +90,7 @@ record IsAccepted (net : Network) (room : ℕ) (most : ℤ) (a : Label) : Type 0
 
 accepted : (room : ℕ) (s : Session) (most : ℤ) (a : Label) → add_refusal room s most a ≡ None → IsAccepted s.net room most a
 accepted room s most a none =
-    let one = none_refused (nat_le 1000000 s.edits) _ _ none in
+    let one = none_refused (nat_le most_edits s.edits) _ _ none in
     let two = none_refused (nat_le room (length s.net.constraints)) _ _ one.1 in
     let three = none_refused (not (is_value most)) _ _ two.1 in
     let four = none_refused (not (is_plain a)) _ _ three.1 in
@@ -101,7 +102,7 @@ accepted room s most a none =
     }
 
 -- a session is sound after a constraint is added
-pub added_is_sound : (room : ℕ) (s : Session) (x y : ℕ) (most : ℤ) (a : Label) → room ≤ 16384 → Small a → x < count s.net → y < count s.net →
+pub added_is_sound : (room : ℕ) (s : Session) (x y : ℕ) (most : ℤ) (a : Label) → room ≤ most_constraints → Small a → x < count s.net → y < count s.net →
     add_refusal room s most a ≡ None → IsSound s → IsSound (with_added s x y most a)
 added_is_sound room s x y most a few small from to none sound =
     let cs = s.net.constraints in
@@ -225,7 +226,7 @@ value_is_sound s id most value sound =
 
 pub changed_is_sound : (s : Session) (id : ℕ) (most : ℤ) → change_refusal s id most ≡ None → IsSound s → IsSound (with_changed s id most)
 changed_is_sound s id most none sound =
-    let one = none_refused (nat_le 1000000 s.edits) _ _ none in
+    let one = none_refused (nat_le most_edits s.edits) _ _ none in
     let two = none_refused (not (has_constraint s.net id)) _ _ one.1 in
     value_is_sound s id most (true_value most (refused_unless (is_value most) _ two.1)) sound
 

@@ -6,6 +6,7 @@ use Rattle.std.proofs.lemmas.Bool.{cases_Bool, lt-ltb, le-ltb, cond-true, cond-f
 use Rattle.std.proofs.lemmas.List.{append-nil, length-map, get_or-map}
 use Rattle.std.proofs.lemmas.List.Elements.{All-map, All-cons}
 use Rattle.std.proofs.lemmas.Option.{none-some}
+use Rattle.cstn_net.specs.Limits.{most_constraints, most_load}
 use Rattle.cstn_net.specs.declared.constraints.Constraint.{Constraint}
 use Rattle.cstn_net.specs.Networks.{Network, Constraint as TheConstraint, IsWellFormed, count}
 use Rattle.cstn_net.specs.Read.{NetworkParts, the_network, the_constraint}
@@ -79,7 +80,7 @@ no_entry net list is = subst (λ l. IsRefutedLast net l) (sym is) (record { befo
 
 -- a log that was just started is a kept log
 pub started_log : (net : Network) (log : State) → the_entries log.entries ≡ first_entries net log.cap → log.nodes ≡ count net →
-    IsDerivation net (the_entries log.entries) → 1 ≤ log.cap → log.cap ≤ 4194304 → IsKeptLog net log
+    IsDerivation net (the_entries log.entries) → 1 ≤ log.cap → log.cap ≤ most_load → IsKeptLog net log
 started_log net log starts nodes derivation some most = record {
   nodes = nodes;
   derivation = derivation;
@@ -95,7 +96,7 @@ started_log net log starts nodes derivation some most = record {
 
 -- what was just started, without an edit, is a session
 pub started_session : (given net : NetworkParts) (log : State) (room : ℕ) (highest : Option ℕ) → IsWellFormed (the_network net) →
-    net ≡ record given { spare = net.spare } → length given.constraints ≤ room → room ≤ 16384 →
+    net ≡ record given { spare = net.spare } → length given.constraints ≤ room → room ≤ most_constraints →
     All (λ c. c.id < 2 ^ 31) given.constraints → room - length given.constraints ≤ net.spare → IsKeptLog (the_network net) log →
     log.births ≤ count (the_network net) → highest ≡ highest_of None (the_network net).constraints → IsSession net log room 0 highest None
 started_session given net log room highest good same fits most ids spare kept births is =

@@ -3,6 +3,7 @@ use Rattle.std.proofs.Common.{ℕ, ◌≡◌, ◌+◌, ◌<◌, ◌≤◌, inl, 
 use Rattle.std.specs.Prelude.{◌↔◌, nat_lt, if◌then◌else◌}
 use Rattle.std.proofs.lemmas.Bool.{cases_Bool, cases_lt, lt-ltb, le-ltb, lt-leb, le-leb, ltb-true, ltb-false, cond-true, cond-false}
 use Rattle.std.proofs.lemmas.List.{length-map, append-nil}
+use Rattle.cstn_net.specs.Limits.{most_load}
 use Rattle.cstn_net.specs.Networks.{Network, IsWellFormed, count}
 use Rattle.cstn_net.specs.Strategies.{IsConsistent}
 use Rattle.cstn_rules.specs.Derivations.{Entry, IsDerivation}
@@ -124,7 +125,7 @@ after_bases net cap kept long full =
 -- a log whose entries are grown from a list that growth may go on from is a kept log
 pub grown_log : (net : Network) (list : List Entry) (new : State) → IsWellFormed net → GoesOn net list →
     Extends (bases (count net)) list → the_entries new.entries ≡ grow net list → new.nodes ≡ count net → count net ≤ new.cap →
-    1 ≤ new.cap → new.cap ≤ 4194304 → IsKeptLog net new
+    1 ≤ new.cap → new.cap ≤ most_load → IsKeptLog net new
 grown_log net list new good on begins is nodes room some most =
     let all = extends_through (bases (count net)) list (grow net list) begins (grow_from net good.network good.letters list on.kept 0) in
     record {
@@ -139,7 +140,7 @@ grown_log net list new good on begins is nodes room some most =
 
 -- a log of the base bounds is a kept log
 pub bases_log : (net : Network) (new : State) → IsWellFormed net → the_entries new.entries ≡ bases (count net) → new.nodes ≡ count net →
-    count net ≤ new.cap → 1 ≤ new.cap → new.cap ≤ 4194304 → IsKeptLog net new
+    count net ≤ new.cap → 1 ≤ new.cap → new.cap ≤ most_load → IsKeptLog net new
 bases_log net new good is nodes room some most =
     let on = bases_go_on net good.network good.letters in
     record {

@@ -2,6 +2,7 @@
 use Rattle.std.specs.Prelude.{◌≤◌, ℕ, ℤ, Bool, false, ◌||◌, if◌then◌else◌, List, [], ◌∷◌, ◌++◌, length, ◌≡◌, Option, None, Some, codes, decimal, bytes_eq}
 use Rattle.cstn_label.specs.Labels.{Label}
 use Rattle.cstn_label.specs.Letters.{letter_of}
+use Rattle.cstn_net.specs.Limits.{most_time_points, most_constraints}
 use Rattle.cstn_net.specs.Networks.{Network, count}
 use Rattle.cstn_net.specs.Read.{the_network}
 use Rattle.cstn_text.specs.Names.{number_of}
@@ -56,7 +57,7 @@ abbrev pub answered_add : Editing → List ℕ → List ℕ → ℤ → Label �
 answered_add e from to most a None y = more (line (unknown_name from)) e
 answered_add e from to most a (Some x) None = more (line (unknown_name to)) e
 answered_add e from to most a (Some x) (Some y) =
-    answered_edit e (add_refusal 16384 e.session most a) (codes "added " ++ decimal (next_id e.session.highest)) (with_added e.session x y most a)
+    answered_edit e (add_refusal most_constraints e.session most a) (codes "added " ++ decimal (next_id e.session.highest)) (with_added e.session x y most a)
 
 -- what is said of a verdict: its load, after a no with the steps of the kept list that refute, or that the list is full
 abbrev pub verdict_text : ℕ → List (List ℕ) → List Entry → Verdict → List ℕ
@@ -125,5 +126,5 @@ the_editing e = record { cap = e.session.cap; names = e.names; session = the_ses
 -- each of the time-points, at most 1,024, has a name, and there is room for 16,384 constraints
 pub record IsEditing (e : EditingParts) : Type 0 where
   pub named : length e.names ≡ count (the_network e.session.net)
-  pub few : length e.names ≤ 1024
-  pub room : e.session.room ≡ 16384
+  pub few : length e.names ≤ most_time_points
+  pub room : e.session.room ≡ most_constraints

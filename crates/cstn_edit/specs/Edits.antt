@@ -1,9 +1,10 @@
 -- Edit sessions by their definition: the edits that are accepted and refused, the sessions that follow, and the verdicts.
-use Rattle.std.specs.Prelude.{ℕ, ℤ, pos, negsuc, int_le, ◌+◌, nat_le, ◌==◌, Bool, not, ◌&&◌, if◌then◌else◌, List, [], ◌∷◌, ◌++◌, length, map, position, Option, None, Some, Result, Ok, Err}
+use Rattle.std.specs.Prelude.{ℕ, ℤ, pos, int_le, ◌+◌, nat_le, ◌==◌, Bool, not, ◌&&◌, if◌then◌else◌, List, [], ◌∷◌, ◌++◌, length, map, position, Option, None, Some, Result, Ok, Err}
 use Rattle.std.specs.List.{filter, list_any, range_with_len}
 use Rattle.std.specs.Option.{option_map, unwrap_or}
 use Rattle.cstn_label.specs.Labels.{Label}
 use Rattle.cstn_label.specs.Marks.{is_absent, is_plain}
+use Rattle.cstn_net.specs.Limits.{most_value, least_value, most_edits}
 use Rattle.cstn_net.specs.Networks.{Network, Constraint, count}
 use Rattle.cstn_net.specs.Scenarios.{is_observed}
 use Rattle.cstn_net.specs.Read.{the_network}
@@ -39,7 +40,7 @@ begun net = record { net = net; kept = bases (count net); edits = 0; highest = h
 
 -- the value is from -1,000,000,000 to 1,000,000,000 ticks
 abbrev pub is_value : ℤ → Bool
-is_value most = int_le (negsuc 999999999) most && int_le most (pos 1000000000)
+is_value most = int_le least_value most && int_le most (pos most_value)
 
 -- the least proposition that the label names and nothing observes
 unfoldable pub unobserved : Network → Label → Option ℕ
@@ -53,7 +54,7 @@ has_constraint net id = list_any (λ c. c.id == id) net.constraints
 -- none where it adds it
 abbrev pub add_refusal : ℕ → Session → ℤ → Label → Option Refusal
 add_refusal room s most a =
-    if nat_le 1000000 s.edits then Some EditLimit
+    if nat_le most_edits s.edits then Some EditLimit
     else if nat_le room (length s.net.constraints) then Some (NoRoom room)
     else if not (is_value most) then Some (ValueRange most)
     else if not (is_plain a) then Some NotPlain
@@ -62,12 +63,12 @@ add_refusal room s most a =
 -- why the session refuses to take out the constraint with this id, or none where it takes it out
 abbrev pub remove_refusal : Session → ℕ → Option Refusal
 remove_refusal s id =
-    if nat_le 1000000 s.edits then Some EditLimit else if has_constraint s.net id then None else Some (NoSuch id)
+    if nat_le most_edits s.edits then Some EditLimit else if has_constraint s.net id then None else Some (NoSuch id)
 
 -- why the session refuses to give the constraint with this id this value, or none where it does
 abbrev pub change_refusal : Session → ℕ → ℤ → Option Refusal
 change_refusal s id most =
-    if nat_le 1000000 s.edits then Some EditLimit
+    if nat_le most_edits s.edits then Some EditLimit
     else if not (has_constraint s.net id) then Some (NoSuch id)
     else if is_value most then None else Some (ValueRange most)
 

@@ -1,6 +1,7 @@
 -- Edit sessions: a network that is edited, with the list that is kept between its verdicts.
 use Rattle.std.specs.Prelude.{ℕ, suc, ◌≡◌, ◌+◌, ◌*◌, ◌^◌, ◌<◌, ◌≤◌, max, nat_lt, nat_le, Bool, ◌&&◌, if◌then◌else◌, List, [], ◌∷◌, ◌++◌, length, Option, Some, None}
 use Rattle.std.specs.List.{All}
+use Rattle.cstn_net.specs.Limits.{most_constraints, most_load, most_edits}
 use Rattle.cstn_net.specs.Networks.{Network, Constraint, count}
 use Rattle.cstn_net.specs.Read.{NetworkParts, the_network}
 use Rattle.cstn_net.specs.Strategies.{IsConsistent}
@@ -85,7 +86,7 @@ pub record IsKeptLog (net : Network) (log : State) : Type 0 where
   pub empty : log.cap < count net → the_entries log.entries ≡ []
   pub refuted : IsRefutedLast net (the_entries log.entries)
   pub some : 1 ≤ log.cap
-  pub most : log.cap ≤ 4194304
+  pub most : log.cap ≤ most_load
 
 -- after a no the last entry of the log refutes the network
 abbrev pub Refuted : Network → State → Option Outcome → Type 0
@@ -100,9 +101,9 @@ Consistent net (Some o) = (load : ℕ) → o.verdict ≡ Yes load → IsConsiste
 pub record IsSession (net : NetworkParts) (log : State) (room edits : ℕ) (highest : Option ℕ) (last : Option Outcome) : Type 0 where
   pub kept : IsKeptLog (the_network net) log
   pub births : log.births ≤ most_births edits last
-  pub few_edits : edits ≤ 1000000
+  pub few_edits : edits ≤ most_edits
   pub fits : length net.constraints ≤ room
-  pub most_room : room ≤ 16384
+  pub most_room : room ≤ most_constraints
   pub spare : room ≤ length net.constraints + net.spare
   pub below : All (λ c. c.id < next_id highest) net.constraints
   pub small : next_id highest ≤ 2 ^ 31 + edits

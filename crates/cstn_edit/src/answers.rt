@@ -1,5 +1,6 @@
 // The new outcome of a session.
 ghost use Rattle.std.specs.Prelude.{ℕ, true, false, [], List, take, ◌↔◌, ◌++◌, ◌≡◌, ◌≤◌, ◌<◌, ◌+◌, ◌*◌, ◌^◌, nat_lt, nat_le, if◌then◌else◌, length, Some};
+ghost use Rattle.cstn_net.specs.Limits.{most_load};
 ghost use Rattle.cstn_net.specs.Networks.{IsWellFormed, count};
 ghost use Rattle.cstn_net.specs.Read.{the_network};
 ghost use Rattle.cstn_net.specs.Strategies.{IsConsistent};
@@ -94,7 +95,7 @@ fn grow_further(
 fn answer_afresh(net: &Network, log: &mut Log, tries: &mut Tries) -> Verdict
     requires room { count (the_network net.now) ≤ log.old.cap }
     requires nodes { log.old.nodes ≡ count (the_network net.now) }
-    requires size { (1 ≤ log.old.cap) × (log.old.cap ≤ 4194304) }
+    requires size { (1 ≤ log.old.cap) × (log.old.cap ≤ most_load) }
     requires births { log.old.births < 2 ^ 60 + 2 ^ 23 }
     ensures verdict { result ≡ (if nat_lt log.old.cap (load_of (the_network net.now)) then Verdict.Full else verdict_by (the_network net.now)
         (log_of (the_network net.now))) }

@@ -4,6 +4,7 @@ ghost use Rattle.std.specs.Prelude.{decimal};
 ghost use Rattle.std.specs.List.{All};
 ghost use Rattle.std.specs.Option.{option_map};
 ghost use Rattle.cstn_label.specs.Read.{marks};
+ghost use Rattle.cstn_net.specs.Limits.{most_time_points, most_constraints, most_load};
 ghost use Rattle.cstn_net.specs.Networks.{count};
 ghost use Rattle.cstn_net.specs.Read.{the_network};
 ghost use Rattle.cstn_text.specs.Names.{number_of};
@@ -22,14 +23,11 @@ use crate::{EditError, Session};
 use cstn_check::Verdict;
 use cstn_label::{Label, NodeId};
 use cstn_lines::{EditLine, read_edit};
-use cstn_net::Network;
+use cstn_net::{MAX_CONSTRAINTS, Network};
 use cstn_reply::{Answer, AnswerText, Outcome, Talk};
 use cstn_text::{Names, print_name};
 use std::alloc::{AllocError, Global};
 use std::marker::Model;
-
-// How many constraints a session may have.
-const MAX_CONSTRAINTS: u32 = 16_384;
 
 /// An edit session, the names of its time-points, and the verdict of the last check.
 #[derive(Drop)]
@@ -61,14 +59,14 @@ impl Editing {
         cap: u32,
     ) -> Result<Editing, AllocError>
         requires some { 1 ≤ cap }
-        requires most { cap ≤ 4194304 }
+        requires most { cap ≤ most_load }
         requires named { length names ≡ count (the_network network) }
-        requires few { length network.constraints ≤ 16384 }
+        requires few { length network.constraints ≤ most_constraints }
         requires ids { All (λ c. c.id < 2 ^ 31) network.constraints }
         ensures start { IfOk result (λ e. the_editing e ≡ begun_editing cap names (the_network network)) }
     {
         has_few_points(&network);
-        let session = Session::start(alloc, network, cap, MAX_CONSTRAINTS)?;
+        let session = Session::start(alloc, network, cap, MAX_CONSTRAINTS as u32)?;
         Ok(Editing {
             alloc,
             session,
@@ -122,7 +120,7 @@ impl Editing {
         requires from { from.0 < count (the_network self.old.session.net) }
         requires to { to.0 < count (the_network self.old.session.net) }
         requires empty { text.old ≡ [] }
-        ensures { answered_edit (the_editing self.old) (add_refusal 16384 (the_session self.old.session) most (marks label))
+        ensures { answered_edit (the_editing self.old) (add_refusal most_constraints (the_session self.old.session) most (marks label))
             (codes "added " ++ decimal (next_id self.old.session.highest)) (with_added (the_session self.old.session) from.0 to.0 most (marks label))
             ≡ more text.new (the_editing self.new) }
     {
@@ -254,7 +252,7 @@ fn ending_by(verdict: Option<Verdict>) -> Outcome
 
 // A network has at most 1,024 time-points.
 fn has_few_points(network: &Network)
-    ensures { count (the_network network.now) ≤ 1024 }
+    ensures { count (the_network network.now) ≤ most_time_points }
 {
     let _ = network.count();
 }

@@ -1,18 +1,11 @@
-// Tests of the value and the label of a new constraint.
-ghost use Rattle.std.specs.Prelude.{ℕ, ◌≡◌, ◌<◌, ◌≤ℤ◌, IsTrue, ◌↔◌, IfNone, IfSome, MatchOption};
+// Tests of the label of a new constraint.
+ghost use Rattle.std.specs.Prelude.{ℕ, ◌≡◌, ◌<◌, IfNone, IfSome, MatchOption};
 ghost use Rattle.cstn_label.specs.Read.{marks};
-ghost use Rattle.cstn_net.specs.Networks.{IsOnObserved, IsValue, IsLeastUnobserved};
+ghost use Rattle.cstn_net.specs.Networks.{IsOnObserved, IsLeastUnobserved};
 ghost use Rattle.cstn_net.specs.Read.{the_network};
 
 use cstn_label::{Label, Mark, Prop, labels_are_their_marks};
 use cstn_net::Network;
-
-// Whether a value is in range.
-pub fn is_value(most: i32) -> bool
-    ensures { IsTrue result ↔ IsValue most }
-{
-    -1_000_000_000 <= most && most <= 1_000_000_000
-}
 
 // The least proposition that the label names and nothing observes.
 pub fn unobserved(net: &Network, label: Label) -> Option<Prop>

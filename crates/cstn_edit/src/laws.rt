@@ -2,6 +2,7 @@
 ghost use Rattle.std.specs.Prelude.{ℕ, ℤ, ◌≡◌, ◌<◌, ◌≤◌, ◌↔◌, length, None};
 ghost use Rattle.cstn_label.specs.declared.marks.Mark.TheVariants.{Absent};
 ghost use Rattle.cstn_label.specs.Labels.{Label};
+ghost use Rattle.cstn_net.specs.Limits.{most_constraints};
 ghost use Rattle.cstn_net.specs.Networks.{Network, IsWellFormed, count};
 ghost use Rattle.cstn_check.specs.Growth.{grow, load_of};
 ghost use Rattle.cstn_check.specs.Kept.{IsKept};
@@ -13,7 +14,7 @@ ghost use Rattle.cstn_edit.specs.Sound.{IsSound, IsTrueOf};
 /// derivation of it that growth can go on from.
 pub fn sessions_stay_sound()
     ensures begun { (net : Network) → IsWellFormed net → IsSound (begun net) }
-    ensures added { (room : ℕ) (s : Session) (x y : ℕ) (most : ℤ) (a : Label) → room ≤ 16384 → ((p : ℕ) → 52 ≤ p → a p ≡ Absent) → x < count s.net
+    ensures added { (room : ℕ) (s : Session) (x y : ℕ) (most : ℤ) (a : Label) → room ≤ most_constraints → ((p : ℕ) → 52 ≤ p → a p ≡ Absent) → x < count s.net
         → y < count s.net → add_refusal room s most a ≡ None → IsSound s → IsSound (with_added s x y most a) }
     ensures removed { (s : Session) (id : ℕ) → IsSound s → IsSound (with_removed s id) }
     ensures changed { (s : Session) (id : ℕ) (most : ℤ) → change_refusal s id most ≡ None → IsSound s → IsSound (with_changed s id most) }

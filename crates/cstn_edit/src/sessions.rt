@@ -4,6 +4,7 @@ ghost use Rattle.std.specs.List.{All, Contains};
 ghost use Rattle.cstn_label.specs.declared.props.Prop.{Prop as DeclaredProp};
 ghost use Rattle.cstn_label.specs.Labels.{IsPlain};
 ghost use Rattle.cstn_label.specs.Read.{marks};
+ghost use Rattle.cstn_net.specs.Limits.{most_constraints, most_load, most_edits};
 ghost use Rattle.cstn_net.specs.Networks.{IsValue, IsWellFormed, count, IsUnobserved, IsLeastUnobserved};
 ghost use Rattle.cstn_net.specs.Strategies.{IsConsistent};
 ghost use Rattle.cstn_net.specs.Read.{the_network, without_id, with_most};
@@ -22,17 +23,15 @@ ghost use Rattle.cstn_edit.specs.Edits.{outcome_at, with_verdict};
 use crate::answers::answer;
 use crate::errors::EditError;
 use crate::fresh::{freshen, is_yes, stays_settled};
-use crate::labels::{is_value, unobserved};
+use crate::labels::unobserved;
 use crate::outcomes::Outcome;
 use cstn_label::{Label, NodeId, labels_are_their_marks};
 use cstn_log::Log;
-use cstn_net::{Constraint, Network, network_is_well_formed};
+use cstn_net::{Constraint, MAX_EDITS, Network, is_value, network_is_well_formed};
 use cstn_refute::Refutation;
 use cstn_rules::{Tries, derivations_move};
 use std::alloc::{AllocError, Global};
 use std::marker::Model;
-
-const MOST_EDITS: u32 = 1_000_000;
 
 /// A network that is edited, with the list of bounds that is kept between its verdicts.
 ///
@@ -84,9 +83,9 @@ impl Session {
     /// for want of memory alone, and drops the network then.
     pub fn start(alloc: Global, net: Network, cap: u32, room: u32) -> Result<Session, AllocError>
         requires some { 1 ≤ cap }
-        requires most { cap ≤ 4194304 }
+        requires most { cap ≤ most_load }
         requires room { length net.constraints ≤ room }
-        requires most_room { room ≤ 16384 }
+        requires most_room { room ≤ most_constraints }
         requires ids { All (λ c. c.id < 2 ^ 31) net.constraints }
         ensures network { IfOk result (λ s. (s.net.deadline ≡ net.deadline) × (s.net.points ≡ net.points) × (s.net.constraints ≡ net.constraints)) }
         ensures size { IfOk result (λ s. (s.cap ≡ cap) × (s.room ≡ room)) }
@@ -130,16 +129,16 @@ impl Session {
     ) -> Result<u32, EditError>
         requires from { from.0 < count (the_network self.old.net) }
         requires to { to.0 < count (the_network self.old.net) }
-        ensures limit { IsErrOf result EditError.EditLimit ↔ (self.old.edits ≡ 1000000) }
+        ensures limit { IsErrOf result EditError.EditLimit ↔ (self.old.edits ≡ most_edits) }
         ensures no_room { (room : ℕ) → (IsErrOf result (EditError.NoRoom room)
-            ↔ ((self.old.edits < 1000000) × (length self.old.net.constraints ≡ self.old.room) × (room ≡ self.old.room))) }
+            ↔ ((self.old.edits < most_edits) × (length self.old.net.constraints ≡ self.old.room) × (room ≡ self.old.room))) }
         ensures value { (v : ℤ) → (IsErrOf result (EditError.ValueRange v)
-            ↔ ((self.old.edits < 1000000) × (length self.old.net.constraints < self.old.room) × (IsValue most → ⊥) × (v ≡ most))) }
+            ↔ ((self.old.edits < most_edits) × (length self.old.net.constraints < self.old.room) × (IsValue most → ⊥) × (v ≡ most))) }
         ensures plain { IsErrOf result EditError.NotPlain
-            ↔ ((self.old.edits < 1000000) × (length self.old.net.constraints < self.old.room) × IsValue most × (IsPlain (marks label) → ⊥)) }
+            ↔ ((self.old.edits < most_edits) × (length self.old.net.constraints < self.old.room) × IsValue most × (IsPlain (marks label) → ⊥)) }
         ensures observed { (p : DeclaredProp)
             → (IsErrOf result (EditError.NotObserved p)
-            ↔ ((self.old.edits < 1000000) × (length self.old.net.constraints < self.old.room) × IsValue most × IsPlain (marks label)
+            ↔ ((self.old.edits < most_edits) × (length self.old.net.constraints < self.old.room) × IsValue most × IsPlain (marks label)
             × IsLeastUnobserved (the_network self.old.net) (marks label) p.index)) }
         ensures refusal { refusal_of result ≡ add_refusal self.old.room (the_session self.old) most (marks label) }
         ensures id { IfOk result (λ id. id ≡ next_id self.old.highest) }
@@ -194,9 +193,9 @@ impl Session {
     /// Takes the constraint with this id out of the network, and the entries that it gave and those that descend from them
     /// out of the kept list. Refuses past the limit of edits and where no constraint has the id, and then changes nothing.
     pub fn remove(&mut self, id: u32) -> Result<(), EditError>
-        ensures limit { IsErrOf result EditError.EditLimit ↔ (self.old.edits ≡ 1000000) }
+        ensures limit { IsErrOf result EditError.EditLimit ↔ (self.old.edits ≡ most_edits) }
         ensures none { (other : ℕ) → (IsErrOf result (EditError.NoSuch other)
-            ↔ ((self.old.edits < 1000000) × All (λ c. c.id ≢ id) self.old.net.constraints × (other ≡ id))) }
+            ↔ ((self.old.edits < most_edits) × All (λ c. c.id ≢ id) self.old.net.constraints × (other ≡ id))) }
         ensures refusal { refusal_of result ≡ remove_refusal (the_session self.old) id }
         ensures removed { IsOk result → self.new
             ≡ record self.old {
@@ -230,11 +229,11 @@ impl Session {
     /// descend from them out of the kept list. Refuses past the limit of edits, where no constraint has the id, and where the
     /// value is out of range, and then changes nothing.
     pub fn change(&mut self, id: u32, most: i32) -> Result<(), EditError>
-        ensures limit { IsErrOf result EditError.EditLimit ↔ (self.old.edits ≡ 1000000) }
+        ensures limit { IsErrOf result EditError.EditLimit ↔ (self.old.edits ≡ most_edits) }
         ensures none { (other : ℕ) → (IsErrOf result (EditError.NoSuch other)
-            ↔ ((self.old.edits < 1000000) × All (λ c. c.id ≢ id) self.old.net.constraints × (other ≡ id))) }
+            ↔ ((self.old.edits < most_edits) × All (λ c. c.id ≢ id) self.old.net.constraints × (other ≡ id))) }
         ensures value { (v : ℤ) → (IsErrOf result (EditError.ValueRange v)
-            ↔ ((self.old.edits < 1000000) × (All (λ c. c.id ≢ id) self.old.net.constraints → ⊥) × (IsValue most → ⊥) × (v ≡ most))) }
+            ↔ ((self.old.edits < most_edits) × (All (λ c. c.id ≢ id) self.old.net.constraints → ⊥) × (IsValue most → ⊥) × (v ≡ most))) }
         ensures refusal { refusal_of result ≡ change_refusal (the_session self.old) id most }
         ensures changed { IsOk result → self.new
             ≡ record self.old {
@@ -359,10 +358,10 @@ impl Session {
     }
 
     fn check_limit(&self) -> Result<(), EditError>
-        ensures limit { IsErrOf result EditError.EditLimit ↔ (self.now.edits ≡ 1000000) }
-        ensures below { IsOk result ↔ (self.now.edits < 1000000) }
+        ensures limit { IsErrOf result EditError.EditLimit ↔ (self.now.edits ≡ most_edits) }
+        ensures below { IsOk result ↔ (self.now.edits < most_edits) }
     {
-        if self.edits >= MOST_EDITS {
+        if self.edits >= MAX_EDITS {
             return Err(EditError::EditLimit);
         }
         Ok(())

@@ -10,6 +10,7 @@ use Rattle.std.proofs.lemmas.List.FromFn.{get_or-range_with_len, length-range_wi
 use Rattle.std.proofs.lemmas.List.Kept.{IsStrictlyIncreasing-filter}
 use Rattle.cstn_label.specs.declared.nodes.NodeId.{NodeId}
 use Rattle.cstn_label.specs.Bounds.{Bound}
+use Rattle.cstn_net.specs.Limits.{most_time_points}
 use Rattle.cstn_net.specs.Networks.{Network, count}
 use Rattle.cstn_exec.specs.Runs.{Run, executed_at, AreAskedAt, is_free, is_free_by, called}
 use Rattle.cstn_exec.specs.Moves.{executed}
@@ -153,7 +154,7 @@ executed_more t xs i d ms inside =
 -- ---- which time-points are called
 
 -- the called time-points are those that are free by the moments that the bounds ask for
-pub called_by : (net : Network) (bounds : List Bound) (run : Run) (t : ℕ) (after : List ℕ) → count net ≤ 1024 → length run.moments ≡ count net →
+pub called_by : (net : Network) (bounds : List Bound) (run : Run) (t : ℕ) (after : List ℕ) → count net ≤ most_time_points → length run.moments ≡ count net →
     AreAskedAt net bounds run t after →
     filter (is_free_by run.moments after t) (range_with_len 0 (length run.moments)) ≡ called net bounds run t
 called_by net bounds run t after few size same =

@@ -4,6 +4,7 @@ use Rattle.std.specs.List.{All}
 use Rattle.cstn_label.specs.declared.nodes.NodeId.{NodeId}
 use Rattle.cstn_label.specs.Bounds.{Bound}
 use Rattle.cstn_label.specs.Letters.{letter_of}
+use Rattle.cstn_net.specs.Limits.{most_time_points}
 use Rattle.cstn_net.specs.Networks.{Network, count}
 use Rattle.cstn_net.specs.Read.{NetworkParts, the_network}
 use Rattle.cstn_lines.specs.LiveLines.{Live, moment_at, seen, due_now, live_read, printed_truth}
@@ -84,7 +85,7 @@ turn_with f wrong = wrong
 -- each time-point has a printed name, which is at most 192 bytes long
 pub record AreShort (net : NetworkParts) (names : List (List ℕ)) : Type 0 where
   pub all : length names ≡ count (the_network net)
-  pub few : count (the_network net) ≤ 1024
+  pub few : count (the_network net) ≤ most_time_points
   pub each : All (λ name. length name ≤ 192) names
 
 -- the numbers of these time-points

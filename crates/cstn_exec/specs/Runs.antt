@@ -5,6 +5,7 @@ use Rattle.std.specs.Option.{option_and_then, option_map}
 use Rattle.cstn_label.specs.declared.marks.Mark.{Mark}
 use Rattle.cstn_label.specs.Labels.{Label}
 use Rattle.cstn_label.specs.Bounds.{Bound}
+use Rattle.cstn_net.specs.Limits.{most_time_points}
 use Rattle.cstn_net.specs.Networks.{Network, count, is_prop}
 use Rattle.cstn_plan.specs.Asked.{fits, greatest}
 
@@ -84,7 +85,7 @@ earliest net bounds run u x = greatest (λ b. (b.node == x) && is_possible (know
 
 -- the moments are those that the bounds ask for by what is known at t, for each of the 1,024 time-points that there may be
 abbrev pub AreAskedAt : Network → List Bound → Run → ℕ → List ℕ → Type 0
-AreAskedAt net bounds run t moments = (x : ℕ) → x < 1024 → slice_index moments x ≡ earliest net bounds run (t + 1) x
+AreAskedAt net bounds run t moments = (x : ℕ) → x < most_time_points → slice_index moments x ≡ earliest net bounds run (t + 1) x
 
 -- given moments are those that the bounds ask for by what is known at t; without moments a proposition is awaited at t
 abbrev pub AreAskedUnlessAwaited : Network → List Bound → Run → ℕ → Option (List ℕ) → Type 0

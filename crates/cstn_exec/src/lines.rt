@@ -1,6 +1,7 @@
 // Lines of a run.
 ghost use Rattle.std.specs.Prelude.{◌≡◌, ◌≤◌, ◌<◌, ◌+◌, ◌*◌, ◌++◌, ◌∷◌, map, string_bytes, length, IfOk};
 ghost use Rattle.std.specs.List.{All};
+ghost use Rattle.cstn_net.specs.Limits.{most_time_points};
 ghost use Rattle.cstn_exec.specs.Read.{the_refusal};
 ghost use Rattle.cstn_text.specs.PrintedNames.{printed_name};
 ghost use Rattle.cstn_reply.specs.Room.{HasRoom};
@@ -66,7 +67,7 @@ fn put_name(text: &mut AnswerText, name: &str)
 
 /// The printed names of all time-points, each of at most 192 bytes. Fails for want of memory alone.
 pub fn print_names(alloc: Global, names: &Names) -> Result<Vec<String>, AllocError>
-    requires few { length names.now ≤ 1024 }
+    requires few { length names.now ≤ most_time_points }
     ensures printed { IfOk result (λ printed. map string_bytes printed.items ≡ map printed_name names.now) }
     ensures short { IfOk result (λ printed. All (λ name. length name ≤ 192) (map string_bytes printed.items)) }
 {

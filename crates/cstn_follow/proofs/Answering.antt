@@ -7,6 +7,7 @@ use Rattle.std.proofs.lemmas.List.{append_assoc, length-map}
 use Rattle.std.proofs.lemmas.Result.{IfOk-weaker}
 use Rattle.cstn_label.specs.Bounds.{Bound}
 use Rattle.cstn_label.specs.Labels.{Label}
+use Rattle.cstn_net.specs.Limits.{most_deadline}
 use Rattle.cstn_net.specs.Networks.{count}
 use Rattle.cstn_log.specs.Cuts.{part}
 use Rattle.cstn_lift.specs.Lowered.{lowered}
@@ -208,7 +209,7 @@ module _ (s : Following) where
   line_keeps some long (Some (now_at t)) = fact_keeps (now_refusal s.history t) (at_now s.history t)
   line_keeps some long (Some (awaited_at t p)) = outcome_keeps (await_refusal s.network s.history t p) (with_expected s.history t p)
   line_keeps some long (Some (edits edit)) = plan_keeps edit
-  line_keeps some long (Some (ends_by deadline)) = deadline_by deadline (nat_lt 1000000 deadline)
+  line_keeps some long (Some (ends_by deadline)) = deadline_by deadline (nat_lt most_deadline deadline)
   line_keeps some long (Some asks_next) = next_keeps (verdict_now s)
   line_keeps some long (Some (asks_by name)) = by_named name (number_of s.names name)
   line_keeps some long (Some asks_blame) = blame_keeps (verdict_now s)

@@ -2,6 +2,7 @@
 use Rattle.std.proofs.Common.{ℕ, ◌≡◌, ◌<◌, ◌≤◌, inl, inr, Bool, true, false, List, Some, None, length, refl, sym, subst, ap, ◌∙◌, arith}
 use Rattle.std.specs.Prelude.{◌⊎◌, nat_le, ◌&&◌, if◌then◌else◌}
 use Rattle.cstn_label.specs.Labels.{Label, IsPlain}
+use Rattle.cstn_net.specs.Limits.{most_constraints}
 use Rattle.cstn_net.specs.Networks.{Constraint, IsWellFormed}
 use Rattle.cstn_lift.specs.Labelled.{Labelled, label_of}
 use Rattle.cstn_lift.specs.Lowered.{lowered}
@@ -26,14 +27,14 @@ edited_labelled m deadline cs good wf = record {
   completed_plain = λ x here. subst IsPlain (sym (completed_new m deadline cs (label_of m x))) (good.completed_plain x here);
 }
 
-few_true : (n : ℕ) → n ≤ 16384 → nat_le n 16384 ≡ true
+few_true : (n : ℕ) → n ≤ most_constraints → nat_le n most_constraints ≡ true
 few_true n few = grind arith
 
-many_false : (n : ℕ) → 16384 < n → nat_le n 16384 ≡ false
+many_false : (n : ℕ) → most_constraints < n → nat_le n most_constraints ≡ false
 many_false n many = grind arith
 
 -- there is a verdict where there are few enough constraints
-pub left_fits : (m : Labelled) (h : History) (fresh cap : ℕ) → length (lowered m).constraints ≤ 16384 → HasRoom (rest m h fresh)
+pub left_fits : (m : Labelled) (h : History) (fresh cap : ℕ) → length (lowered m).constraints ≤ most_constraints → HasRoom (rest m h fresh)
     → verdict_left m h fresh cap ≡ Some (verdict cap (lowered (rest m h fresh)))
 left_fits m h fresh cap few room =
     all_fit (has_few (lowered m)) (has_few (rest m h fresh).base) (has_few (lowered (rest m h fresh)))
@@ -49,7 +50,7 @@ left_fits m h fresh cap few room =
 
 -- and there is none where there are too many
 pub left_many : (m : Labelled) (h : History) (fresh cap : ℕ)
-    → (16384 < length (lowered m).constraints) ⊎ ((16384 < length (rest m h fresh).base.constraints) ⊎ (16384 < length (lowered (rest m h fresh)).constraints))
+    → (most_constraints < length (lowered m).constraints) ⊎ ((most_constraints < length (rest m h fresh).base.constraints) ⊎ (most_constraints < length (lowered (rest m h fresh)).constraints))
     → verdict_left m h fresh cap ≡ None
 left_many m h fresh cap (inl many) =
     ap (λ b. if b && (has_few (rest m h fresh).base && has_few (lowered (rest m h fresh))) then Some (verdict cap (lowered (rest m h fresh))) else None)

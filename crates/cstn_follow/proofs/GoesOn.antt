@@ -2,6 +2,7 @@
 use Rattle.std.proofs.Common.{ℕ, ◌≡◌, ◌<◌, ◌≤◌, Bool, true, false, Some, None, length, refl, subst, arith}
 use Rattle.std.specs.Prelude.{nat_le, ◌&&◌, if◌then◌else◌}
 use Rattle.std.specs.List.{All}
+use Rattle.cstn_net.specs.Limits.{most_constraints}
 use Rattle.cstn_lift.specs.Labelled.{Labelled}
 use Rattle.cstn_lift.specs.Lowered.{lowered}
 use Rattle.cstn_lift.specs.WellFormed.{IsLabelled}
@@ -20,7 +21,7 @@ use Rattle.cstn_history.proofs.Decides.{can_both}
 use Rattle.cstn_history.proofs.WellFormed.{rest_labelled}
 use Rattle.cstn_follow.specs.Following.{has_few, verdict_left}
 
-few_is : (n : ℕ) → nat_le n 16384 ≡ true → n ≤ 16384
+few_is : (n : ℕ) → nat_le n most_constraints ≡ true → n ≤ most_constraints
 few_is n is = grind arith
 
 module _ (m : Labelled) (h : History) (fresh cap : ℕ) (v : Verdict) (is : verdict_left m h fresh cap ≡ Some v) where

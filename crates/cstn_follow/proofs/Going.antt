@@ -5,6 +5,7 @@ use Rattle.std.proofs.lemmas.Bool.{and_parts}
 use Rattle.cstn_label.specs.declared.nodes.NodeId.{NodeId}
 use Rattle.cstn_label.specs.declared.props.Prop.{Prop}
 use Rattle.cstn_label.specs.Labels.{Scenario}
+use Rattle.cstn_net.specs.Limits.{most_deadline}
 use Rattle.cstn_net.specs.Networks.{IsWellFormed, count, limit}
 use Rattle.cstn_net.specs.Strategies.{Table, IsConsistent}
 use Rattle.cstn_lift.specs.Labelled.{Labelled}
@@ -107,7 +108,7 @@ module _ (m : Labelled) (h : History) (good : IsLabelled m) (timely : IsTimelyHi
   not_le : (a b : ℕ) → b < a → nat_le a b ≡ false
   not_le a b more = grind arith
 
-  named_upto : (t x : ℕ) → IsNamed m h t x → t ≤ 1000000
+  named_upto : (t x : ℕ) → IsNamed m h t x → t ≤ most_deadline
   named_upto t x named =
       let l = named.least (as_told h (λ p. false)) (told_agrees h (λ p. false)) in
       let upto = l.reached.1.within (as_told h (λ p. false)) x (told_agrees h (λ p. false)) named.here named.coming l.executed in
@@ -115,7 +116,7 @@ module _ (m : Labelled) (h : History) (good : IsLabelled m) (timely : IsTimelyHi
       let last = limit_upto x in
       omega arith
     where
-      limit_upto : (y : ℕ) → limit m.base y ≤ 1000000
+      limit_upto : (y : ℕ) → limit m.base y ≤ most_deadline
       limit_upto zero = omega arith
       limit_upto (suc y) = good.base.in_time
 
@@ -124,7 +125,7 @@ module _ (m : Labelled) (h : History) (good : IsLabelled m) (timely : IsTimelyHi
       let upto = named_upto t x.0 named in
       let ready = ready_from m h good x.0 named.coming (λ s agrees. (named.least s agrees).executed) in
       let settled = (and_parts (not (is_done h x.0)) (settles h (completed_label m x.0)) ready).1 in
-      rw (not_lt 1000000 t upto, not_le (count m.base) x.0 named.here, named.coming, settled) refl
+      rw (not_lt most_deadline t upto, not_le (count m.base) x.0 named.here, named.coming, settled) refl
 
   -- ---- one step
 

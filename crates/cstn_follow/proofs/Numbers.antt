@@ -5,6 +5,7 @@ use Rattle.std.specs.List.{range_with_len}
 use Rattle.std.proofs.lemmas.List.{get_or-map, length-map}
 use Rattle.std.proofs.lemmas.List.FromFn.{length-range_with_len, get_or-range_with_len}
 use Rattle.std.proofs.lemmas.Bool.{false≢true, and_parts, and_from, ltb-true, lt-ltb}
+use Rattle.cstn_net.specs.Limits.{most_constraints}
 use Rattle.cstn_net.specs.Networks.{count}
 use Rattle.cstn_lift.specs.Labelled.{Labelled}
 use Rattle.cstn_lift.specs.Lowered.{lowered}
@@ -24,12 +25,12 @@ module _ (m : Labelled) (h : History) (numbers : List ℕ) (are : AreNumbers m h
       ∙ ap (number_of m h) (get_or-range_with_len 0 (count m.base) x 0 here ∙ (let same : 0 + x ≡ x = omega arith in same))
 
 -- a labelled network has room for one constraint more
-pub room_said : (n : Labelled) (b : Bool) → b ≡ (nat_lt (length n.base.constraints) 16384 && nat_lt (length (lowered n).constraints) 16384) → b ≡ true →
-    (length n.base.constraints < 16384) × (length (lowered n).constraints < 16384)
+pub room_said : (n : Labelled) (b : Bool) → b ≡ (nat_lt (length n.base.constraints) most_constraints && nat_lt (length (lowered n).constraints) most_constraints) → b ≡ true →
+    (length n.base.constraints < most_constraints) × (length (lowered n).constraints < most_constraints)
 room_said n b is t = let both = and_parts _ _ (sym is ∙ t) in (ltb-true _ _ both.0, ltb-true _ _ both.1)
 
-pub no_room_said : (n : Labelled) (b : Bool) → b ≡ (nat_lt (length n.base.constraints) 16384 && nat_lt (length (lowered n).constraints) 16384) → b ≡ false →
-    length n.base.constraints < 16384 → length (lowered n).constraints < 16384 → ⊥
+pub no_room_said : (n : Labelled) (b : Bool) → b ≡ (nat_lt (length n.base.constraints) most_constraints && nat_lt (length (lowered n).constraints) most_constraints) → b ≡ false →
+    length n.base.constraints < most_constraints → length (lowered n).constraints < most_constraints → ⊥
 no_room_said n b is f base low = false≢true (sym f ∙ is ∙ and_from _ _ (lt-ltb _ _ base) (lt-ltb _ _ low))
 
 -- the search from now up to the deadline

@@ -8,6 +8,7 @@ use Rattle.std.proofs.lemmas.List.Elements.{All-filter, All-map, All-push, All-w
 use Rattle.cstn_label.specs.declared.labels.Label.{Label as Words}
 use Rattle.cstn_label.specs.Labels.{Label}
 use Rattle.cstn_label.specs.Read.{marks}
+use Rattle.cstn_net.specs.Limits.{most_constraints}
 use Rattle.cstn_net.specs.declared.constraints.Constraint.{Constraint}
 use Rattle.cstn_net.specs.declared.points.TimePoint.{TimePoint}
 use Rattle.cstn_net.specs.Networks.{Constraint as TheConstraint}
@@ -46,10 +47,10 @@ relabelled_is m net labels points same =
     }
 
 -- where a labelled network in order can't be lifted, there are too many constraints
-pub lift_many : ((m : Labelled) (e : LiftError) → IsLabelled m → length (lowered m).constraints ≤ 16384 → HasLiftFault m e → ⊥)
-    → (m : Labelled) (e : LiftError) → IsLabelled m → (lift_number e ≡ 0 → ⊥) → IsLiftRefusal m e → 16384 < length (lowered m).constraints
+pub lift_many : ((m : Labelled) (e : LiftError) → IsLabelled m → length (lowered m).constraints ≤ most_constraints → HasLiftFault m e → ⊥)
+    → (m : Labelled) (e : LiftError) → IsLabelled m → (lift_number e ≡ 0 → ⊥) → IsLiftRefusal m e → most_constraints < length (lowered m).constraints
 lift_many never m e good other (inl memory) = absurd (other memory)
-lift_many never m e good other (inr lowest) = elim (cases_lt 16384 (length (lowered m).constraints)) [
+lift_many never m e good other (inr lowest) = elim (cases_lt most_constraints (length (lowered m).constraints)) [
   | inl many ↦ many
   | inr few ↦ absurd (never m e good few lowest.has)
 ]

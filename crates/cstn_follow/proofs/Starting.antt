@@ -3,6 +3,7 @@ use Rattle.std.proofs.Common.{ℕ, zero, suc, ◌≡◌, ◌<◌, ◌≤◌, Lis
 use Rattle.std.specs.List.{All, AllPairs}
 use Rattle.std.proofs.lemmas.List.{length-map, get_or-map}
 use Rattle.std.proofs.lemmas.List.Elements.{All-weaker, All-cons}
+use Rattle.cstn_net.specs.Limits.{most_constraints}
 use Rattle.cstn_net.specs.declared.constraints.Constraint.{Constraint}
 use Rattle.cstn_net.specs.Networks.{Constraint as TheConstraint, IsWellFormed}
 use Rattle.cstn_net.specs.Read.{NetworkParts, the_network, the_constraint}
@@ -47,7 +48,7 @@ last_above net d k good last =
     sym at ∙ above_last (map the_constraint net.constraints) (the_constraint d) k (omega arith) good.ascending
 
 -- at the start there is a verdict
-pub starts : (m : Labelled) (fresh cap : ℕ) → IsLabelled m → length (lowered m).constraints ≤ 16384 → verdict_left m nothing_yet fresh cap ≡ None → ⊥
+pub starts : (m : Labelled) (fresh cap : ℕ) → IsLabelled m → length (lowered m).constraints ≤ most_constraints → verdict_left m nothing_yet fresh cap ≡ None → ⊥
 starts m fresh cap good few none =
     let room : HasRoom m = record { base = good.base.few_constraints; lowered = few } in
     let is = left_fits m nothing_yet fresh cap few (subst HasRoom (sym (rest_whole m fresh good)) room) in

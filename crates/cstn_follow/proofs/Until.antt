@@ -11,6 +11,7 @@ use Rattle.std.proofs.lemmas.List.Quantifiers.{all_pairs_push}
 use Rattle.std.proofs.lemmas.List.Elements.{All-weaker, All-append, All-cons, All-head, All-tail, filter_map-append}
 use Rattle.cstn_label.specs.Labels.{Label, Scenario, MarkFits, IsPlain, empty, joined}
 use Rattle.cstn_label.proofs.LabelLemmas.{made_true, made_holds, joined_empty}
+use Rattle.cstn_net.specs.Limits.{most_constraints, most_deadline}
 use Rattle.cstn_net.specs.Networks.{Network, Constraint, IsConstraint, IsWellFormed, IsValue, count, limit}
 use Rattle.cstn_net.specs.Read.{the_constraint}
 use Rattle.cstn_net.specs.declared.constraints.Constraint.{Constraint as ReadConstraint}
@@ -114,21 +115,21 @@ module _ (m : Labelled) (h : History) (fresh x : ℕ) (good : IsLabelled m) (tim
       (All-weaker (λ c. c.id < n) (λ c. (e : Constraint) → constraint_left m h c ≡ Some e → e.id < n)
       (λ c here e is. subst (λ i. i < n) (sym (id_by c e _ is)) here) cs all)
 
-  pub ids_below : All (λ c. c.id < fresh + 16384) Rest.base.constraints
+  pub ids_below : All (λ c. c.id < fresh + most_constraints) Rest.base.constraints
   ids_below =
       let long = length-append (constraints_left m h) (numbered fresh (added m h)) in
       let same = numbered_length fresh (added m h) in
       let few = room.base in
-      All-append (λ c. c.id < fresh + 16384) (constraints_left m h) (numbered fresh (added m h))
-      (kept_below (fresh + 16384) m.base.constraints (All-weaker (λ c. c.id < fresh) (λ c. c.id < fresh + 16384) (λ c here. omega arith) m.base.constraints above))
-      (All-weaker (λ c. c.id < fresh + length (added m h)) (λ c. c.id < fresh + 16384) (λ c here. omega arith) (numbered fresh (added m h))
+      All-append (λ c. c.id < fresh + most_constraints) (constraints_left m h) (numbered fresh (added m h))
+      (kept_below (fresh + most_constraints) m.base.constraints (All-weaker (λ c. c.id < fresh) (λ c. c.id < fresh + most_constraints) (λ c here. omega arith) m.base.constraints above))
+      (All-weaker (λ c. c.id < fresh + length (added m h)) (λ c. c.id < fresh + most_constraints) (λ c here. omega arith) (numbered fresh (added m h))
       (numbered_below fresh (added m h)))
 
   module _ (here : x < count m.base) (none : h.done x ≡ None) (left : is_left m h x ≡ true) where
     k_inside : number_of m h x < count Rest.base
     k_inside = new_inside m h fresh good known x here left
 
-    until_base : (t : ℕ) → t ≤ 1000000 → IsWellFormed (rest_until m h fresh x t).base
+    until_base : (t : ℕ) → t ≤ most_deadline → IsWellFormed (rest_until m h fresh x t).base
     until_base t upto =
         let base = rest_good.base in
         let d : Constraint = waiting_one fresh (number_of m h x) t in
@@ -158,10 +159,10 @@ module _ (m : Labelled) (h : History) (fresh x : ℕ) (good : IsLabelled m) (tim
           in_time = base.in_time;
         }
 
-    until_labelled : (t : ℕ) → t ≤ 1000000 → IsLabelled (rest_until m h fresh x t)
+    until_labelled : (t : ℕ) → t ≤ most_deadline → IsLabelled (rest_until m h fresh x t)
     until_labelled t upto = waiting_labelled Rest rest_good fresh (number_of m h x) t (until_base t upto)
 
-    until_well_formed : (t : ℕ) → t ≤ 1000000 → IsWellFormed (lowered (rest_until m h fresh x t))
+    until_well_formed : (t : ℕ) → t ≤ most_deadline → IsWellFormed (lowered (rest_until m h fresh x t))
     until_well_formed t upto = lowered_well_formed (rest_until m h fresh x t) (until_labelled t upto)
         (let long = waiting_long Rest rest_good fresh (number_of m h x) t k_inside in let few = room.lowered in omega arith)
 
@@ -178,7 +179,7 @@ module _ (m : Labelled) (h : History) (fresh x : ℕ) (good : IsLabelled m) (tim
         new : Constraint
         new = waiting_one fresh (number_of m h x) t
 
-    wait_decided : (t : ℕ) → t ≤ 1000000 → (is_consistent (lowered (rest_until m h fresh x t)) ≡ true) ↔ CanWait m h x t
+    wait_decided : (t : ℕ) → t ≤ most_deadline → (is_consistent (lowered (rest_until m h fresh x t)) ≡ true) ↔ CanWait m h x t
     wait_decided t upto =
         let a = decided (lowered (rest_until m h fresh x t)) (until_well_formed t upto) in
         let b = (equivalent (rest_until m h fresh x t) (until_labelled t upto)).consistent in
@@ -196,7 +197,7 @@ module _ (m : Labelled) (h : History) (fresh x : ℕ) (good : IsLabelled m) (tim
       record IsSpan (s : Span) : Type 0 where
         low : CanWait m h x s.low
         high : (u : ℕ) → CanWait m h x u → u ≤ s.high
-        upto : s.high ≤ 1000000
+        upto : s.high ≤ most_deadline
 
       abbrev IsLast : ℕ → Type 0
       IsLast t = CanWait m h x t × ((u : ℕ) → CanWait m h x u → u ≤ t)

@@ -1,6 +1,7 @@
 -- Which constraints are to blame where a history can't go on.
 use Rattle.std.specs.Prelude.{ℕ, ◌≡◌, ◌<◌, ◌≤◌, Bool, true, false, not, ◌&&◌, ◌==◌, List, [], ◌∷◌, map, Option, None, Some, option_map}
 use Rattle.std.specs.List.{All, filter, list_any}
+use Rattle.cstn_net.specs.Limits.{most_load}
 use Rattle.cstn_net.specs.Networks.{Network}
 use Rattle.cstn_check.specs.Givers.{with_some, without}
 use Rattle.cstn_lift.specs.Labelled.{Labelled}
@@ -35,7 +36,7 @@ alone m test = with_base m (with_some m.base test)
 -- is left has no more constraints than it may
 pub record TakesTries (m : Labelled) (h : HistoryParts) (fresh cap : ℕ) : Type 0 where
   pub some : 1 ≤ cap
-  pub most : cap ≤ 4194304
+  pub most : cap ≤ most_load
   pub kept : IsKeptFor m h
   pub above : All (λ c. c.id < fresh) m.base.constraints
   pub low : fresh ≤ 4294000000

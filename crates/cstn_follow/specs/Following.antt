@@ -1,6 +1,7 @@
 -- Following what happens: a labelled network is told facts and edits, and asked what is next.
 use Rattle.std.specs.Prelude.{ℕ, zero, suc, Bool, false, ◌&&◌, ◌||◌, max, nat_le, List, [], ◌∷◌, ◌++◌, length, map, slice_index_or, Option, None, Some, if◌then◌else◌, codes, decimal}
 use Rattle.std.specs.Option.{is_some}
+use Rattle.cstn_net.specs.Limits.{most_constraints}
 use Rattle.cstn_net.specs.Networks.{Network, Constraint, count}
 use Rattle.cstn_lift.specs.Labelled.{Labelled}
 use Rattle.cstn_lift.specs.Completion.{completed_label}
@@ -58,7 +59,7 @@ verdict_now s = verdict s.cap (lowered (left_now s))
 
 -- F8 doesn't apply: a labelled network, lowered, and what is left of it, also lowered, have at most 16,384 constraints each
 abbrev pub has_few : Network → Bool
-has_few net = nat_le (length net.constraints) 16384
+has_few net = nat_le (length net.constraints) most_constraints
 
 abbrev pub fits : Labelled → History → ℕ → Bool
 fits m h fresh = has_few (lowered m) && (has_few (rest m h fresh).base && has_few (lowered (rest m h fresh)))

@@ -1,5 +1,6 @@
 -- What a session that follows says to a line.
 use Rattle.std.specs.Prelude.{ℕ, suc, min, ◌++◌, Option, None, Some, codes, decimal, if◌then◌else◌, nat_lt}
+use Rattle.cstn_net.specs.Limits.{most_deadline}
 use Rattle.cstn_lines.specs.EditLines.{Edit, added, removed, changed, asked}
 use Rattle.cstn_lines.specs.FollowLines.{Follow, done_at, came_at, now_at, awaited_at, edits, ends_by, asks_next, asks_by, asks_blame, asks_rest}
 use Rattle.cstn_reply.specs.Texts.{line}
@@ -22,7 +23,7 @@ on_other s = says (line (codes "refused line " ++ decimal s.lines)) s
 
 -- what is said to a deadline, which is one of the session up to 1,000,000
 abbrev pub on_ends_by : Following → ℕ → Heard
-on_ends_by s deadline = if nat_lt 1000000 deadline then on_other s else on_deadline s deadline
+on_ends_by s deadline = if nat_lt most_deadline deadline then on_other s else on_deadline s deadline
 
 -- what is said to a line, where it is one of the session
 abbrev pub on_line : Following → Option Follow → Heard

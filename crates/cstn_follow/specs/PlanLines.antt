@@ -1,10 +1,11 @@
 -- What is said to an edit of the network.
-use Rattle.std.specs.Prelude.{ℕ, ℤ, pos, negsuc, int_le, ◌+◌, nat_le, ◌==◌, Bool, not, ◌&&◌, if◌then◌else◌, List, [], ◌∷◌, ◌++◌, length, map, position, Option, None, Some, codes, decimal}
+use Rattle.std.specs.Prelude.{ℕ, ℤ, pos, int_le, ◌+◌, nat_le, ◌==◌, Bool, not, ◌&&◌, if◌then◌else◌, List, [], ◌∷◌, ◌++◌, length, map, position, Option, None, Some, codes, decimal}
 use Rattle.std.specs.List.{filter, list_any, range_with_len}
 use Rattle.std.specs.Option.{option_map, is_none}
 use Rattle.cstn_label.specs.Labels.{Label}
 use Rattle.cstn_label.specs.Letters.{letter_of}
 use Rattle.cstn_label.specs.Marks.{is_marked}
+use Rattle.cstn_net.specs.Limits.{most_constraints, most_value, least_value, most_edits}
 use Rattle.cstn_net.specs.Networks.{Network, Constraint}
 use Rattle.cstn_lift.specs.Lowered.{is_plain, observer_of}
 use Rattle.cstn_text.specs.Names.{number_of}
@@ -16,7 +17,7 @@ use Rattle.cstn_follow.specs.Following.{Following, Heard, says, follows}
 
 -- the value is from -1,000,000,000 to 1,000,000,000 ticks
 abbrev pub is_value : ℤ → Bool
-is_value most = int_le (negsuc 999999999) most && int_le most (pos 1000000000)
+is_value most = int_le least_value most && int_le most (pos most_value)
 
 -- the least proposition that the label names and nothing observes
 unfoldable pub unobserved : Network → Label → Option ℕ
@@ -34,7 +35,7 @@ abbrev pub out_of_range : ℤ → List ℕ
 out_of_range most = codes "refused S3 " ++ printed_value most
 
 abbrev pub at_limit : ℕ → Bool
-at_limit edits = nat_le 1000000 edits
+at_limit edits = nat_le most_edits edits
 
 -- what is said where no constraint can have this label: the first of S4 and S5
 abbrev pub label_refusal : Network → Label → Option (List ℕ)
@@ -45,7 +46,7 @@ label_refusal net a =
 abbrev pub add_refusal : Network → ℕ → ℤ → Label → Option (List ℕ)
 add_refusal net edits most a =
     if at_limit edits then Some (codes "refused S6")
-    else if nat_le 16384 (length net.constraints) then Some (codes "refused S1 16384")
+    else if nat_le most_constraints (length net.constraints) then Some (codes "refused S1 16384")
     else if not (is_value most) then Some (out_of_range most)
     else label_refusal net a
 

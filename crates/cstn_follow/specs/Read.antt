@@ -1,6 +1,7 @@
 -- How the program's session is read as that of the definitions.
 use Rattle.std.specs.Prelude.{ℕ, ◌≡◌, ◌<◌, ◌≤◌, ◌+◌, ◌^◌, List, length, slice_get, Some}
 use Rattle.std.specs.List.{All}
+use Rattle.cstn_net.specs.Limits.{most_load, most_edits}
 use Rattle.cstn_net.specs.Networks.{count}
 use Rattle.cstn_lift.specs.Read.{LabelledParts, the_labelled}
 use Rattle.cstn_lift.specs.WellFormed.{IsLabelled}
@@ -41,8 +42,8 @@ pub record IsFollowing (f : FollowingParts) : Type 0 where
   pub named : length f.names ≡ count (the_labelled f.network).base
   pub kept : IsKeptFor (the_labelled f.network) f.history
   pub some : 1 ≤ f.cap
-  pub most : f.cap ≤ 4194304
-  pub few_edits : f.edits ≤ 1000000
+  pub most : f.cap ≤ most_load
+  pub few_edits : f.edits ≤ most_edits
   pub above : All (λ c. c.id < f.fresh) (the_labelled f.network).base.constraints
   pub low : f.fresh ≤ 2 ^ 31 + f.edits
   pub few_lines : f.lines ≤ 16777217

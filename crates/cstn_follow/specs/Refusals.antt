@@ -2,6 +2,7 @@
 use Rattle.std.specs.Prelude.{ℕ, ℤ, ◌≡◌, ◌<◌, List, [], ◌∷◌, ◌++◌, length, codes}
 use Rattle.cstn_label.specs.Labels.{Label, IsPlain}
 use Rattle.cstn_label.specs.Letters.{letter_of}
+use Rattle.cstn_net.specs.Limits.{most_constraints, most_edits}
 use Rattle.cstn_net.specs.Networks.{Network, Constraint, IsOnObserved, IsValue}
 use Rattle.cstn_net.specs.Read.{NetworkParts, the_network}
 use Rattle.cstn_follow.specs.declared.refusals.Refusal.{Refusal}
@@ -24,8 +25,8 @@ pub record IsGoodLabel (net : Network) (a : Label) : Type 0 where
 
 -- after this many edits a constraint with this value and label can be added
 pub record CanAdd (net : Network) (edits : ℕ) (most : ℤ) (a : Label) : Type 0 where
-  pub below : edits < 1000000
-  pub room : length net.constraints < 16384
+  pub below : edits < most_edits
+  pub room : length net.constraints < most_constraints
   pub value : IsValue most
   pub label : IsGoodLabel net a
 

@@ -1,5 +1,6 @@
 -- What is said to a question that takes several checks.
 use Rattle.std.specs.Prelude.{ℕ, Bool, not, nat_lt, ◌&&◌, List, ◌∷◌, ◌++◌, length, flat_map, Option, None, Some, if◌then◌else◌, codes, decimal}
+use Rattle.cstn_net.specs.Limits.{most_constraints}
 use Rattle.cstn_net.specs.Networks.{Network}
 use Rattle.cstn_text.specs.Names.{number_of}
 use Rattle.cstn_text.specs.PrintedNames.{printed_name}
@@ -18,7 +19,7 @@ use Rattle.cstn_follow.specs.Blame.{blamed}
 
 -- F8: what is left, and its lowered network, have no room for one constraint more
 abbrev pub has_place : Network → Bool
-has_place net = nat_lt (length net.constraints) 16384
+has_place net = nat_lt (length net.constraints) most_constraints
 
 -- why it isn't told until when x can wait: F4, where it was done at the moment given, F5, where it is ruled out, and F8
 abbrev pub by_refusal : Following → ℕ → Option ℕ → Option (List ℕ)

@@ -1,6 +1,7 @@
 -- Until when a time-point can wait, by halving.
 use Rattle.std.specs.Prelude.{ℕ, zero, suc, ◌+◌, ◌-◌, ◌/◌, ◌<◌, Bool, true, false, nat_lt, length, Option, None, Some, pos, ◌-ℤ◌, if◌then◌else◌}
 use Rattle.std.specs.List.{All}
+use Rattle.cstn_net.specs.Limits.{most_constraints}
 use Rattle.cstn_net.specs.Networks.{Constraint, count}
 use Rattle.cstn_lift.specs.Labelled.{Labelled}
 use Rattle.cstn_lift.specs.Lowered.{lowered}
@@ -15,7 +16,7 @@ use Rattle.cstn_follow.specs.Tries.{said}
 -- the time-point with the number k is at t or later; the id is above all ids of what is left, in which what was added has ids from
 -- `fresh` on
 abbrev pub waiting_one : ℕ → ℕ → ℕ → Constraint
-waiting_one fresh k t = record (bare k 0 (pos 0 -ℤ pos t)) { id = fresh + 16384 }
+waiting_one fresh k t = record (bare k 0 (pos 0 -ℤ pos t)) { id = fresh + most_constraints }
 
 -- what is left, in which x is at t or later
 abbrev pub rest_until : Labelled → History → ℕ → ℕ → ℕ → Labelled
@@ -23,16 +24,16 @@ rest_until m h fresh x t = with_constraint (rest m h fresh) (waiting_one fresh (
 
 -- what is left, and its lowered network, has room for one constraint more
 pub record HasRoomToWait (m : Labelled) (h : History) (fresh : ℕ) : Type 0 where
-  pub base : length (rest m h fresh).base.constraints < 16384
-  pub lowered : length (lowered (rest m h fresh)).constraints < 16384
+  pub base : length (rest m h fresh).base.constraints < most_constraints
+  pub lowered : length (lowered (rest m h fresh)).constraints < most_constraints
 
 -- a labelled network that takes the constraint by which the time-point with the number k waits
 pub record TakesWaiting (m : Labelled) (fresh k : ℕ) : Type 0 where
   pub labelled : IsLabelled m
   pub inside : k < count m.base
-  pub below : All (λ c. c.id < fresh + 16384) m.base.constraints
-  pub base : length m.base.constraints < 16384
-  pub lowered : length (lowered m).constraints < 16384
+  pub below : All (λ c. c.id < fresh + most_constraints) m.base.constraints
+  pub base : length m.base.constraints < most_constraints
+  pub lowered : length (lowered m).constraints < most_constraints
 
 -- what is said of a labelled network in which the time-point with the number k is at t or later
 abbrev pub said_until : Labelled → ℕ → ℕ → ℕ → ℕ → Option Bool

@@ -2,6 +2,7 @@
 ghost use Rattle.std.specs.Prelude.{ℕ, ◌≡◌, ◌<◌, ◌≤◌, None, Some, IfOk, IfSome, IsErrOf};
 ghost use Rattle.std.specs.List.{All, AllPairs, Contains};
 ghost use Rattle.std.specs.Option.{option_map};
+ghost use Rattle.cstn_net.specs.Limits.{most_load};
 ghost use Rattle.cstn_net.specs.Read.{the_network};
 ghost use Rattle.cstn_check.specs.Givers.{without};
 ghost use Rattle.cstn_lift.specs.Read.{the_labelled};
@@ -34,7 +35,7 @@ pub fn blame(
     cap: u32,
 ) -> Result<Vec<u32>, BlameError>
     requires some { 1 ≤ cap }
-    requires most { cap ≤ 4194304 }
+    requires most { cap ≤ most_load }
     requires kept { IsKeptFor (the_labelled network.now) history.now }
     requires above { All (λ c. c.id < fresh) (the_labelled network.now).base.constraints }
     requires low { fresh ≤ 4294000000 }

@@ -2,6 +2,7 @@
 ghost use Rattle.std.specs.Prelude.{◌≡◌, ◌≤◌, ◌++◌, [], length, Ok, Err, IfOk, IfErr, OnErr};
 ghost use Rattle.std.specs.List.{cons_option};
 ghost use Rattle.std.specs.Option.{option_map};
+ghost use Rattle.cstn_net.specs.Limits.{most_time_points};
 ghost use Rattle.cstn_lift.specs.Read.{the_labelled};
 ghost use Rattle.cstn_history.specs.Read.{the_history, IsKeptFor};
 ghost use Rattle.cstn_follow.specs.Following.{says};
@@ -15,11 +16,9 @@ use cstn_history::{FactError, History};
 use cstn_label::{NodeId, Prop};
 use cstn_lift::Labelled;
 use cstn_lines::NameText;
+use cstn_net::MAX_DEADLINE;
 use cstn_text::Names;
 use std::alloc::{AllocError, Global};
-
-// The latest moment of a fact, in ticks.
-const MAX_MOMENT: u32 = 1_000_000;
 
 impl Following {
     /// Records that the time-points of these names were done at this moment, in ticks, which may be past; where it is above now, it is
@@ -30,7 +29,7 @@ impl Following {
         ensures says { IfOk result (λ text. on_did (the_following self.old) moment names.now ≡ says text.items (the_following self.new)) }
         ensures same { OnErr result (self.new ≡ self.old) }
     {
-        if moment > MAX_MOMENT {
+        if moment > MAX_DEADLINE {
             return self.refuse(FactError::OutOfRange { moment });
         }
         if let Some(name) = unknown(&self.names, names) {
@@ -120,7 +119,7 @@ fn unknown<'a>(names: &Names, given: &'a [NameText]) -> Option<&'a NameText>
 
 // The time-points that have these names.
 fn nodes_of(alloc: Global, names: &Names, given: &[NameText]) -> Result<Vec<NodeId>, AllocError>
-    requires few { length names.now ≤ 1024 }
+    requires few { length names.now ≤ most_time_points }
     ensures { IfOk result (λ v. v.items ≡ nodes_of names.now given.now) }
 {
     let mut nodes = Vec::new(alloc);
@@ -132,7 +131,7 @@ fn nodes_of(alloc: Global, names: &Names, given: &[NameText]) -> Result<Vec<Node
 
 // The time-point that has the name, if there is one.
 fn node_named(names: &Names, name: &str) -> Option<NodeId>
-    requires few { length names.now ≤ 1024 }
+    requires few { length names.now ≤ most_time_points }
     ensures { result ≡ node_named names.now name.now }
 {
     let number = names.find(name)?;

@@ -2,6 +2,7 @@
 ghost use Rattle.std.specs.Prelude.{ℕ, ◌≡◌, ◌+◌, ◌<◌, ◌≤◌, Bool, None, Some, List, IsTrue, length};
 ghost use Rattle.std.specs.List.{All, AllPairs, Contains};
 ghost use Rattle.cstn_label.specs.declared.nodes.NodeId.{NodeId};
+ghost use Rattle.cstn_net.specs.Limits.{most_constraints};
 ghost use Rattle.cstn_net.specs.Networks.{IsWellFormed, count};
 ghost use Rattle.cstn_net.specs.Strategies.{Table};
 ghost use Rattle.cstn_lift.specs.Labelled.{Labelled};
@@ -42,7 +43,7 @@ pub fn waiting_is_found()
 
     // One constraint more of what is left keeps it a labelled network, and lowered it is one constraint more too.
     ensures ids { (m : Labelled) (h : History) (fresh : ℕ) → IsLabelled m → IsTimelyHistory m h → All (λ c. c.id < fresh) m.base.constraints
-        → HasRoomToWait m h fresh → All (λ c. c.id < fresh + 16384) (rest m h fresh).base.constraints }
+        → HasRoomToWait m h fresh → All (λ c. c.id < fresh + most_constraints) (rest m h fresh).base.constraints }
     ensures numbers { (m : Labelled) (h : History) (fresh x : ℕ) → IsLabelled m → IsHistory m h → x < count m.base → IsTrue (is_left m h x)
         → number_of m h x < count (rest m h fresh).base }
     ensures labelled { (n : Labelled) (fresh k t : ℕ) → IsLabelled n → IsWellFormed (with_constraint n (waiting_one fresh k t)).base

@@ -1,5 +1,6 @@
 // Which constraints a no needs.
 ghost use Rattle.std.specs.Prelude.{ℕ, ◌≡◌, ◌<◌, ◌≤◌, ◌++◌, ◌∷◌, [], true, false, List, length, map, get_or, Some, IfOk, if◌then◌else◌};
+ghost use Rattle.cstn_net.specs.Limits.{most_load};
 ghost use Rattle.cstn_net.specs.Networks.{count};
 ghost use Rattle.cstn_net.specs.Read.{the_network, the_constraint, IsInRange};
 ghost use Rattle.cstn_rules.specs.Derivations.{Entry as TheEntry};
@@ -40,7 +41,7 @@ pub(crate) fn said_of(
     cap: u32,
 ) -> Result<Said, AllocError>
     requires some { 1 ≤ cap }
-    requires most { cap ≤ 4194304 }
+    requires most { cap ≤ most_load }
     ensures said { IfOk result (λ o. answer o ≡ said cap (the_network net)) }
     ensures needed { IfOk result (λ o. IfNo o (Settles cap (the_network net) sources.now)) }
 {
@@ -97,7 +98,7 @@ fn needed_by(
     sources: &[u32],
     cap: u32,
 ) -> Result<Vec<u32>, AllocError>
-    requires most { cap ≤ 4194304 }
+    requires most { cap ≤ most_load }
     requires no { (load : ℕ) × (check.now.verdict ≡ Some (Verdict.No load)) }
     ensures needed { IfOk result (λ v. IsNeeded cap (the_network check.now.net) sources.now v.items) }
 {

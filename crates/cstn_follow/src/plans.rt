@@ -2,6 +2,7 @@
 ghost use Rattle.std.specs.Prelude.{◌≡◌, ◌≢◌, ◌==◌, ◌<◌, ◌≤◌, ◌+◌, ◌^◌, ◌++◌, ◌∷◌, [], not, length, map, None, IfOk, IfSome, IfNone, OnErr, codes, decimal};
 ghost use Rattle.std.specs.List.{All, filter};
 ghost use Rattle.cstn_label.specs.Read.{marks};
+ghost use Rattle.cstn_net.specs.Limits.{most_constraints, most_deadline, most_edits};
 ghost use Rattle.cstn_net.specs.Networks.{count, IsConstraint, IsValue};
 ghost use Rattle.cstn_net.specs.Read.{the_network, the_constraint};
 ghost use Rattle.cstn_lift.specs.Faults.{lift_number};
@@ -120,7 +121,7 @@ impl Following {
 
     /// Sets the deadline, in ticks. Answers with the line of the deadline, or with the line that refuses it as F8; else as `add`.
     pub fn deadline(&mut self, deadline: u32) -> Result<Vec<u8>, AllocError>
-        requires range { deadline ≤ 1000000 }
+        requires range { deadline ≤ most_deadline }
         ensures says { IfOk result (λ text. on_deadline (the_following self.old) deadline ≡ says text.items (the_following self.new)) }
         ensures names { self.new.names ≡ self.old.names }
         ensures same { OnErr result (self.new ≡ self.old) }
@@ -141,7 +142,7 @@ impl Following {
     ) -> Result<Vec<u8>, AllocError>
         requires points { base.points ≡ self.old.network.base.points }
         requires above { All (λ c. c.id < fresh) (the_network base).constraints }
-        requires few { edits ≤ 1000000 }
+        requires few { edits ≤ most_edits }
         requires low { fresh ≤ 2 ^ 31 + edits }
         ensures says { IfOk result (λ said. becomes (the_following self.old) base.deadline (the_network base).constraints edits fresh text.items
             ≡ says said.items (the_following self.new)) }
@@ -166,7 +167,7 @@ impl Following {
 
 // The network with a constraint more, behind the others.
 fn with_constraint(alloc: Global, net: &Network, c: Constraint) -> Result<Network, AllocError>
-    requires few { length net.now.constraints < 16384 }
+    requires few { length net.now.constraints < most_constraints }
     requires above { All (λ d. d.id < c.id) net.now.constraints }
     requires constraint { IsConstraint (the_network net.now) (the_constraint c) }
     requires value { IsValue c.most }
@@ -207,7 +208,7 @@ fn relabelled(
     ensures edited { IfOk result (λ o. IfSome o (λ l. the_labelled l ≡ edited (the_labelled network.now) base.deadline (the_network base).constraints)) }
     ensures labelled { IfOk result (λ o. IfSome o (λ l. IsLabelled (the_labelled l))) }
     ensures many { IfOk result (λ o. IfNone o
-        (16384 < length (lowered (edited (the_labelled network.now) base.deadline (the_network base).constraints)).constraints)) }
+        (most_constraints < length (lowered (edited (the_labelled network.now) base.deadline (the_network base).constraints)).constraints)) }
 {
     network_is_well_formed(&base);
     labelled_networks_have_no_fault();

@@ -1,6 +1,7 @@
 // Why what is left can't be carried out, and what is left.
 ghost use Rattle.std.specs.Prelude.{◌≡◌, ◌<◌, ◌≤◌, ◌++◌, ◌∷◌, [], length, IfOk, if◌then◌else◌, codes};
 ghost use Rattle.std.specs.List.{All};
+ghost use Rattle.cstn_net.specs.Limits.{most_time_points};
 ghost use Rattle.cstn_net.specs.Networks.{count};
 ghost use Rattle.cstn_lift.specs.Read.{the_labelled};
 ghost use Rattle.cstn_history.specs.Read.{the_history};
@@ -83,7 +84,7 @@ impl Following {
 
 // Puts a name at the end where it is kept. It is a name that isn't there, so it fails for want of memory alone.
 fn push_name(names: &mut Names, name: &str, is_kept: bool) -> Result<(), AllocError>
-    requires few { length names.old ≤ 1024 }
+    requires few { length names.old ≤ most_time_points }
     ensures { IfOk result (λ _. names.new ≡ names.old ++ (if is_kept then name.now ∷ [] else [])) }
 {
     if !is_kept {

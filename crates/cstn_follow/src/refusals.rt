@@ -2,6 +2,7 @@
 ghost use Rattle.std.specs.Prelude.{◌≡◌, ◌<◌, IfNone, IfOk};
 ghost use Rattle.std.specs.Option.{option_map};
 ghost use Rattle.cstn_label.specs.Read.{marks};
+ghost use Rattle.cstn_net.specs.Limits.{most_edits};
 ghost use Rattle.cstn_net.specs.Networks.{IsValue};
 ghost use Rattle.cstn_net.specs.Read.{the_network};
 ghost use Rattle.cstn_reply.specs.Texts.{line};
@@ -11,11 +12,8 @@ ghost use Rattle.cstn_follow.specs.Refusals.{said_of, CanAdd, IsGoodLabel};
 use crate::texts::{number_line, prop_line, value_line, word_line};
 use cstn_label::{Label, Prop, labels_are_their_marks};
 use cstn_lift::observers_are_found;
-use cstn_net::{MAX_CONSTRAINTS, Network, is_value, network_is_well_formed};
+use cstn_net::{MAX_CONSTRAINTS, MAX_EDITS, Network, is_value, network_is_well_formed};
 use std::alloc::{AllocError, Global};
-
-// How many edits a session accepts.
-const MAX_EDITS: u32 = 1_000_000;
 
 /// Why an edit is refused.
 #[derive(Clone, Copy)]
@@ -71,7 +69,7 @@ fn label_refusal(net: &Network, label: Label) -> Option<Refusal>
 /// Why the constraint with this id can't be taken out after this many edits.
 pub fn remove_refusal(net: &Network, edits: u32, id: u32) -> Option<Refusal>
     ensures refusal { option_map said_of result ≡ remove_refusal (the_network net.now) edits id }
-    ensures below { IfNone result (edits < 1000000) }
+    ensures below { IfNone result (edits < most_edits) }
 {
     if edits >= MAX_EDITS {
         return Some(Refusal::EditLimit);
@@ -85,7 +83,7 @@ pub fn remove_refusal(net: &Network, edits: u32, id: u32) -> Option<Refusal>
 /// Why the constraint with this id can't get this value after this many edits.
 pub fn change_refusal(net: &Network, edits: u32, id: u32, most: i32) -> Option<Refusal>
     ensures refusal { option_map said_of result ≡ change_refusal (the_network net.now) edits id most }
-    ensures below { IfNone result (edits < 1000000) }
+    ensures below { IfNone result (edits < most_edits) }
     ensures value { IfNone result (IsValue most) }
 {
     if let Some(refusal) = remove_refusal(net, edits, id) {

@@ -2,6 +2,7 @@
 ghost use Rattle.std.specs.Prelude.{◌≡◌, ◌<◌, ◌≤◌, ◌^◌, ◌||◌, [], length, IfOk, IfSome};
 ghost use Rattle.std.specs.List.{All};
 ghost use Rattle.std.specs.Option.{is_some, option_map};
+ghost use Rattle.cstn_net.specs.Limits.{most_load};
 ghost use Rattle.cstn_net.specs.Networks.{count};
 ghost use Rattle.cstn_lift.specs.Read.{the_labelled};
 ghost use Rattle.cstn_net.specs.Read.{the_network};
@@ -87,7 +88,7 @@ impl Following {
         cap: u32,
     ) -> Result<Following, AllocError>
         requires some { 1 ≤ cap }
-        requires most { cap ≤ 4194304 }
+        requires most { cap ≤ most_load }
         requires named { length names ≡ count (the_labelled network).base }
         requires ids { All (λ c. c.id < 2 ^ 31) (the_labelled network).base.constraints }
         ensures start { IfOk result (λ f. the_following f ≡ begun cap names (the_labelled network)) }

@@ -1,6 +1,7 @@
 // What a check says of what would be left.
 ghost use Rattle.std.specs.Prelude.{◌≡◌, ◌≤◌, length, map, IfOk};
 ghost use Rattle.cstn_label.specs.Read.{marks};
+ghost use Rattle.cstn_net.specs.Limits.{most_constraints, most_load};
 ghost use Rattle.cstn_net.specs.Read.{the_network};
 ghost use Rattle.cstn_lift.specs.Lowered.{lowered};
 ghost use Rattle.cstn_lift.specs.Read.{the_labelled};
@@ -16,7 +17,7 @@ use std::alloc::{AllocError, Global};
 /// What a check says of a network, whose log may have `cap` entries; none where the log is full. Fails for want of memory alone.
 pub(crate) fn said(alloc: Global, net: Network, cap: u32) -> Result<Option<bool>, AllocError>
     requires some { 1 ≤ cap }
-    requires most { cap ≤ 4194304 }
+    requires most { cap ≤ most_load }
     ensures said { IfOk result (λ o. o ≡ said cap (the_network net)) }
 {
     growth_decides();
@@ -36,7 +37,7 @@ pub(crate) fn with_base(
     base: Network,
 ) -> Result<Labelled, AllocError>
     requires labelled { IsLabelled (with_base (the_labelled network.now) (the_network base)) }
-    requires few { length (lowered (with_base (the_labelled network.now) (the_network base))).constraints ≤ 16384 }
+    requires few { length (lowered (with_base (the_labelled network.now) (the_network base))).constraints ≤ most_constraints }
     ensures base { IfOk result (λ l. the_labelled l ≡ with_base (the_labelled network.now) (the_network base)) }
 {
     labelled_networks_have_no_fault();

@@ -1,6 +1,7 @@
 // Until when a time-point can wait.
 ghost use Rattle.std.specs.Prelude.{ℕ, ◌≡◌, ◌+◌, ◌++◌, ◌∷◌, [], ◌<◌, ◌≤◌, ◌&&◌, nat_lt, IsTrue, None, Some, length, IfOk, IfSome, IsOk, IsErrOf};
 ghost use Rattle.std.specs.List.{All};
+ghost use Rattle.cstn_net.specs.Limits.{most_constraints, most_deadline, most_load};
 ghost use Rattle.cstn_net.specs.Networks.{IsWellFormed, count};
 ghost use Rattle.cstn_net.specs.Read.{the_network, the_constraint};
 ghost use Rattle.cstn_lift.specs.Lowered.{lowered};
@@ -35,7 +36,7 @@ pub fn by(
     cap: u32,
 ) -> Result<u32, WaitError>
     requires some { 1 ≤ cap }
-    requires most { cap ≤ 4194304 }
+    requires most { cap ≤ most_load }
     requires kept { IsKeptFor (the_labelled network.now) history.now }
     requires above { All (λ c. c.id < fresh) (the_labelled network.now).base.constraints }
     requires room { fresh ≤ 4294000000 }
@@ -91,8 +92,8 @@ fn error_of(error: RestError) -> WaitError
 
 /// Whether a labelled network, and its lowered network, has room for one constraint more.
 pub(crate) fn has_room(network: &Labelled) -> bool
-    ensures { result ≡ (nat_lt (length (the_labelled network.now).base.constraints) 16384
-        && nat_lt (length (lowered (the_labelled network.now)).constraints) 16384) }
+    ensures { result ≡ (nat_lt (length (the_labelled network.now).base.constraints) most_constraints
+        && nat_lt (length (lowered (the_labelled network.now)).constraints) most_constraints) }
 {
     network.base().constraints().len() < MAX_CONSTRAINTS
         && network.lowered().constraints().len() < MAX_CONSTRAINTS
@@ -108,20 +109,20 @@ pub(crate) struct Span {
 impl Span {
     // The moment half-way, rounded up.
     fn middle(self) -> u32
-        requires range { self.high ≤ 1000000 }
+        requires range { self.high ≤ most_deadline }
         requires several { self.low < self.high }
         ensures middle { result ≡ middle self }
-        ensures range { result ≤ 1000000 }
+        ensures range { result ≤ most_deadline }
     {
         (self.low + self.high + 1) / 2
     }
 
     // What is left to be tried once the middle was.
     fn halved(self, said: Option<bool>) -> Option<Span>
-        requires range { self.high ≤ 1000000 }
+        requires range { self.high ≤ most_deadline }
         requires several { self.low < self.high }
         ensures halved { result ≡ halved self said }
-        ensures range { IfSome result (λ s. s.high ≤ 1000000) }
+        ensures range { IfSome result (λ s. s.high ≤ most_deadline) }
     {
         let middle = self.middle();
         let is_yes = said?;
@@ -149,8 +150,8 @@ fn halve(
     cap: u32,
 ) -> Result<Option<u32>, AllocError>
     requires some { 1 ≤ cap }
-    requires most { cap ≤ 4194304 }
-    requires range { span.high ≤ 1000000 }
+    requires most { cap ≤ most_load }
+    requires range { span.high ≤ most_deadline }
     requires low { fresh ≤ 4294000000 }
     requires takes { TakesWaiting (the_labelled remaining.now) fresh number }
     ensures { IfOk result (λ o. o ≡ halving (said_until (the_labelled remaining.now) fresh number cap) 20 span) }
@@ -179,8 +180,8 @@ fn said_until(
     cap: u32,
 ) -> Result<Option<bool>, AllocError>
     requires some { 1 ≤ cap }
-    requires most { cap ≤ 4194304 }
-    requires range { moment ≤ 1000000 }
+    requires most { cap ≤ most_load }
+    requires range { moment ≤ most_deadline }
     requires low { fresh ≤ 4294000000 }
     requires takes { TakesWaiting (the_labelled remaining.now) fresh number }
     ensures { IfOk result (λ o. o ≡ said_until (the_labelled remaining.now) fresh number cap moment) }
@@ -200,11 +201,11 @@ fn base_until(
     number: u16,
     moment: u32,
 ) -> Result<Network, AllocError>
-    requires range { moment ≤ 1000000 }
+    requires range { moment ≤ most_deadline }
     requires low { fresh ≤ 4294000000 }
     requires inside { number < count (the_network net.now) }
-    requires above { All (λ c. c.id < fresh + 16384) (the_network net.now).constraints }
-    requires few { length (the_network net.now).constraints < 16384 }
+    requires above { All (λ c. c.id < fresh + most_constraints) (the_network net.now).constraints }
+    requires few { length (the_network net.now).constraints < most_constraints }
     ensures base { IfOk result (λ n. the_network n
         ≡ record (the_network net.now) { constraints = (the_network net.now).constraints ++ waiting_one fresh number moment ∷ [] }) }
     ensures well_formed { IfOk result (λ n. IsWellFormed (the_network n)) }
@@ -217,7 +218,7 @@ fn base_until(
 
 // The constraint by which a time-point is at this moment or later.
 fn waiting_one(fresh: u32, number: u16, moment: u32) -> Constraint
-    requires range { moment ≤ 1000000 }
+    requires range { moment ≤ most_deadline }
     requires low { fresh ≤ 4294000000 }
     ensures { the_constraint result ≡ waiting_one fresh number moment }
 {

@@ -1,6 +1,7 @@
 -- Documents and what they mean, by computing.
 use Rattle.std.proofs.Common.{◌≡◌, [], ◌∷◌, ◌++◌, refl, Some, None}
 use Rattle.std.specs.Prelude.{codes, Ok, Err, pos, negsuc}
+use Rattle.cstn_net.specs.Limits.{most_reaction}
 use Rattle.cstn_markup.specs.Bytes.{resolved_after, piece_at, number_after, past_first}
 use Rattle.cstn_markup.specs.Tokens.{tokens_after, tail_at}
 use Rattle.cstn_data.specs.LabelTexts.{label_after}
@@ -285,7 +286,7 @@ zero_ticks : document (codes "<graphml><graph><node id=\"Z\"/><node id=\"P\"><da
 unfolding tokens_after tail_at resolved_after piece_at number_after past_first contents passed read_by label_after pairs_after with_pairs chars is_utf8 utf8_valid_len encode_utf8
 zero_ticks = refl
 
-thousand : document (codes "<graphml><graph><node id=\"Z\"><data key=\"Reaction\">1000</data><data key=\"Obs\">p</data></node></graph></graphml>") (Some 5) ≡ Ok (record { deadline = 5; names = (codes "Z" ∷ []); observes = (Some (record { prop = 41; reaction = 1000 }) ∷ []); labels = (empty ∷ []); constraints = [] })
+thousand : document (codes "<graphml><graph><node id=\"Z\"><data key=\"Reaction\">1000</data><data key=\"Obs\">p</data></node></graph></graphml>") (Some 5) ≡ Ok (record { deadline = 5; names = (codes "Z" ∷ []); observes = (Some (record { prop = 41; reaction = most_reaction }) ∷ []); labels = (empty ∷ []); constraints = [] })
 unfolding tokens_after tail_at resolved_after piece_at number_after past_first contents passed read_by label_after pairs_after with_pairs chars is_utf8 utf8_valid_len encode_utf8
 thousand = refl
 

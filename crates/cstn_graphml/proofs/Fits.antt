@@ -6,6 +6,7 @@ use Rattle.std.proofs.lemmas.List.{length-map, get_or-map}
 use Rattle.cstn_label.specs.Labels.{IsPlain}
 use Rattle.cstn_label.specs.Read.{marks}
 use Rattle.cstn_label.specs.declared.props.Prop.{Prop}
+use Rattle.cstn_net.specs.Limits.{most_reaction}
 use Rattle.cstn_net.specs.declared.drafts.Draft.{Draft}
 use Rattle.cstn_net.specs.declared.points.TimePoint.{TimePoint}
 use Rattle.cstn_net.specs.declared.errors.NetError.{NetError}
@@ -70,11 +71,11 @@ first_as P Q xs k there back first = record {
   before = λ j below holds. first.before j below (λ d. back _ (holds d));
 }
 
-timely_by : (o : Option Prop) (ticks : ℕ) → (IsSome o → (0 < ticks) × (ticks ≤ 1000)) → IsWithReaction (observation (option_map (λ p. p.index) o) ticks)
+timely_by : (o : Option Prop) (ticks : ℕ) → (IsSome o → (0 < ticks) × (ticks ≤ most_reaction)) → IsWithReaction (observation (option_map (λ p. p.index) o) ticks)
 timely_by (Some p) ticks h = h refl
 timely_by None ticks h = tt
 
-pub timely_back : (o : Option Prop) (ticks : ℕ) → IsWithReaction (observation (option_map (λ p. p.index) o) ticks) → IsSome o → (0 < ticks) × (ticks ≤ 1000)
+pub timely_back : (o : Option Prop) (ticks : ℕ) → IsWithReaction (observation (option_map (λ p. p.index) o) ticks) → IsSome o → (0 < ticks) × (ticks ≤ most_reaction)
 timely_back (Some p) ticks h = λ some. h
 timely_back None ticks h = λ some. absurd (cc)
 

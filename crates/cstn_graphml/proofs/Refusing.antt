@@ -8,6 +8,7 @@ use Rattle.std.specs.Str.{IsUtf8, is_utf8}
 use Rattle.std.specs.Str.Lossy.{utf8_valid_len}
 use Rattle.std.proofs.lemmas.Str.{IsUtf8-from_is_utf8, is_utf8-from_IsUtf8}
 use Rattle.std.specs.declared.alloc.AllocError.{AllocError}
+use Rattle.cstn_net.specs.Limits.{most_constraints}
 use Rattle.cstn_markup.specs.Tokens.{Token, tokens}
 use Rattle.cstn_net.specs.declared.errors.NetError.{NetError}
 use Rattle.cstn_net.specs.declared.errors.NetError.TheVariants.{TooManyNodes, NoOrigin, TooManyConstraints, DeadlineRange, ValueRange, NotObserved, TwoObservers, NotPlain, ReactionRange, Memory as NoMemory}
@@ -124,14 +125,14 @@ module _ (bytes : List ℕ) (d : LentGraph) (read : Read bytes d) where
   same_names = ap (λ (g : DrawnGraph). g.names) read.kept_is
 
   -- a graph with no more constraints than a network holds is kept whole
-  pub whole_kept : length d.constraints.list.items ≤ 16384 → read.whole ≡ graph_seen d
+  pub whole_kept : length d.constraints.list.items ≤ most_constraints → read.whole ≡ graph_seen d
   whole_kept few =
       let g : DrawnGraph = read.whole in
       let as_many : length (take 16385 g.constraints) ≡ length d.constraints.list.items = ap (λ (g : DrawnGraph). length g.constraints) read.kept_is ∙ length-map d.constraints.list.items drawn_seen in
       sym (ap (λ (cs : List DrawnConstraint). record g { constraints = cs }) (take_all 16385 g.constraints (omega (arith, few, as_many, length-take 16385 g.constraints)))) ∙ read.kept_is
 
   -- where some constraints aren't kept, both are more than a network holds
-  pub more_than_kept : 16384 < length d.constraints.list.items → 16384 < length read.whole.constraints
+  pub more_than_kept : most_constraints < length d.constraints.list.items → most_constraints < length read.whole.constraints
   more_than_kept many =
       let g : DrawnGraph = read.whole in
       let as_many : length (take 16385 g.constraints) ≡ length d.constraints.list.items = ap (λ (g : DrawnGraph). length g.constraints) read.kept_is ∙ length-map d.constraints.list.items drawn_seen in
@@ -140,7 +141,7 @@ module _ (bytes : List ℕ) (d : LentGraph) (read : Read bytes d) where
   -- a network was made of it only if it is kept whole
   pub made_whole : (n : ℕ) (network : NetworkParts) → IsBuilt (builder_of n d) network → IsWellFormed (the_network network) → in_document (content_of (tokens bytes)) ≡ Ok (graph_seen d)
   made_whole n network built good =
-      let few : length (the_network network).constraints ≤ 16384 = good.few_constraints in
+      let few : length (the_network network).constraints ≤ most_constraints = good.few_constraints in
       let same = ap (λ (net : Network). length net.constraints) (made_network n d network built) in
       let count = numbered_length 0 (map drawn_seen d.constraints.list.items) in
       read.told ∙ ap (λ (g : DrawnGraph). Ok g) (whole_kept (omega (arith, few, same, count, length-map d.constraints.list.items drawn_seen)))
@@ -196,7 +197,7 @@ lowest_of b e (inl z) h = let memory = zero_is_memory e z in absurd (h memory.0 
 lowest_of b e (inr l) h = l
 
 -- builders with as many time-points, and with more constraints than a network holds, have the same faults of a number up to 3
-past_alike : (b c : BuilderParts) → length b.points ≡ length c.points → 16384 < length c.drafts → (e : NetError) → net_number e ≤ 3 → HasNetFault b e → HasNetFault c e
+past_alike : (b c : BuilderParts) → length b.points ≡ length c.points → most_constraints < length c.drafts → (e : NetError) → net_number e ≤ 3 → HasNetFault b e → HasNetFault c e
 past_alike b c same many TooManyNodes low has = omega (arith, same, has)
 past_alike b c same many NoOrigin low has = sym same ∙ has
 past_alike b c same many TooManyConstraints low has = many
@@ -208,7 +209,7 @@ past_alike b c same many (NotPlain constraint) low has = absurd (omega (arith, l
 past_alike b c same many (ReactionRange node) low has = absurd (omega (arith, low))
 past_alike b c same many (NoMemory e) low has = has
 
-past_lowest : (b c : BuilderParts) → length b.points ≡ length c.points → 16384 < length b.drafts → 16384 < length c.drafts → (e : NetError) → IsLowestNetFault b e → IsLowestNetFault c e
+past_lowest : (b c : BuilderParts) → length b.points ≡ length c.points → most_constraints < length b.drafts → most_constraints < length c.drafts → (e : NetError) → IsLowestNetFault b e → IsLowestNetFault c e
 past_lowest b c same many more e fault =
     let low : net_number e ≤ 3 = fault.lowest TooManyConstraints many in
     record {
@@ -221,7 +222,7 @@ past_lowest b c same many more e fault =
 
 -- parts whose kept network has a lowest fault have that fault
 kept_unfit : (bytes : List ℕ) (n : ℕ) (d : LentGraph) (read : Read bytes d) (error : NetError) → IsLowestNetFault (builder_of n d) error → IsUnfit (parts_of n read.whole) error
-kept_unfit bytes n d read error fault = elim (cases_lt 16384 (length d.constraints.list.items)) [
+kept_unfit bytes n d read error fault = elim (cases_lt most_constraints (length d.constraints.list.items)) [
   | inl many ↦
       let g : DrawnGraph = read.whole in
       let b : BuilderParts = builder_of n d in

@@ -1,6 +1,7 @@
 //! What holds of every document. The calls do nothing: their contracts are the laws.
 
 ghost use Rattle.std.specs.Prelude.{ℕ, ◌≡◌, ◌<◌, ◌≤◌, List, length, Option, Ok};
+ghost use Rattle.cstn_net.specs.Limits.{most_constraints};
 ghost use Rattle.cstn_net.specs.declared.errors.NetError.{NetError};
 ghost use Rattle.cstn_net.specs.declared.errors.NetError.TheVariants.{TooManyConstraints};
 ghost use Rattle.cstn_net.specs.Drafts.{net_number};
@@ -16,8 +17,8 @@ use cstn_net::{builders_without_a_lowest_fault_make_networks, lowest_net_fault_i
 /// Parts with more constraints than a network holds make no network, and the fault that is told is `TooManyConstraints` or one
 /// with a lower number.
 pub fn documents_past_the_limit_are_refused()
-    ensures no_network { (parts : Parts) → 16384 < length parts.constraints → IsWellFormed (network_of parts) → ⊥ }
-    ensures told { (parts : Parts) (error : NetError) → 16384 < length parts.constraints → IsUnfit parts error
+    ensures no_network { (parts : Parts) → most_constraints < length parts.constraints → IsWellFormed (network_of parts) → ⊥ }
+    ensures told { (parts : Parts) (error : NetError) → most_constraints < length parts.constraints → IsUnfit parts error
         → net_number error ≤ net_number TooManyConstraints }
 {}
 

@@ -8,6 +8,7 @@ use Rattle.std.proofs.lemmas.Int.{ints}
 use Rattle.std.proofs.lemmas.List.Elements.{All-contains}
 use Rattle.cstn_label.specs.Labels.{Scenario, Holds}
 use Rattle.cstn_label.proofs.LabelLemmas.{holds_within}
+use Rattle.cstn_net.specs.Limits.{most_deadline}
 use Rattle.cstn_net.specs.Networks.{Network, Constraint, IsConstraint, Observes, count, limit}
 use Rattle.cstn_net.specs.Strategies.{Table, Meets}
 use Rattle.cstn_net.proofs.Knowledge.{observer_within}
@@ -114,7 +115,7 @@ module _ (m : Labelled) (h : History) (fresh : ℕ) (good : IsLabelled m) (known
 
     -- where a time-point stands that is executed, or done
     end_at : (x : ℕ) → x < count m.base → IsExecuted m s x →
-        (strategy s (end_left m h x) + moment_done h x ≡ from_rest s x) × (strategy s (end_left m h x) ≤ 1000000)
+        (strategy s (end_left m h x) + moment_done h x ≡ from_rest s x) × (strategy s (end_left m h x) ≤ most_deadline)
     end_at x here e = elim (some_or_none (h.done x)) [
       | inl done ↦
           let at : strategy s (end_left m h x) ≡ 0 = ap (strategy s) (end_done m h fresh good known x done.0 done.1) ∙ at_origin s in

@@ -5,6 +5,7 @@ use Rattle.std.specs.List.{All, Contains}
 use Rattle.std.proofs.Math.Seq.{take-append-add}
 use Rattle.std.proofs.lemmas.List.{length-map, length-append, length-take-le, get_or-append-add, get_or-take, get_or-map}
 use Rattle.std.proofs.lemmas.List.Elements.{All-contains, All-from_get_or}
+use Rattle.cstn_net.specs.Limits.{most_constraints}
 use Rattle.cstn_net.specs.declared.constraints.Constraint.{Constraint}
 use Rattle.cstn_net.specs.Networks.{Network, Constraint as TheConstraint, IsConstraint, IsValue, AreConstraintsFor}
 use Rattle.cstn_net.specs.Read.{NetworkParts, the_network, the_constraint, observed}
@@ -57,7 +58,7 @@ module _ (net : NetworkParts) (more : List Constraint) (fit : AreConstraintsFor 
   pub so_many : length now.constraints ≡ place
   so_many = ap length so_far ∙ length-append net.constraints (take i more) ∙ ap (λ n. length net.constraints + n) (length-take-le i more (omega arith))
 
-  pub few_so_far : length now.constraints < 16384
+  pub few_so_far : length now.constraints < most_constraints
   few_so_far = let at = so_many in let long = length-map all the_constraint in let few = fit.few in let in_all = place_inside in omega arith
 
   -- the constraint at an earlier place has a lower id

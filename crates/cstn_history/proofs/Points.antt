@@ -13,6 +13,7 @@ use Rattle.cstn_label.specs.declared.props.Prop.{Prop}
 use Rattle.cstn_label.specs.declared.labels.Label.{Label as Words}
 use Rattle.cstn_label.specs.Labels.{Label}
 use Rattle.cstn_label.specs.Read.{marks}
+use Rattle.cstn_net.specs.Limits.{most_time_points}
 use Rattle.cstn_net.specs.declared.points.TimePoint.{TimePoint}
 use Rattle.cstn_net.specs.declared.constraints.Constraint.{Constraint}
 use Rattle.cstn_net.specs.Networks.{Constraint as TheConstraint, IsWellFormed, Observes, count}
@@ -99,7 +100,7 @@ module _ (m : Labelled) (h : History) (good : IsLabelled m) (known : IsHistory m
   pub old_inside : (k : ℕ) → k < count (bared m h) → old m h k < count m.base
   old_inside k inside = (old_stands m h 0 good known k inside).0
 
-  pub few_left : (k : ℕ) → k < count (bared m h) → k < 1024
+  pub few_left : (k : ℕ) → k < count (bared m h) → k < most_time_points
   few_left k inside = let few = (bared_well_formed m h 0 good known timely).few_points in omega arith
 
   -- the next time-point of the rest, with what it observes and its reaction

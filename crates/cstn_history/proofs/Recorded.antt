@@ -10,6 +10,7 @@ use Rattle.cstn_label.specs.declared.knowledge.Known.{Known}
 use Rattle.cstn_label.specs.Labels.{MarkFits}
 use Rattle.cstn_label.specs.Read.{known_value}
 use Rattle.cstn_label.proofs.MarkLemmas.{absent_or_not}
+use Rattle.cstn_net.specs.Limits.{most_deadline, most_reaction}
 use Rattle.cstn_net.specs.Networks.{Observes, count}
 use Rattle.cstn_lift.specs.Labelled.{Labelled}
 use Rattle.cstn_lift.specs.Completion.{completed_label}
@@ -25,7 +26,7 @@ use Rattle.cstn_history.specs.Facts.{settles, is_beyond, now_refusal, again_refu
 use Rattle.cstn_history.proofs.Settled.{settles_absent}
 use Rattle.cstn_history.proofs.Told.{settles_back}
 
-not_beyond : (t : ℕ) → nat_lt 1000000 t ≡ false → t ≤ 1000000
+not_beyond : (t : ℕ) → nat_lt most_deadline t ≡ false → t ≤ most_deadline
 not_beyond t e = grind arith
 
 not_le : (a b : ℕ) → nat_le a b ≡ false → b < a
@@ -87,7 +88,7 @@ set_is {T} xs x v inside y = elim (cases_eq y x) [
 
 module _ (m : Labelled) (h : History) (known : IsHistory m h) (timely : IsInTime m h) where
   -- time passes
-  now_free : (t : ℕ) → now_refusal h t ≡ None → (h.now ≤ t) × (t ≤ 1000000)
+  now_free : (t : ℕ) → now_refusal h t ≡ None → (h.now ≤ t) × (t ≤ most_deadline)
   now_free t e =
       let a = passed (nat_lt t h.now) _ _ e in
       let b = passed (is_beyond t) _ _ a.1 in
@@ -117,7 +118,7 @@ module _ (m : Labelled) (good : IsLabelled m) (h : History) (known : IsHistory m
 
   -- a time-point is done
   module _ (t : ℕ) (x : NodeId) (e : done_refusal m h t x ≡ None) where
-    in_range : t ≤ 1000000
+    in_range : t ≤ most_deadline
     in_range = not_beyond t (passed (is_beyond t) _ _ e).0
 
     inside : x.0 < count m.base
@@ -177,7 +178,7 @@ module _ (m : Labelled) (good : IsLabelled m) (h : History) (known : IsHistory m
 
   -- an outcome is told
   module _ (t : ℕ) (p : Prop) (v : Bool) (e : told_refusal m h t p ≡ None) where
-    told_in_range : t ≤ 1000000
+    told_in_range : t ≤ most_deadline
     told_in_range = not_beyond t (passed (is_beyond t) _ _ e).0
 
     told_free : (o : Option ℕ) → observed_since m h p.index ≡ o → told_after h t p o ≡ None → (u : ℕ) × IsObservedAt m h p.index u × (h.told p.index ≡ None)
@@ -221,7 +222,7 @@ module _ (m : Labelled) (good : IsLabelled m) (h : History) (known : IsHistory m
       origin = timely.origin;
     }
 
-  pub latest_upto : (o : Option ℕ) → latest_expected o ≤ 1000000
+  pub latest_upto : (o : Option ℕ) → latest_expected o ≤ most_deadline
   latest_upto None = omega arith
   latest_upto (Some zero) = omega arith
   latest_upto (Some (suc x)) = omega arith
@@ -283,7 +284,7 @@ module _ (m : Labelled) (good : IsLabelled m) (h : History) (known : IsHistory m
         | inl new ↦
             let at = new.1 in
             let found = observer_found m.base good.base.network 0 p.index (subst (Observes m.base 0) new.0 o) in
-            let upto : t ≤ 1000 = subst (λ j. t ≤ latest_expected j) found free.upto in
+            let upto : t ≤ most_reaction = subst (λ j. t ≤ latest_expected j) found free.upto in
             omega arith
         | inr old ↦ timely.origin q u old o
       ];
@@ -343,7 +344,7 @@ kept_now m q kept t e = record {
   in_time = now_in_time m (the_history q) kept.history kept.in_time t e;
 }
 
-pub latest_other : (x : ℕ) → (x ≡ 0 → ⊥) → latest_expected (Some x) ≡ 1000000
+pub latest_other : (x : ℕ) → (x ≡ 0 → ⊥) → latest_expected (Some x) ≡ most_deadline
 latest_other zero other = absurd (other refl)
 latest_other (suc x) other = refl
 

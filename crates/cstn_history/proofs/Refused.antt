@@ -1,6 +1,7 @@
 -- Why the rest is refused.
 use Rattle.std.proofs.Common.{◌≡◌, ◌≢◌, inl, inr, ◌≤◌, length}
 use Rattle.std.proofs.lemmas.Bool.{cases_lt, cases_eq}
+use Rattle.cstn_net.specs.Limits.{most_constraints}
 use Rattle.cstn_lift.specs.declared.errors.LiftError.{LiftError}
 use Rattle.cstn_lift.specs.declared.errors.LiftError.TheVariants.{TooManyConstraints as TooMany}
 use Rattle.cstn_lift.specs.Labelled.{Labelled}
@@ -12,12 +13,12 @@ use Rattle.cstn_history.specs.declared.errors.RestError.TheVariants.{TooManyCons
 use Rattle.cstn_history.specs.Handed.{rest_number, IsRestRefusal, HasRoom}
 
 pub lift_refused : (m : Labelled) → IsLabelled m →
-    ((n : Labelled) (e : LiftError) → IsLabelled n → length (lowered n).constraints ≤ 16384 → HasLiftFault n e → ⊥) →
+    ((n : Labelled) (e : LiftError) → IsLabelled n → length (lowered n).constraints ≤ most_constraints → HasLiftFault n e → ⊥) →
     (e : LiftError) (r : RestError) → IsLiftRefusal m e → (lift_number e ≡ 0 → rest_number r ≡ 0) → (lift_number e ≢ 0 → r ≡ TooManyConstraints) →
     IsRestRefusal m r
 lift_refused m good faultless e r refusal memory many = elim (cases_eq (lift_number e) 0) [
   | inl none ↦ inl (memory none)
-  | inr other ↦ elim (cases_lt 16384 (length (lowered m).constraints)) [
+  | inr other ↦ elim (cases_lt most_constraints (length (lowered m).constraints)) [
     | inl long ↦ inr (many other, inr long)
     | inr few ↦ elim refusal [
       | inl none ↦ absurd (other none)
@@ -26,8 +27,8 @@ lift_refused m good faultless e r refusal memory many = elim (cases_eq (lift_num
   ]
 ]
 
-pub lift_has_room : (m : Labelled) → length m.base.constraints ≤ 16384 → ((e : LiftError) → HasLiftFault m e → ⊥) → HasRoom m
-lift_has_room m few faultless = elim (cases_lt 16384 (length (lowered m).constraints)) [
+pub lift_has_room : (m : Labelled) → length m.base.constraints ≤ most_constraints → ((e : LiftError) → HasLiftFault m e → ⊥) → HasRoom m
+lift_has_room m few faultless = elim (cases_lt most_constraints (length (lowered m).constraints)) [
   | inl long ↦ absurd (faultless TooMany long)
   | inr short ↦ record { base = few; lowered = short }
 ]

@@ -7,6 +7,7 @@ use Rattle.std.proofs.lemmas.Int.{ints}
 use Rattle.std.proofs.lemmas.List.Elements.{All-contains}
 use Rattle.cstn_label.specs.Labels.{Scenario, Holds}
 use Rattle.cstn_label.proofs.LabelLemmas.{holds_within}
+use Rattle.cstn_net.specs.Limits.{most_deadline}
 use Rattle.cstn_net.specs.Networks.{Constraint, IsConstraint, Observes, count, limit}
 use Rattle.cstn_net.specs.Strategies.{Table, Meets}
 use Rattle.cstn_net.proofs.Knowledge.{observer_within}
@@ -113,7 +114,7 @@ module _ (m : Labelled) (h : History) (fresh : ℕ) (good : IsLabelled m) (known
 
   -- where a time-point stands that is executed, or done
   end_at : (s : Scenario) (x : ℕ) → x < count m.base → IsExecuted m (as_told h s) x →
-      (to_rest s (end_left m h x) + moment_done h x ≡ table (as_told h s) x) × (to_rest s (end_left m h x) ≤ 1000000)
+      (to_rest s (end_left m h x) + moment_done h x ≡ table (as_told h s) x) × (to_rest s (end_left m h x) ≤ most_deadline)
   end_at s x here e = elim (some_or_none (h.done x)) [
     | inl done ↦
         let at : to_rest s (end_left m h x) ≡ 0 = ap (to_rest s) (end_done m h fresh good known x done.0 done.1) ∙ at_origin s in
@@ -130,7 +131,7 @@ module _ (m : Labelled) (h : History) (fresh : ℕ) (good : IsLabelled m) (known
         (omega arith, omega arith)
   ]
     where
-      limit_upto : (y : ℕ) → limit m.base y ≤ 1000000
+      limit_upto : (y : ℕ) → limit m.base y ≤ most_deadline
       limit_upto zero = omega arith
       limit_upto (suc y) = good.base.in_time
 

@@ -11,6 +11,7 @@ use Rattle.cstn_label.specs.declared.marks.Mark.{Mark}
 use Rattle.cstn_label.specs.Labels.{Label, IsMarked, IsMarkPlain, IsPlain, IsWithin, joined}
 use Rattle.cstn_label.proofs.MarkLemmas.{mark_within_absent}
 use Rattle.cstn_label.proofs.LabelLemmas.{within_through}
+use Rattle.cstn_net.specs.Limits.{most_time_points, most_constraints, most_deadline, most_reaction}
 use Rattle.cstn_net.specs.Networks.{Network, Constraint, Observes, IsWellFormed, IsConstraint, IsOnObserved, IsValue, AreConstraintsFor, count, limit}
 use Rattle.cstn_net.proofs.ListLemmas.{pairs_head, pairs_tail}
 use Rattle.cstn_lift.specs.Labelled.{Labelled, label_of}
@@ -75,7 +76,7 @@ module _ (m : Labelled) (h : History) (fresh : ℕ) (good : IsLabelled m) (known
         omega arith
   ]
 
-  known_soon : (p : ℕ) → Observes m.base 0 p → known_at m h p 0 ≤ 1000
+  known_soon : (p : ℕ) → Observes m.base 0 p → known_at m h p 0 ≤ most_reaction
   known_soon p o = elim (some_or_none (h.expected p)) [
     | inr none ↦
         let at : known_at m h p 0 ≡ 0 + m.base.reaction p = ap (λ e. or_at e (0 + m.base.reaction p)) none in
@@ -88,7 +89,7 @@ module _ (m : Labelled) (h : History) (fresh : ℕ) (good : IsLabelled m) (known
   ]
 
   -- reactions are in range
-  reacts_by : (x p : ℕ) → Observes m.base x p → h.told p ≡ None → is_left m h x ≡ true → (0 < R.base.reaction p) × (R.base.reaction p ≤ 1000)
+  reacts_by : (x p : ℕ) → Observes m.base x p → h.told p ≡ None → is_left m h x ≡ true → (0 < R.base.reaction p) × (R.base.reaction p ≤ most_reaction)
   reacts_by x p o none left = elim (some_or_none (h.done x)) [
     | inr coming ↦
         let at = reaction_coming m h fresh good x p o none left coming in
@@ -99,7 +100,7 @@ module _ (m : Labelled) (h : History) (fresh : ℕ) (good : IsLabelled m) (known
   ]
     where
       done_by : (y q t : ℕ) → Observes m.base y q → h.told q ≡ None → is_left m h y ≡ true → h.done y ≡ Some t →
-          (0 < R.base.reaction q) × (R.base.reaction q ≤ 1000)
+          (0 < R.base.reaction q) × (R.base.reaction q ≤ most_reaction)
       done_by zero q t there unsaid kept at =
           let start = known.origin in
           let zero_moment : t ≡ 0 = (let is : Some t ≡ Some 0 = sym at ∙ start in cc) in
@@ -112,7 +113,7 @@ module _ (m : Labelled) (h : History) (fresh : ℕ) (good : IsLabelled m) (known
           let later = known_late (suc y) t q there at in
           (omega arith, omega arith)
 
-  reacts_there : (k p : ℕ) → Observes R.base k p → (0 < R.base.reaction p) × (R.base.reaction p ≤ 1000)
+  reacts_there : (k p : ℕ) → Observes R.base k p → (0 < R.base.reaction p) × (R.base.reaction p ≤ most_reaction)
   reacts_there k p o =
       let back = observes_back m h fresh good known k p o in
       reacts_by (old m h k) p back.2 back.1 (old_stands m h fresh good known k back.0).1
@@ -124,7 +125,7 @@ module _ (m : Labelled) (h : History) (fresh : ℕ) (good : IsLabelled m) (known
       let same = good.base.network.one_observer (old m h k) (old m h l) p a.2 b.2 in
       sym (old_stands m h fresh good known k a.0).2 ∙ ap (number_of m h) same ∙ (old_stands m h fresh good known l b.0).2
 
-  few_points : count R.base ≤ 1024
+  few_points : count R.base ≤ most_time_points
   few_points =
       let long = count_left m h fresh good known in
       let upto = place_upto (is_left m h) (count m.base) in
@@ -204,7 +205,7 @@ module _ (m : Labelled) (h : History) (fresh : ℕ) (good : IsLabelled m) (known
       subst (λ d. IsConstraint R.base (record d { id = id }) × IsValue d.most) w.is
       (bare_there 0 0 id (pos (limit m.base w.point) -ℤ pos w.moment) some_points some_points, (omega (arith, ints), omega (arith, ints)))
     where
-      limit_upto : (y : ℕ) → limit m.base y ≤ 1000000
+      limit_upto : (y : ℕ) → limit m.base y ≤ most_deadline
       limit_upto zero = omega arith
       limit_upto (suc y) = good.base.in_time
 
@@ -280,7 +281,7 @@ module _ (m : Labelled) (h : History) (fresh : ℕ) (good : IsLabelled m) (known
         pairs_append (filter_map (constraint_left m h) m.base.constraints) (numbered fresh (added m h)) (kept_ascend m.base.constraints good.base.ascending) more.1
         (ids_all (λ i. i < fresh) m.base.constraints above) more.0
 
-    pub rest_well_formed : length R.base.constraints ≤ 16384 → IsWellFormed R.base
+    pub rest_well_formed : length R.base.constraints ≤ most_constraints → IsWellFormed R.base
     rest_well_formed few = record {
       network = record {
         origin = some_points;
@@ -300,7 +301,7 @@ module _ (m : Labelled) (h : History) (fresh : ℕ) (good : IsLabelled m) (known
     }
 
     -- but for the number of constraints, the rest is a labelled network
-    pub rest_labelled : length R.base.constraints ≤ 16384 → IsLabelled R
+    pub rest_labelled : length R.base.constraints ≤ most_constraints → IsLabelled R
     rest_labelled few = record {
       base = rest_well_formed few;
       one_each = length-map (left m h) (λ x. label_left h (label_of m x)) ∙ sym (count_left m h fresh good known);
@@ -325,7 +326,7 @@ module _ (m : Labelled) (h : History) (fresh : ℕ) (good : IsLabelled m) (known
     }
 
     -- some of the constraints of the rest may be those of a network that observes the same
-    some_fit : (net : Network) (cs : List Constraint) → net.observes ≡ R.base.observes → length cs ≤ 16384 →
+    some_fit : (net : Network) (cs : List Constraint) → net.observes ≡ R.base.observes → length cs ≤ most_constraints →
         AllPairs (λ b c. b.id < c.id) cs → All (Contains R.base.constraints) cs → AreConstraintsFor net cs
     some_fit net cs same few ascending among = record {
       few = few;
@@ -334,12 +335,12 @@ module _ (m : Labelled) (h : History) (fresh : ℕ) (good : IsLabelled m) (known
       values = All-weaker (Contains R.base.constraints) (λ c. IsValue c.most) (λ d has. (each_there d has).1) cs among;
     }
 
-    pub kept_fit : (net : Network) → net.observes ≡ R.base.observes → length (filter_map (constraint_left m h) m.base.constraints) ≤ 16384 →
+    pub kept_fit : (net : Network) → net.observes ≡ R.base.observes → length (filter_map (constraint_left m h) m.base.constraints) ≤ most_constraints →
         AreConstraintsFor net (filter_map (constraint_left m h) m.base.constraints)
     kept_fit net same few =
         let cs = filter_map (constraint_left m h) m.base.constraints in
         some_fit net cs same few (kept_ascend m.base.constraints good.base.ascending)
         (All-weaker (Contains cs) (Contains R.base.constraints) (λ d has. Contains-append_left cs (numbered fresh (added m h)) d has) cs (All-contains_itself cs))
 
-    pub whole_fit : (net : Network) → net.observes ≡ R.base.observes → length R.base.constraints ≤ 16384 → AreConstraintsFor net R.base.constraints
+    pub whole_fit : (net : Network) → net.observes ≡ R.base.observes → length R.base.constraints ≤ most_constraints → AreConstraintsFor net R.base.constraints
     whole_fit net same few = some_fit net R.base.constraints same few rest_ascends (All-contains_itself R.base.constraints)

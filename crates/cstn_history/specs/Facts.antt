@@ -6,6 +6,7 @@ use Rattle.cstn_label.specs.declared.nodes.NodeId.{NodeId}
 use Rattle.cstn_label.specs.declared.props.Prop.{Prop}
 use Rattle.cstn_label.specs.Labels.{Label}
 use Rattle.cstn_label.specs.Marks.{is_absent}
+use Rattle.cstn_net.specs.Limits.{most_deadline, most_reaction}
 use Rattle.cstn_net.specs.Networks.{count}
 use Rattle.cstn_lift.specs.Labelled.{Labelled}
 use Rattle.cstn_lift.specs.Completion.{completed_label}
@@ -25,7 +26,7 @@ settles h a = list_all (λ p. settles_mark (h.told p) (a p)) (range_with_len 0 5
 
 -- the moment is above the latest one
 abbrev pub is_beyond : ℕ → Bool
-is_beyond t = nat_lt 1000000 t
+is_beyond t = nat_lt most_deadline t
 
 -- F1 and F2: why it can't be this moment now
 abbrev pub now_refusal : History → ℕ → Option FactError
@@ -68,9 +69,9 @@ told_refusal m h t p = if is_beyond t then Some (OutOfRange t) else told_after h
 
 -- the latest moment at which an outcome is expected: 1,000 where the origin observes it
 abbrev pub latest_expected : Option ℕ → ℕ
-latest_expected None = 1000000
-latest_expected (Some zero) = 1000
-latest_expected (Some (suc x)) = 1000000
+latest_expected None = most_deadline
+latest_expected (Some zero) = most_reaction
+latest_expected (Some (suc x)) = most_deadline
 
 -- F7, where this value was told, and F2, where the observer was done at u
 abbrev pub again_expected : Labelled → History → ℕ → Prop → ℕ → Option Bool → Option FactError

@@ -1,6 +1,7 @@
 -- The parts of the rest, as the program makes them one after the other.
 use Rattle.std.specs.Prelude.{ℕ, ◌≡◌, ◌<◌, ◌≤◌, ◌⊎◌, ◌++◌, List, [], length, map}
 use Rattle.std.specs.List.{flat_map, range_with_len}
+use Rattle.cstn_net.specs.Limits.{most_constraints}
 use Rattle.cstn_net.specs.declared.constraints.Constraint.{Constraint}
 use Rattle.cstn_net.specs.declared.points.TimePoint.{TimePoint}
 use Rattle.cstn_net.specs.Networks.{Network, Constraint as TheConstraint, count}
@@ -55,14 +56,14 @@ rest_number TooManyConstraints = 8
 
 -- want of memory, or the network has too many constraints
 abbrev pub IsBaseRefusal : Labelled → RestError → Type 0
-IsBaseRefusal m e = (rest_number e ≡ 0) ⊎ ((e ≡ TooManyConstraints) × (16384 < length m.base.constraints))
+IsBaseRefusal m e = (rest_number e ≡ 0) ⊎ ((e ≡ TooManyConstraints) × (most_constraints < length m.base.constraints))
 
 -- want of memory, or the labelled network, or its lowered network, has too many constraints
 abbrev pub IsRestRefusal : Labelled → RestError → Type 0
 IsRestRefusal m e = (rest_number e ≡ 0)
-    ⊎ ((e ≡ TooManyConstraints) × ((16384 < length m.base.constraints) ⊎ (16384 < length (lowered m).constraints)))
+    ⊎ ((e ≡ TooManyConstraints) × ((most_constraints < length m.base.constraints) ⊎ (most_constraints < length (lowered m).constraints)))
 
 -- neither the labelled network nor its lowered network has too many constraints
 pub record HasRoom (m : Labelled) : Type 0 where
-  pub base : length m.base.constraints ≤ 16384
-  pub lowered : length (lowered m).constraints ≤ 16384
+  pub base : length m.base.constraints ≤ most_constraints
+  pub lowered : length (lowered m).constraints ≤ most_constraints

@@ -5,6 +5,7 @@ use Rattle.std.specs.List.{list_all, range_with_len}
 use Rattle.cstn_label.specs.declared.marks.Mark.{Mark}
 use Rattle.cstn_label.specs.declared.marks.Mark.TheVariants.{Absent, Yes, No, Unknown}
 use Rattle.cstn_label.specs.Labels.{Label, Scenario, MarkFits}
+use Rattle.cstn_net.specs.Limits.{most_deadline, most_reaction}
 use Rattle.cstn_net.specs.Networks.{Constraint, Observes, count}
 use Rattle.cstn_lift.specs.Labelled.{Labelled}
 use Rattle.cstn_lift.specs.Completion.{completed_label}
@@ -63,9 +64,9 @@ pub record IsHistory (m : Labelled) (h : History) : Type 0 where
 -- a history with all numbers in range: moments up to 1,000,000, and, since a reaction is 1,000 ticks at most, up to 1,000 where
 -- an outcome of the origin is expected
 pub record IsInTime (m : Labelled) (h : History) : Type 0 where
-  pub now : h.now ≤ 1000000
-  pub expected : (p e : ℕ) → h.expected p ≡ Some e → e ≤ 1000000
-  pub origin : (p e : ℕ) → h.expected p ≡ Some e → Observes m.base 0 p → e ≤ 1000
+  pub now : h.now ≤ most_deadline
+  pub expected : (p e : ℕ) → h.expected p ≡ Some e → e ≤ most_deadline
+  pub origin : (p e : ℕ) → h.expected p ≡ Some e → Observes m.base 0 p → e ≤ most_reaction
 
 -- a history with all numbers in range
 pub record IsTimelyHistory (m : Labelled) (h : History) : Type 0 where

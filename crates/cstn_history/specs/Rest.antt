@@ -1,9 +1,10 @@
 -- The labelled network of what is left.
-use Rattle.std.specs.Prelude.{ℕ, zero, suc, ◌+◌, ◌-◌, ◌++◌, Bool, true, not, ◌&&◌, ◌||◌, ◌==◌, nat_lt, min, List, [], ◌∷◌, length, map, slice_index_or, Option, None, Some, if◌then◌else◌, ℤ, pos, negsuc, ◌+ℤ◌, ◌-ℤ◌, int_lt}
+use Rattle.std.specs.Prelude.{ℕ, zero, suc, ◌+◌, ◌-◌, ◌++◌, Bool, true, not, ◌&&◌, ◌||◌, ◌==◌, nat_lt, min, List, [], ◌∷◌, length, map, slice_index_or, Option, None, Some, if◌then◌else◌, ℤ, pos, ◌+ℤ◌, ◌-ℤ◌, int_lt}
 use Rattle.std.specs.Int.{int_min, int_max}
 use Rattle.std.specs.Option.{is_some, unwrap_or}
 use Rattle.std.specs.List.{filter, filter_map, flat_map, range_with_len}
 use Rattle.cstn_label.specs.Labels.{empty}
+use Rattle.cstn_net.specs.Limits.{most_reaction, most_value, least_value}
 use Rattle.cstn_net.specs.Networks.{Constraint, count, limit}
 use Rattle.cstn_lift.specs.Labelled.{Labelled, label_of}
 use Rattle.cstn_lift.specs.Completion.{completed_label, full_label}
@@ -48,7 +49,7 @@ moment_done h x = unwrap_or (h.done x) 0
 
 -- the value, cut to the range of values
 abbrev pub cut : ℤ → ℤ
-cut most = int_max (negsuc 999999999) (int_min (pos 1000000000) most)
+cut most = int_max least_value (int_min (pos most_value) most)
 
 -- the value of a constraint between its ends when those that are done are put at the origin
 abbrev pub value_left : History → Constraint → ℤ
@@ -88,7 +89,7 @@ awaited_at m h p t = min (known_at m h p t) (m.base.deadline + 1)
 
 -- the reaction that is left of p, whose observer is watched
 abbrev pub reaction_watched : Labelled → History → ℕ → ℕ → ℕ
-reaction_watched m h p t = min (awaited_at m h p t) 1000
+reaction_watched m h p t = min (awaited_at m h p t) most_reaction
 
 -- the moment at which the observer of p, which was done at t, stands while it is watched
 abbrev pub moment_watched : Labelled → History → ℕ → ℕ → ℕ

@@ -1,5 +1,6 @@
 // Facts that are recorded in a history, and those that are refused.
 ghost use Rattle.std.specs.Prelude.{◌≡◌, ◌<◌, ◌≤◌, ◌↔◌, IfSome, IsTrue, length, OnOk, OnErr};
+ghost use Rattle.cstn_net.specs.Limits.{most_deadline};
 ghost use Rattle.cstn_net.specs.Networks.{count};
 ghost use Rattle.cstn_lift.specs.Labelled.{Labelled as TheLabelled};
 ghost use Rattle.cstn_lift.specs.WellFormed.{IsLabelled};
@@ -14,12 +15,7 @@ use crate::errors::FactError;
 use crate::histories::History;
 use cstn_label::{NodeId, Prop};
 use cstn_lift::{Labelled, observers_are_found};
-
-// The latest moment of a fact, in ticks.
-const MAX_MOMENT: u32 = 1_000_000;
-
-// The latest moment at which an outcome that the origin observes may be expected, in ticks.
-const MAX_ORIGIN_EXPECTED: u32 = 1000;
+use cstn_net::{MAX_DEADLINE, MAX_REACTION};
 
 impl History {
     /// Records that it is this moment now, in ticks, and that nothing else has happened. Refused with the first that applies of
@@ -166,7 +162,7 @@ impl History {
     pub fn observed_since(&self, network: &Labelled, p: Prop) -> Option<u32>
         requires kept { IsKeptFor (the_labelled network.now) self.now }
         ensures since { result ≡ observed_since (the_labelled network.now) (the_history self.now) p.index }
-        ensures range { IfSome result (λ t. t ≤ 1000000) }
+        ensures range { IfSome result (λ t. t ≤ most_deadline) }
         ensures labelled { IsLabelled (the_labelled network.now) }
     {
         observers_are_found();
@@ -183,17 +179,13 @@ fn latest_expected(network: &Labelled, p: Prop) -> u32
 {
     observers_are_found();
     let Some(x) = network.base().observer(p) else {
-        return MAX_MOMENT;
+        return MAX_DEADLINE;
     };
-    if x.0 == 0 {
-        MAX_ORIGIN_EXPECTED
-    } else {
-        MAX_MOMENT
-    }
+    if x.0 == 0 { MAX_REACTION } else { MAX_DEADLINE }
 }
 
 fn is_beyond(moment: u32) -> bool
     ensures { result ≡ is_beyond moment }
 {
-    moment > MAX_MOMENT
+    moment > MAX_DEADLINE
 }

@@ -1,5 +1,6 @@
 ghost use Rattle.std.specs.Prelude.{ℕ, ◌≡◌, ◌<◌, ◌≤◌, ◌==◌, length, None, IfOk, if◌then◌else◌};
 ghost use Rattle.cstn_label.specs.Read.{marks, known_value};
+ghost use Rattle.cstn_net.specs.Limits.{most_deadline};
 ghost use Rattle.cstn_net.specs.Networks.{count};
 ghost use Rattle.cstn_lift.specs.Read.{the_labelled};
 ghost use Rattle.cstn_history.specs.Histories.{nothing_yet, allows, mark_left, label_left};
@@ -23,13 +24,14 @@ pub struct History {
 
 impl Model for History {
     ghost use Rattle.std.specs.Prelude.{◌≤◌};
+    ghost use Rattle.cstn_net.specs.Limits.{most_deadline};
     ghost use Rattle.cstn_history.specs.Read.{HistoryParts};
 
     ghost Value = { HistoryParts };
 
     ghost view = { λ h. record { time = h.time; done = h.done.items; told = h.told; expected = h.expected } };
 
-    ghost invariant = { λ h. h.time ≤ 1000000 };
+    ghost invariant = { λ h. h.time ≤ most_deadline };
 }
 
 impl History {
@@ -66,7 +68,7 @@ impl History {
     /// The moment that it is now, in ticks, at most 1,000,000.
     pub fn now(&self) -> u32
         ensures now { result ≡ self.now.time }
-        ensures range { result ≤ 1000000 }
+        ensures range { result ≤ most_deadline }
     {
         self.time
     }

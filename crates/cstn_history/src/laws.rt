@@ -4,6 +4,7 @@ ghost use Rattle.std.specs.List.{All};
 ghost use Rattle.cstn_label.specs.declared.nodes.NodeId.{NodeId};
 ghost use Rattle.cstn_label.specs.declared.props.Prop.{Prop};
 ghost use Rattle.cstn_label.specs.Labels.{Label, Scenario};
+ghost use Rattle.cstn_net.specs.Limits.{most_constraints};
 ghost use Rattle.cstn_net.specs.Networks.{Constraint, IsWellFormed, AreConstraintsOf, count};
 ghost use Rattle.cstn_net.specs.Drafts.{BuilderParts};
 ghost use Rattle.cstn_net.specs.Handed.{IsHanded};
@@ -34,7 +35,7 @@ pub fn rest_decides()
 /// in the rest.
 pub fn rest_is_labelled()
     ensures labelled { (m : Labelled) (h : History) (fresh : ℕ) → IsLabelled m → IsHistory m h → IsInTime m h
-        → All (λ c. c.id < fresh) m.base.constraints → length (rest m h fresh).base.constraints ≤ 16384 → IsLabelled (rest m h fresh) }
+        → All (λ c. c.id < fresh) m.base.constraints → length (rest m h fresh).base.constraints ≤ most_constraints → IsLabelled (rest m h fresh) }
     ensures completed { (m : Labelled) (h : History) (fresh x : ℕ) → IsLabelled m → IsHistory m h → x < count m.base
         → IsTrue (is_left m h x) → completed_label (rest m h fresh) (number_of m h x) ≡ label_left h (completed_label m x) }
     ensures executed { (m : Labelled) (h : History) (fresh x : ℕ) (s : Scenario) → IsLabelled m → IsHistory m h → x < count m.base

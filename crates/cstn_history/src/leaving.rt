@@ -1,7 +1,8 @@
 // What is left of time-points and of constraints.
-ghost use Rattle.std.specs.Prelude.{◌≡◌, ◌<◌, ◌≤◌, length};
+ghost use Rattle.std.specs.Prelude.{◌≡◌, ◌+◌, ◌<◌, ◌≤◌, length};
 ghost use Rattle.std.specs.Option.{option_map};
 ghost use Rattle.cstn_label.specs.Read.{marks};
+ghost use Rattle.cstn_net.specs.Limits.{most_deadline};
 ghost use Rattle.cstn_net.specs.Networks.{count};
 ghost use Rattle.cstn_net.specs.Read.{prop_number, the_constraint, IsInRange};
 ghost use Rattle.cstn_lift.specs.Completion.{full_label};
@@ -49,7 +50,7 @@ pub fn is_left(network: &Labelled, history: &History, x: NodeId) -> bool
 
 /// When the outcome of a proposition is known, whose observer was done at this moment, in ticks.
 pub fn known_at(network: &Labelled, history: &History, p: Prop, done: u32) -> u32
-    requires early { done ≤ 1000000 }
+    requires early { done ≤ most_deadline }
     ensures { result ≡ known_at (the_labelled network.now) (the_history history.now) p.index done }
 {
     let reaction = network.base().reaction(p);
@@ -62,16 +63,16 @@ pub fn known_at(network: &Labelled, history: &History, p: Prop, done: u32) -> u3
 /// When the outcome of a proposition is known, whose observer was done at this moment, or the moment after the deadline where
 /// that is earlier.
 fn awaited_at(network: &Labelled, history: &History, p: Prop, done: u32) -> u32
-    requires early { done ≤ 1000000 }
+    requires early { done ≤ most_deadline }
     ensures awaited { result ≡ awaited_at (the_labelled network.now) (the_history history.now) p.index done }
-    ensures range { result ≤ 1000001 }
+    ensures range { result ≤ most_deadline + 1 }
 {
     known_at(network, history, p, done).min(network.base().deadline() + 1)
 }
 
 /// The reaction that is left of a proposition, whose observer is watched.
 pub fn reaction_watched(network: &Labelled, history: &History, p: Prop, done: u32) -> u32
-    requires early { done ≤ 1000000 }
+    requires early { done ≤ most_deadline }
     ensures { result ≡ reaction_watched (the_labelled network.now) (the_history history.now) p.index done }
 {
     awaited_at(network, history, p, done).min(MAX_REACTION)
@@ -79,9 +80,9 @@ pub fn reaction_watched(network: &Labelled, history: &History, p: Prop, done: u3
 
 /// The moment at which the observer of a proposition stands while it is watched.
 pub fn moment_watched(network: &Labelled, history: &History, p: Prop, done: u32) -> u32
-    requires early { done ≤ 1000000 }
+    requires early { done ≤ most_deadline }
     ensures moment { result ≡ moment_watched (the_labelled network.now) (the_history history.now) p.index done }
-    ensures range { result ≤ 1000001 }
+    ensures range { result ≤ most_deadline + 1 }
 {
     awaited_at(network, history, p, done) - reaction_watched(network, history, p, done)
 }
@@ -105,7 +106,7 @@ fn moment_done(network: &Labelled, history: &History, x: NodeId) -> u32
     requires inside { x.0 < count (the_labelled network.now).base }
     requires kept { IsKeptFor (the_labelled network.now) history.now }
     ensures moment { result ≡ moment_done (the_history history.now) x.0 }
-    ensures range { result ≤ 1000000 }
+    ensures range { result ≤ most_deadline }
 {
     match history.done(x) {
         Some(moment) => moment,

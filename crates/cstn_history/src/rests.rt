@@ -2,6 +2,7 @@
 ghost use Rattle.std.specs.Prelude.{ℕ, ◌≡◌, ◌≢◌, ◌<◌, ◌≤◌, ◌+◌, ◌++◌, ◌∷◌, [], map, length, slice_index_or, if◌then◌else◌, IfOk, IfErr};
 ghost use Rattle.std.specs.List.{All, cons_option};
 ghost use Rattle.cstn_label.specs.Read.{marks};
+ghost use Rattle.cstn_net.specs.Limits.{most_constraints};
 ghost use Rattle.cstn_net.specs.Networks.{Observes, IsWellFormed, AreConstraintsFor, count};
 ghost use Rattle.cstn_net.specs.Read.{the_network, the_constraint};
 ghost use Rattle.cstn_net.specs.Drafts.{net_number};
@@ -80,7 +81,7 @@ fn kept(
     requires kept { IsKeptFor (the_labelled network.now) history.now }
     requires numbers { AreNumbers (the_labelled network.now) (the_history history.now) numbers.now }
     ensures kept { IfOk result (λ v. map the_constraint v.items ≡ constraints_left (the_labelled network.now) (the_history history.now)) }
-    ensures few { IfOk result (λ v. length v.items ≤ 16384) }
+    ensures few { IfOk result (λ v. length v.items ≤ most_constraints) }
 {
     let mut kept = Vec::new(alloc);
     for c in network.base().constraints() {

@@ -4,6 +4,7 @@ use Rattle.std.specs.Prelude.{Option, Some, slice_index_or, nat_lt, is_none, cod
 use Rattle.std.specs.List.{All}
 use Rattle.std.proofs.lemmas.List.{get_or-map, length-map}
 use Rattle.cstn_label.specs.declared.nodes.NodeId.{NodeId}
+use Rattle.cstn_net.specs.Limits.{most_time_points}
 use Rattle.cstn_net.specs.Networks.{count}
 use Rattle.cstn_exec.specs.Runs.{due}
 use Rattle.cstn_exec.specs.Moves.{Refusal}
@@ -58,8 +59,8 @@ module _ (host : HostParts) (id t : ℕ) (m : Moved host id t) (names : List (Ve
   short : AreShort (plan_of_file host.plans file).net (slice_index_or (the_names names) file [])
   short = let many = session.as_many in let size = length-map names (λ (v : Vec (String Global) Global). map string_bytes v.items) in session.short file (omega (arith, inside, many, size))
 
-  few : count (net_at host.plans m.before.file) ≤ 1024
-  few = subst (λ (k : ℕ). count (net_at host.plans k) ≤ 1024) same short.few
+  few : count (net_at host.plans m.before.file) ≤ most_time_points
+  few = subst (λ (k : ℕ). count (net_at host.plans k) ≤ most_time_points) same short.few
 
   pub texts_inside : All (λ (x : NodeId). x.0 < length texts) xs
   texts_inside =
@@ -69,7 +70,7 @@ module _ (host : HostParts) (id t : ℕ) (m : Moved host id t) (names : List (Ve
   pub texts_short : All (λ name. length name ≤ 192) (map string_bytes texts)
   texts_short = subst (λ (ts : List (List ℕ)). All (λ name. length name ≤ 192) ts) (sym texts_are) short.each
 
-  pub few_named : length xs ≤ 1024
+  pub few_named : length xs ≤ most_time_points
   few_named = let most = few in let all = called_few (net_at host.plans m.before.file) (bounds_at host.plans m.before.file) m.before.run t xs nodes_are in omega (arith, most, all)
 
   -- the line of the moment

@@ -1,4 +1,5 @@
--- Labels and bounds, and the letters of propositions.
+-- Limits, labels and bounds, and the letters of propositions.
+pub mod Limits
 pub mod Labels
 pub mod Marks
 pub mod Bounds

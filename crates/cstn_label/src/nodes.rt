@@ -1,4 +1,5 @@
-ghost use Rattle.std.specs.Prelude.{ℕ, ◌≡◌, ◌<◌, ◌≤◌, ◌^◌, ◌↔◌, IsSome, IfSome};
+ghost use Rattle.std.specs.Prelude.{◌≡◌, ◌<◌, ◌↔◌, IsSome, IfSome};
+ghost use Rattle.cstn_label.specs.Limits.{most_ids};
 
 /// A time-point, by its number. The origin is 0.
 #[derive(Clone, Copy, Debug, Default, PartialEq, Eq, PartialOrd, Ord, Hash)]
@@ -7,7 +8,7 @@ pub struct NodeId(pub u16);
 impl NodeId {
     /// The time-point of a number; none at 65,536 and above.
     pub fn from_number(number: u32) -> Option<NodeId>
-        ensures some { IsSome result ↔ (number < 2 ^ 16) }
+        ensures some { IsSome result ↔ (number < most_ids) }
         ensures number { IfSome result (λ x. x.0 ≡ number) }
     {
         if number < 65536 {

@@ -5,6 +5,7 @@ use Rattle.std.proofs.lemmas.List.{get_or-map}
 use Rattle.cstn_label.specs.declared.marks.Mark.{Mark}
 use Rattle.cstn_label.specs.declared.marks.Mark.TheVariants.{Absent, Yes, No, Unknown}
 use Rattle.cstn_label.specs.Labels.{Label, IsPlain, empty}
+use Rattle.cstn_net.specs.Limits.{most_constraints}
 use Rattle.cstn_net.specs.Networks.{IsWellFormed, Observes, count}
 use Rattle.cstn_net.specs.Faults.{IsFirstBelow}
 use Rattle.cstn_lift.specs.declared.errors.LiftError.{LiftError}
@@ -88,7 +89,7 @@ long_lowest m good (Circle node) h =
     let seen = h.here in
     absurd (seen.2 (good.no_circle node.0 seen.0 seen.1))
 
-pub no_fault : (m : Labelled) → IsLabelled m → length (lowered m).constraints ≤ 16384 → (f : LiftError) → HasLiftFault m f → ⊥
+pub no_fault : (m : Labelled) → IsLabelled m → length (lowered m).constraints ≤ most_constraints → (f : LiftError) → HasLiftFault m f → ⊥
 no_fault m good few TooManyConstraints h = omega arith
 no_fault m good few (Memory e) h = h
 no_fault m good few OriginLabel h = let low = long_lowest m good OriginLabel h in omega (arith, low)
@@ -99,7 +100,7 @@ no_fault m good few (Never node) h = let low = long_lowest m good (Never node) h
 
 -- a labelled network that is refused has too many constraints
 pub refused_is : (m : Labelled) → IsLabelled m → (e : LiftError) →
-    (lift_number e ≡ 0) ⊎ ((e ≡ TooManyConstraints) × (16384 < length (lowered m).constraints)) → IsLiftRefusal m e
+    (lift_number e ≡ 0) ⊎ ((e ≡ TooManyConstraints) × (most_constraints < length (lowered m).constraints)) → IsLiftRefusal m e
 refused_is m good e (inl memory) = inl memory
 refused_is m good e (inr long) =
     inr (subst (IsLowestLiftFault m) (sym long.0) (record { has = long.1; lowest = long_lowest m good }))

@@ -4,6 +4,7 @@ use Rattle.std.specs.Prelude.{map, slice_index_or}
 use Rattle.std.proofs.Math.Path.{fun_ext}
 use Rattle.std.proofs.lemmas.Bool.{cases_lt}
 use Rattle.std.proofs.lemmas.List.{length-map, take_all}
+use Rattle.cstn_net.specs.Limits.{most_constraints}
 use Rattle.cstn_net.specs.declared.points.TimePoint.{TimePoint}
 use Rattle.cstn_net.specs.declared.errors.NetError.{NetError}
 use Rattle.cstn_net.specs.declared.errors.NetError.TheVariants.{TooManyConstraints}
@@ -47,8 +48,8 @@ closed_is m net n b base has deadline constraints n_deadline n_points n_constrai
 pub refused_long : ((b : BuilderParts) (net : Network) → IsWellFormed net → IsHanded b net → (e : NetError) → IsNetRefusal b e → net_number e ≡ 0) →
     (m : Labelled) → IsLabelled m → (b : BuilderParts) → b.deadline ≡ m.base.deadline → map observed b.points ≡ m.base.observes →
     ((p : ℕ) → reaction_of b.points p ≡ m.base.reaction p) → map the_constraint (constraints_from 0 b.drafts) ≡ (lowered m).constraints →
-    (e : NetError) → IsNetRefusal b e → (net_number e ≡ 0 → ⊥) → 16384 < length (lowered m).constraints
-refused_long for_memory m good b deadline observes reaction constraints e refusal other = elim (cases_lt 16384 (length (lowered m).constraints)) [
+    (e : NetError) → IsNetRefusal b e → (net_number e ≡ 0 → ⊥) → most_constraints < length (lowered m).constraints
+refused_long for_memory m good b deadline observes reaction constraints e refusal other = elim (cases_lt most_constraints (length (lowered m).constraints)) [
   | inl long ↦ long
   | inr few ↦ absurd (other (for_memory b (lowered m) (lowered_well_formed m good few) (record {
     deadline = deadline;
@@ -60,8 +61,8 @@ refused_long for_memory m good b deadline observes reaction constraints e refusa
 
 -- a builder without a fault, which has a constraint for each draft, has at most 16,384 of them
 pub closed_few : (m : Labelled) (b : BuilderParts) → length (constraints_from 0 b.drafts) ≡ length b.drafts → map the_constraint (constraints_from 0 b.drafts) ≡ (lowered m).constraints →
-    ((e : NetError) → HasNetFault b e → ⊥) → length (lowered m).constraints ≤ 16384
-closed_few m b long constraints faultless = elim (cases_lt 16384 (length (lowered m).constraints)) [
+    ((e : NetError) → HasNetFault b e → ⊥) → length (lowered m).constraints ≤ most_constraints
+closed_few m b long constraints faultless = elim (cases_lt most_constraints (length (lowered m).constraints)) [
   | inr few ↦ few
   | inl many ↦
       let same = ap length constraints in

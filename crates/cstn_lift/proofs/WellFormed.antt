@@ -7,6 +7,7 @@ use Rattle.std.proofs.lemmas.List.Elements.{All-contains, All-contains_itself, A
 use Rattle.cstn_label.specs.declared.marks.Mark.TheVariants.{Absent}
 use Rattle.cstn_label.specs.Labels.{Label, IsPlain}
 use Rattle.cstn_label.proofs.MarkLemmas.{absent_or_not}
+use Rattle.cstn_net.specs.Limits.{most_constraints}
 use Rattle.cstn_net.specs.Networks.{Constraint, IsConstraint, IsOnObserved, IsValue, IsWellFormed}
 use Rattle.cstn_net.proofs.Knowledge.{observer_within}
 use Rattle.cstn_lift.specs.Labelled.{Labelled}
@@ -75,7 +76,7 @@ module _ (m : Labelled) (good : IsLabelled m) where
       let range : IsValue (pos 0 -ℤ pos (m.base.reaction g.2)) = (omega (arith, ints), omega (arith, ints)) in
       subst IsValue (sym g.3.between.value) range
 
-  pub lowered_well_formed : length (lowered m).constraints ≤ 16384 → IsWellFormed (lowered m)
+  pub lowered_well_formed : length (lowered m).constraints ≤ most_constraints → IsWellFormed (lowered m)
   lowered_well_formed few =
       let cs = (lowered m).constraints in
       record {

@@ -1,6 +1,7 @@
 -- What keeps a network and labels from being a labelled network.
 use Rattle.std.specs.Prelude.{ℕ, List, ◌≢◌, ◌≡◌, ◌<◌, length}
 use Rattle.cstn_label.specs.Labels.{Label, IsMarked, IsPlain, empty}
+use Rattle.cstn_net.specs.Limits.{most_constraints}
 use Rattle.cstn_net.specs.Networks.{Network, IsOnObserved, IsUnobserved, IsLeastUnobserved, Observes, count}
 use Rattle.cstn_net.specs.Faults.{IsFirstBelow, IsLowestFault, IsRefusal}
 use Rattle.cstn_lift.specs.declared.errors.LiftError.{LiftError}
@@ -49,7 +50,7 @@ HasLiftFault m (NotPlain node) = IsFirstUnplain m.base m.labels node.0
 HasLiftFault m (NotObserved node prop) = IsFirstUnobserved m.base m.labels node.0 prop.index
 HasLiftFault m (Circle node) = IsFirstBelow (count m.base) (λ x. ObservesMark m.base (completed_label m x) x) node.0
 HasLiftFault m (Never node) = IsFirstBelow (count m.base) (λ x. IsPlain (completed_label m x) → ⊥) node.0
-HasLiftFault m TooManyConstraints = 16384 < length (lowered m).constraints
+HasLiftFault m TooManyConstraints = most_constraints < length (lowered m).constraints
 HasLiftFault m (Memory e) = ⊥
 
 -- the number of a refusal, and 0 for want of memory
@@ -64,7 +65,7 @@ lift_number TooManyConstraints = 6
 
 -- the fault that the lowered network has too many constraints, which it has
 abbrev pub IsTooMany : Labelled → LiftError → Type 0
-IsTooMany m e = (e ≡ TooManyConstraints) × (16384 < length (lowered m).constraints)
+IsTooMany m e = (e ≡ TooManyConstraints) × (most_constraints < length (lowered m).constraints)
 
 -- there is this fault, and none with a lower number
 abbrev pub IsLowestLiftFault : Labelled → LiftError → Type 0

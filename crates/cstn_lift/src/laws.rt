@@ -2,6 +2,7 @@
 ghost use Rattle.std.specs.Prelude.{ℕ, ◌≡◌, ◌<◌, ◌≤◌, ◌+◌, ◌⊎◌, ◌↔◌, List, length, slice_index_or, Some, None, IsTrue};
 ghost use Rattle.std.specs.List.{Contains};
 ghost use Rattle.cstn_label.specs.Labels.{Label, Scenario, IsMarked, IsPlain, IsWithin};
+ghost use Rattle.cstn_net.specs.Limits.{most_constraints};
 ghost use Rattle.cstn_net.specs.Networks.{Network, Constraint, Observes, IsNetwork, IsOnObserved, IsWellFormed, count};
 ghost use Rattle.cstn_net.specs.Strategies.{Table, IsStrategy, HasLeasts};
 ghost use Rattle.cstn_lift.specs.declared.errors.LiftError.{LiftError};
@@ -47,7 +48,7 @@ pub fn observers_are_found()
 /// The lowered network is well-formed where it has at most 16,384 constraints. Each of its labels is plain and complete, and
 /// names only observed propositions.
 pub fn lowered_is_well_formed()
-    ensures well_formed { (m : Labelled) → IsLabelled m → length (lowered m).constraints ≤ 16384 → IsWellFormed (lowered m) }
+    ensures well_formed { (m : Labelled) → IsLabelled m → length (lowered m).constraints ≤ most_constraints → IsWellFormed (lowered m) }
     ensures labels { (m : Labelled) (c : Constraint) → IsLabelled m → Contains (lowered m).constraints c → IsPlainAndComplete m c.label }
 {}
 
@@ -139,7 +140,7 @@ pub fn marked_propositions_are_awaited()
 
 /// A labelled network has no fault where its lowered network has at most 16,384 constraints, as each well-formed one has.
 pub fn labelled_networks_have_no_fault()
-    ensures few { (m : Labelled) (e : LiftError) → IsLabelled m → length (lowered m).constraints ≤ 16384 → HasLiftFault m e → ⊥ }
+    ensures few { (m : Labelled) (e : LiftError) → IsLabelled m → length (lowered m).constraints ≤ most_constraints → HasLiftFault m e → ⊥ }
     ensures well_formed { (m : Labelled) (e : LiftError) → IsLabelled m → IsWellFormed (lowered m) → HasLiftFault m e → ⊥ }
 {}
 

@@ -3,6 +3,7 @@
 ghost use Rattle.std.specs.Prelude.{ℕ, ◌≡◌, ◌≢◌, ◌<◌, ◌≤◌, ◌+◌, ◌^◌, ◌-◌, ◌++◌, ◌∷◌, ◌⊎◌, [], List, length, map, IfOk, IfErr};
 ghost use Rattle.cstn_label.specs.Labels.{IsMarked};
 ghost use Rattle.cstn_label.specs.Read.{marks};
+ghost use Rattle.cstn_net.specs.Limits.{most_constraints};
 ghost use Rattle.cstn_net.specs.Networks.{IsWellFormed, count};
 ghost use Rattle.cstn_net.specs.Read.{the_network, the_constraint, IsInRange};
 ghost use Rattle.cstn_net.specs.Drafts.{constraints_from, net_number};
@@ -32,7 +33,7 @@ pub fn lowered(
     requires labelled { IsLabelled (with_labels net.now labels.now) }
     requires completed { AreCompleted (with_labels net.now labels.now) whole.now }
     ensures lowered { IfOk result (λ n. the_network n ≡ lowered (with_labels net.now labels.now)) }
-    ensures few { IfOk result (λ _. length (lowered (with_labels net.now labels.now)).constraints ≤ 16384) }
+    ensures few { IfOk result (λ _. length (lowered (with_labels net.now labels.now)).constraints ≤ most_constraints) }
     ensures well_formed { IfOk result (λ n. IsWellFormed (the_network n)) }
     ensures refused { IfErr result (λ e. (lift_number e ≡ 0) ⊎ IsTooMany (with_labels net.now labels.now) e) }
 {
@@ -113,7 +114,7 @@ fn add_full(builder: &mut Builder, net: &Network, labels: &[Label]) -> Result<()
     requires points { length builder.old.points ≡ count (the_network net.now) }
     requires none { builder.old.drafts ≡ [] }
     ensures added { IfOk result (λ _. HasConstraints (full_constraints (with_labels net.now labels.now)) builder.new.drafts) }
-    ensures few { IfOk result (λ _. length builder.new.drafts ≤ 16384) }
+    ensures few { IfOk result (λ _. length builder.new.drafts ≤ most_constraints) }
     ensures rest { (builder.new.deadline ≡ builder.old.deadline) × (builder.new.points ≡ builder.old.points) }
 {
     for c in net.constraints() {
@@ -163,7 +164,7 @@ fn full_label(net: &Network, labels: &[Label], c: &Constraint) -> Label
 fn add_guards(builder: &mut Builder, net: &Network, whole: &[Label]) -> Result<(), AllocError>
     requires one_each { length whole.now ≡ count (the_network net.now) }
     requires points { length builder.old.points ≡ count (the_network net.now) }
-    requires few { length builder.old.drafts ≤ 16384 }
+    requires few { length builder.old.drafts ≤ most_constraints }
     ensures added { IfOk result (λ _. AddsConstraints builder.old.drafts builder.new.drafts (all_guards (the_network net.now) (map marks whole.now))) }
     ensures rest { (builder.new.deadline ≡ builder.old.deadline) × (builder.new.points ≡ builder.old.points) }
 {

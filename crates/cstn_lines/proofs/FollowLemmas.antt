@@ -8,6 +8,7 @@ use Rattle.std.proofs.lemmas.Bool.{ne_eqb}
 use Rattle.std.proofs.lemmas.List.Elements.{All-nil, All-cons, All-head, All-tail}
 use Rattle.std.proofs.lemmas.Slice.Eq.{bytes_eq-Decides}
 use Rattle.cstn_label.specs.Letters.{letter_of}
+use Rattle.cstn_net.specs.Limits.{most_deadline}
 use Rattle.cstn_text.specs.Cuts.{cut_at}
 use Rattle.cstn_text.specs.Names.{IsName}
 use Rattle.cstn_text.specs.Numbers.{number_within, printed_number, printed_value}
@@ -160,7 +161,7 @@ follow_back (awaited_at t p) is = word_back (codes "await") (printed_number t ++
 follow_back (edits edit) is = edit_line_back edit is
 follow_back (ends_by ticks) is =
     word_back (codes "deadline") (printed_number ticks) (refl, refl, refl, refl) refl
-    ∙ ap (option_map ends_by) (within_back 0 1000000 ticks (omega arith) is (omega arith))
+    ∙ ap (option_map ends_by) (within_back 0 most_deadline ticks (omega arith) is (omega arith))
 follow_back asks_next is = refl
 follow_back (asks_by name) is = word_back (codes "by") (printed_name name) (refl, refl, refl, refl) refl ∙ ap (option_map asks_by) (name_back name is)
 follow_back asks_blame is = refl
@@ -245,10 +246,10 @@ awaited_only rest line is =
     let whole : rest ≡ printed_number t.0 ++ 32 ∷ letter_of p.0 ∷ [] = moment_then rest parts.0.0 parts.0.1 t.0 parts.1 moment.0 ∙ ap (λ (bs : List ℕ). printed_number t.0 ++ 32 ∷ bs) (sym letter.0) in
     same_line (awaited_at t.0 p.0) line _ p.2 (ap (λ (bs : List ℕ). codes "await" ++ 32 ∷ bs) whole, (moment.1, letter.1))
 
-deadline_only : (rest : List ℕ) (line : Follow) → option_map ends_by (number_within 0 1000000 rest) ≡ Some line → IsWritten line (codes "deadline" ++ 32 ∷ rest)
+deadline_only : (rest : List ℕ) (line : Follow) → option_map ends_by (number_within 0 most_deadline rest) ≡ Some line → IsWritten line (codes "deadline" ++ 32 ∷ rest)
 deadline_only rest line is =
-    let ticks = maps ends_by (number_within 0 1000000 rest) line is in
-    let its = within_said 0 1000000 rest ticks.0 ticks.1 in
+    let ticks = maps ends_by (number_within 0 most_deadline rest) line is in
+    let its = within_said 0 most_deadline rest ticks.0 ticks.1 in
     same_line (ends_by ticks.0) line _ ticks.2 (ap (λ (bs : List ℕ). codes "deadline" ++ 32 ∷ bs) its.2, its.1)
 
 by_only : (rest : List ℕ) (line : Follow) → option_map asks_by (name_read rest) ≡ Some line → IsWritten line (codes "by" ++ 32 ∷ rest)
@@ -273,7 +274,7 @@ followed_only word rest line is =
 
     at : (did saw now await deadline by : Bool) → did ≡ bytes_eq word (codes "did") → saw ≡ bytes_eq word (codes "saw") → now ≡ bytes_eq word (codes "now") → await ≡ bytes_eq word (codes "await") → deadline ≡ bytes_eq word (codes "deadline") → by ≡ bytes_eq word (codes "by")
         → (if did then done_read rest else if saw then came_read rest else if now then option_map now_at (moment_of rest) else if await then awaited_read rest
-        else if deadline then option_map ends_by (number_within 0 1000000 rest) else if by then option_map asks_by (name_read rest) else option_map edits (edited_read (word, rest))) ≡ Some line
+        else if deadline then option_map ends_by (number_within 0 most_deadline rest) else if by then option_map asks_by (name_read rest) else option_map edits (edited_read (word, rest))) ≡ Some line
         → IsWritten line (word ++ 32 ∷ rest)
     at true saw now await deadline by a b c d e f said = spelled (codes "did") (sym a) (done_only rest line said)
     at false true now await deadline by a b c d e f said = spelled (codes "saw") (sym b) (came_only rest line said)

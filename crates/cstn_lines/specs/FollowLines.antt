@@ -3,6 +3,7 @@ use Rattle.std.specs.Prelude.{ℕ, ◌≡◌, ◌<◌, ◌≤◌, ◌^◌, ◌++
 use Rattle.std.specs.List.{All}
 use Rattle.std.specs.Option.{option_map, option_and_then}
 use Rattle.cstn_label.specs.Letters.{letter_of}
+use Rattle.cstn_net.specs.Limits.{most_deadline}
 use Rattle.cstn_text.specs.Names.{IsName}
 use Rattle.cstn_text.specs.Numbers.{number_within, printed_number}
 use Rattle.cstn_text.specs.PrintedNames.{name_read, printed_name}
@@ -75,7 +76,7 @@ followed_read parts =
     else if bytes_eq parts.0 (codes "saw") then came_read parts.1
     else if bytes_eq parts.0 (codes "now") then option_map now_at (moment_of parts.1)
     else if bytes_eq parts.0 (codes "await") then awaited_read parts.1
-    else if bytes_eq parts.0 (codes "deadline") then option_map ends_by (number_within 0 1000000 parts.1)
+    else if bytes_eq parts.0 (codes "deadline") then option_map ends_by (number_within 0 most_deadline parts.1)
     else if bytes_eq parts.0 (codes "by") then option_map asks_by (name_read parts.1)
     else option_map edits (edited_read parts)
 
@@ -95,7 +96,7 @@ IsFollow (came_at t p value) = (t < 2 ^ 32) × (p < 52)
 IsFollow (now_at t) = t < 2 ^ 32
 IsFollow (awaited_at t p) = (t < 2 ^ 32) × (p < 52)
 IsFollow (edits edit) = IsEdit edit
-IsFollow (ends_by ticks) = ticks ≤ 1000000
+IsFollow (ends_by ticks) = ticks ≤ most_deadline
 IsFollow asks_next = Unit {0}
 IsFollow (asks_by name) = IsName name
 IsFollow asks_blame = Unit {0}

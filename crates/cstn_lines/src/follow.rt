@@ -1,6 +1,7 @@
 // Lines of a session that follows a plan.
 ghost use Rattle.std.specs.Prelude.{◌≡◌, ◌||◌, true, IfOk, OnErr, codes, bytes_eq};
 ghost use Rattle.std.specs.Option.{option_map};
+ghost use Rattle.cstn_net.specs.Limits.{most_deadline};
 ghost use Rattle.cstn_text.specs.Numbers.{number_within};
 ghost use Rattle.cstn_text.specs.PrintedNames.{name_read};
 ghost use Rattle.cstn_lines.specs.EditLines.{edited_read};
@@ -10,11 +11,9 @@ ghost use Rattle.cstn_lines.specs.FollowLines.{awaited_read, followed_read, foll
 use crate::edits::{EditLine, NameText, read_edited, read_name_text};
 use crate::live::{cut_at_space, read_prop, read_truth};
 use cstn_label::Prop;
+use cstn_net::MAX_DEADLINE;
 use cstn_text::read_number_within;
 use std::alloc::{AllocError, Global};
-
-// The greatest deadline, in ticks.
-const MAX_DEADLINE: u32 = 1_000_000;
 
 /// What a line of a session that follows a plan says.
 #[derive(Debug, Drop)]
@@ -179,7 +178,7 @@ fn read_await(bytes: &[u8]) -> Option<FollowLine>
 }
 
 fn read_deadline(bytes: &[u8]) -> Option<FollowLine>
-    ensures { option_map the_follow result ≡ option_map ends_by (number_within 0 1000000 bytes.now) }
+    ensures { option_map the_follow result ≡ option_map ends_by (number_within 0 most_deadline bytes.now) }
 {
     let ticks = read_number_within(0, MAX_DEADLINE, bytes)?;
     Some(FollowLine::Deadline { ticks })

@@ -5,6 +5,7 @@ use Rattle.std.specs.Option.{option_and_then}
 use Rattle.std.proofs.lemmas.List.{map-append}
 use Rattle.std.proofs.lemmas.List.Elements.{All-head, All-tail}
 use Rattle.std.proofs.lemmas.Slice.Eq.{bytes_eq-Decides}
+use Rattle.cstn_net.specs.Limits.{most_load}
 use Rattle.cstn_text.specs.Cuts.{cut_at}
 use Rattle.cstn_text.specs.Numbers.{number_within, printed_number}
 use Rattle.cstn_text.specs.Parts.{IsOnePart, Parts, part, parts_at, joined}
@@ -15,11 +16,11 @@ use Rattle.cstn_text.proofs.ReadingLemmas.{then_read, if_read, within_said, part
 
 -- ---- the first line
 
-pub load_said : (word line : List ℕ) (load : ℕ) → load_read word line ≡ Some load → (1 ≤ load) × (load ≤ 4194304) × (line ≡ word ++ 32 ∷ printed_number load)
+pub load_said : (word line : List ℕ) (load : ℕ) → load_read word line ≡ Some load → (1 ≤ load) × (load ≤ most_load) × (line ≡ word ++ 32 ∷ printed_number load)
 load_said word line load e =
-    let found = then_read (part line) (λ found. if bytes_eq found.0 word then number_within 1 4194304 found.1 else None) load e in
-    let number = if_read (bytes_eq found.0.0 word) (number_within 1 4194304 found.0.1) load found.2 in
-    let range = within_said 1 4194304 found.0.1 load number.1 in (
+    let found = then_read (part line) (λ found. if bytes_eq found.0 word then number_within 1 most_load found.1 else None) load e in
+    let number = if_read (bytes_eq found.0.0 word) (number_within 1 most_load found.0.1) load found.2 in
+    let range = within_said 1 most_load found.0.1 load number.1 in (
       range.0,
       range.1,
       part_said line found.0 found.1
@@ -30,12 +31,12 @@ load_said word line load e =
 bytes_same : (word : List ℕ) → bytes_eq word word ≡ true
 bytes_same word = (bytes_eq-Decides word word).1 refl
 
-pub load_back : (word : List ℕ) (load : ℕ) → IsOnePart word → 1 ≤ load → load ≤ 4194304 → load_read word (word ++ 32 ∷ printed_number load) ≡ Some load
+pub load_back : (word : List ℕ) (load : ℕ) → IsOnePart word → 1 ≤ load → load ≤ most_load → load_read word (word ++ 32 ∷ printed_number load) ≡ Some load
 load_back word load is low high =
-    ap (λ (o : Option (List ℕ × List ℕ)). option_and_then (λ found. if bytes_eq found.0 word then number_within 1 4194304 found.1 else None) o)
+    ap (λ (o : Option (List ℕ × List ℕ)). option_and_then (λ found. if bytes_eq found.0 word then number_within 1 most_load found.1 else None) o)
     (part_back word (printed_number load) is)
-    ∙ ap (λ (b : Bool). if b then number_within 1 4194304 (printed_number load) else None) (bytes_same word)
-    ∙ within_back 1 4194304 load low high (omega arith)
+    ∙ ap (λ (b : Bool). if b then number_within 1 most_load (printed_number load) else None) (bytes_same word)
+    ∙ within_back 1 most_load load low high (omega arith)
 
 module _ {A : Type 0} (kind : Kind A) where
   -- ---- what is said, by the first of the lines
@@ -139,7 +140,7 @@ module _ {A : Type 0} (kind : Kind A) where
       let after = after_said first.0 load [] lines tail listed (All-tail IsFree line lines frees) first.2 in
       record {
         low = subst (λ n. 1 ≤ n) after.same range.0;
-        high = subst (λ n. n ≤ 4194304) after.same range.1;
+        high = subst (λ n. n ≤ most_load) after.same range.1;
         ends = after.ends;
         lines = joined 10 lines tail;
         text = ap (λ (t : List ℕ). t ++ 10 ∷ joined 10 lines tail) (range.2 ∙ ap (λ n. kind.word ++ 32 ∷ printed_number n) after.same);

@@ -2,6 +2,7 @@
 use Rattle.std.specs.Prelude.{ℕ, ◌≡◌, ◌≢◌, ◌+◌, ◌++◌, ◌≤◌, Bool, true, false, if◌then◌else◌, List, [], ◌∷◌, length, Option, None, Some, bytes_eq}
 use Rattle.std.specs.List.{All}
 use Rattle.std.specs.Option.{option_and_then}
+use Rattle.cstn_net.specs.Limits.{most_load}
 use Rattle.cstn_text.specs.Numbers.{number_within, printed_number}
 use Rattle.cstn_text.specs.Parts.{part, parts_at}
 
@@ -20,7 +21,7 @@ pub record Kind (A : Type 0) : Type 0 where
 -- the load on the first line: the word, a space, and a number from 1 to 4,194,304
 abbrev pub load_read : List ℕ → List ℕ → Option ℕ
 load_read word line =
-    option_and_then (λ found. if bytes_eq found.0 word then number_within 1 4194304 found.1 else None) (part line)
+    option_and_then (λ found. if bytes_eq found.0 word then number_within 1 most_load found.1 else None) (part line)
 
 module _ {A : Type 0} where
   -- what a text says where no whole line is left: it may end there, and nothing stands after its last LF
@@ -61,7 +62,7 @@ module _ {A : Type 0} where
   -- the text has the word and a load in its range on its first line, and then the lines of these things, with which it may end
   pub record IsTextOf (kind : Kind A) (load : ℕ) (listed : List A) (bytes : List ℕ) : Type 0 where
     pub low : 1 ≤ load
-    pub high : load ≤ 4194304
+    pub high : load ≤ most_load
     pub ends : kind.may_end listed ≡ true
     pub lines : List ℕ
     pub text : bytes ≡ kind.word ++ 32 ∷ printed_number load ++ 10 ∷ lines

@@ -6,5 +6,5 @@ mod loads;
 mod parts;
 
 pub use laws::listings_are_their_texts;
-pub use loads::{MOST_LOAD, push_load, read_load};
+pub use loads::{push_load, read_load};
 pub use parts::{part, print_names, read_node};

@@ -4,11 +4,9 @@ ghost use Rattle.cstn_text.specs.Numbers.{printed_number};
 ghost use Rattle.cstn_listing.specs.Listings.{load_read};
 
 use crate::parts::part;
+use cstn_net::MAX_LOAD;
 use cstn_text::{push_number, read_number_within};
 use std::alloc::AllocError;
-
-/// The greatest load.
-pub const MOST_LOAD: u32 = 4_194_304;
 
 /// The load on the first line of a listing, from 1 to 4,194,304, behind the word of its kind and a space; none where the line
 /// isn't of the form.
@@ -19,7 +17,7 @@ pub fn read_load(word: &str, line: &[u8]) -> Option<u32>
     if found != word.as_bytes() {
         return None;
     }
-    read_number_within(1, MOST_LOAD, rest)
+    read_number_within(1, MAX_LOAD, rest)
 }
 
 /// Appends the first line of a listing, with its LF. Fails for want of memory alone.

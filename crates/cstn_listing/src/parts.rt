@@ -1,6 +1,7 @@
 //! The parts of a line, and the names of time-points.
 ghost use Rattle.std.specs.Prelude.{◌≡◌, ◌<◌, ◌≤◌, ◌∷◌, [], IfOk, IfSome, IfNone, length, map, string_bytes};
 ghost use Rattle.std.specs.Option.{option_map};
+ghost use Rattle.cstn_label.specs.Limits.{most_ids};
 ghost use Rattle.cstn_text.specs.Names.{AreNames};
 ghost use Rattle.cstn_text.specs.PrintedNames.{printed_name};
 ghost use Rattle.cstn_text.specs.Parts.{part, parts_at, node_read};
@@ -21,7 +22,7 @@ pub fn part(bytes: &[u8]) -> Option<(&[u8], &[u8])>
 
 /// The time-point whose printed name the bytes are; none where they are no name of the list.
 pub fn read_node(names: &Names, bytes: &[u8]) -> Option<NodeId>
-    requires few { length names.now ≤ 65536 }
+    requires few { length names.now ≤ most_ids }
     ensures node { option_map (λ x. x.0) result ≡ node_read names.now bytes.now }
     ensures inside { IfSome result (λ x. x.0 < length names.now) }
 {

@@ -1,6 +1,7 @@
 -- How a log keeps its entries.
 use Rattle.std.specs.Prelude.{◌≡◌, ◌⊎◌, ℕ, ◌<◌, ◌≤◌, ◌+◌, ◌*◌, ◌/◌, Bool, true, false, List, length, Option, None, Some, slice_get, slice_index_or}
 use Rattle.cstn_label.specs.declared.bounds.Bound.{Bound}
+use Rattle.cstn_net.specs.Limits.{most_load}
 use Rattle.cstn_rules.specs.declared.entries.Entry.{Entry}
 use Rattle.cstn_pool.specs.declared.slot_id.SlotId.{SlotId}
 use Rattle.cstn_pool.specs.Slots.{live_of}
@@ -58,7 +59,7 @@ pub record AreLeft (marks : List Bool) (ids : List SlotId) (n : ℕ) (old new : 
 pub record IsRoom (cap told marks : ℕ) : Type 0 where
   pub size : told ≡ cap
   pub for_marks : cap ≤ marks
-  pub few : cap ≤ 4194304
+  pub few : cap ≤ most_load
 
 -- the room for the blocks of the sets of places
 pub record IsIndexRoom (cap marks stands : ℕ) : Type 0 where

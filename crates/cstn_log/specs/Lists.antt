@@ -1,5 +1,6 @@
 -- Lists that store their entries with premises named by slots.
 use Rattle.std.specs.Prelude.{ℕ, ◌≡◌, ◌<◌, ◌≤◌, List, [], ◌∷◌, length, map, Option, Some, None, IsSome, slice_get, slice_index_or, ⊤}
+use Rattle.cstn_net.specs.Limits.{most_load}
 use Rattle.cstn_rules.specs.declared.entries.Entry.{Entry}
 use Rattle.cstn_rules.specs.declared.entries.Why.{Why}
 use Rattle.cstn_rules.specs.declared.entries.Why.TheVariants.{Base, Chain, Wait}
@@ -76,6 +77,6 @@ pub record IsListed (places slots : List ℕ) (pool : List (Option (ℕ × Entry
   pub held : AreHeldIn pool slots
   pub size : length pool ≡ cap
   pub upto : length places ≤ cap
-  pub few : cap ≤ 4194304
+  pub few : cap ≤ most_load
   pub for_slots_is : cap ≤ for_slots
   pub for_places_is : cap ≤ for_places

@@ -3,6 +3,7 @@
 
 mod bits;
 mod blocks;
+mod caps;
 mod cuts;
 mod cutting;
 mod laws;
@@ -13,6 +14,7 @@ mod sets;
 mod watched;
 
 pub use blocks::Block;
+pub use caps::Cap;
 pub use cuts::{
     cuts_are_derivations, cuts_are_known, dropping_leaves_derivations, parts_are_derivations,
 };

@@ -1,6 +1,7 @@
 // The list of a log: its entries in order, kept in a pool with their premises named by slots.
 ghost use Rattle.std.specs.Prelude.{ℕ, ◌≡◌, ◌≢◌, ◌<◌, ◌≤◌, ◌+◌, ◌^◌, ◌++◌, ◌∷◌, ◌↔◌, [], List, Some, None, length, map, replicate, slice_get, slice_index_or};
 ghost use Rattle.std.specs.Prelude.{slice_set, vec_capacity, IfOk, IfNone, IfSome, IsErr, IsTrue, OnErr};
+ghost use Rattle.cstn_net.specs.Limits.{most_load};
 ghost use Rattle.cstn_rules.specs.declared.entries.Entry.{Entry as TheEntry};
 ghost use Rattle.cstn_pool.specs.Slots.{live_of};
 ghost use Rattle.cstn_log.specs.Entries.{HasId, IsBoundAt, the_entries};
@@ -8,6 +9,7 @@ ghost use Rattle.cstn_log.specs.Kept.{AreLeft, IsPooled, renewed};
 ghost use Rattle.cstn_log.specs.Cuts.{PremisesBelow, AllEarlier, IsClosedUnder, replaced, chosen};
 ghost use Rattle.cstn_log.specs.Lists.{Listing, AreApart, IsFiled, ids_in};
 
+use crate::caps::Cap;
 use cstn_label::Bound;
 use cstn_pool::{Full, Pool, SlotId};
 use cstn_rules::{Entry, Why};
@@ -47,18 +49,22 @@ impl Model for EntryList {
 
 impl EntryList {
     // A list with no entry, and room for this many.
-    pub fn empty(alloc: Global, cap: u32) -> Result<EntryList, AllocError>
-        requires { cap ≤ 4194304 }
-        ensures { IfOk result (λ list. list ≡ record { entries = []; ids = []; cap = cap; pool = record { slots = replicate cap None; births = 0 } }) }
+    pub fn empty(alloc: Global, cap: Cap) -> Result<EntryList, AllocError>
+        ensures { IfOk result (λ list. list ≡ record {
+          entries = [];
+          ids = [];
+          cap = cap.entries;
+          pool = record { slots = replicate cap.entries None; births = 0 };
+        }) }
     {
-        let pool = Pool::start(alloc, cap)?;
-        let slots = Vec::with_capacity(alloc, cap as usize)?;
-        let places = Vec::with_capacity(alloc, cap as usize)?;
+        let pool = Pool::start(alloc, cap.entries)?;
+        let slots = Vec::with_capacity(alloc, cap.entries as usize)?;
+        let places = Vec::with_capacity(alloc, cap.entries as usize)?;
         Ok(EntryList {
             pool,
             slots,
             places,
-            cap,
+            cap: cap.entries,
         })
     }
 
@@ -81,7 +87,7 @@ impl EntryList {
         ensures len { result ≡ length self.now.entries }
         ensures ids { length self.now.ids ≡ length self.now.entries }
         ensures most { length self.now.entries ≤ self.now.cap }
-        ensures few { self.now.cap ≤ 4194304 }
+        ensures few { self.now.cap ≤ most_load }
         ensures earlier { AllEarlier (the_entries self.now.entries) }
     {
         self.slots.len()
@@ -246,7 +252,7 @@ fn write_place(places: &mut Vec<u32>, slot: u32, place: u32)
 fn write_places(places: &mut Vec<u32>, slots: &[u32])
     requires inside { (k s : ℕ) → slice_get slots.now k ≡ Some s → s < length places.old.items }
     requires apart { AreApart slots.now }
-    requires few { length slots.now ≤ 4194304 }
+    requires few { length slots.now ≤ most_load }
     ensures filed { IsFiled places.new.items slots.now }
     ensures size { length places.new.items ≡ length places.old.items }
     ensures room { vec_capacity places.old ≤ vec_capacity places.new }

@@ -2,6 +2,7 @@ ghost use Rattle.std.specs.Prelude.{List, ◌≡◌, ◌⊎◌, ◌<◌, ◌≤�
 ghost use Rattle.std.specs.Prelude.{IfNone, IfOk, IfSome, IsErr, IsOk, OnErr, slice_get, slice_index_or};
 ghost use Rattle.cstn_label.specs.Read.{the_bound};
 ghost use Rattle.std.specs.List.{Contains};
+ghost use Rattle.cstn_net.specs.Limits.{most_load};
 ghost use Rattle.cstn_net.specs.Networks.{Network as TheNetwork, Constraint, IsNetwork, count};
 ghost use Rattle.cstn_net.specs.Strategies.{Table, IsStrategy};
 ghost use Rattle.cstn_net.specs.Bounds.{HoldsIn};
@@ -17,6 +18,7 @@ ghost use Rattle.cstn_log.specs.Blocks.{has_number};
 ghost use Rattle.cstn_log.specs.PlaceSets.{IsMarkedAt, IsAtNode, AreMarked, AreStanding};
 
 use crate::blocks::Block;
+use crate::caps::Cap;
 use crate::cutting::{count_marked, cut, mark_ancestors, mark_staying};
 use crate::list::EntryList;
 use crate::putting::{clear, place_all};
@@ -80,18 +82,16 @@ impl Model for Log {
 impl Log {
     /// The log that has the base bounds of the network, or nothing where `cap` is below their
     /// number. Fails for want of memory alone.
-    pub fn start(alloc: Global, net: &Network, cap: u32) -> Result<Log, AllocError>
-        requires some { 1 ≤ cap }
-        requires most { cap ≤ 4194304 }
-        ensures start { IfOk result (λ log. the_entries log.entries ≡ first_entries (the_network net.now) cap) }
-        ensures size { IfOk result (λ log. (log.cap ≡ cap) × (log.nodes ≡ count (the_network net.now))) }
+    pub fn start(alloc: Global, net: &Network, cap: Cap) -> Result<Log, AllocError>
+        ensures start { IfOk result (λ log. the_entries log.entries ≡ first_entries (the_network net.now) cap.entries) }
+        ensures size { IfOk result (λ log. (log.cap ≡ cap.entries) × (log.nodes ≡ count (the_network net.now))) }
         ensures births { IfOk result (λ log. log.births ≤ count (the_network net.now)) }
         ensures derivation { IfOk result (λ log. IsDerivation (the_network net.now) (the_entries log.entries)) }
     {
         let nodes = net.count();
         let watched = all_watched(alloc, net)?;
         let mut log = Log::empty(alloc, nodes, cap, watched)?;
-        if nodes as u32 <= cap {
+        if nodes as u32 <= cap.entries {
             log.push_bases(net);
         }
         Ok(log)
@@ -101,17 +101,16 @@ impl Log {
     fn empty(
         alloc: Global,
         nodes: u16,
-        cap: u32,
+        cap: Cap,
         watched: Vec<Option<Prop>>,
     ) -> Result<Log, AllocError>
-        requires { cap ≤ 4194304 }
-        ensures { IfOk result (λ log. log ≡ record { entries = []; ids = []; births = 0; cap = cap; nodes = nodes }) }
+        ensures { IfOk result (λ log. log ≡ record { entries = []; ids = []; births = 0; cap = cap.entries; nodes = nodes }) }
     {
-        let minimal = MinSet::start(alloc, nodes, cap)?;
+        let minimal = MinSet::start(alloc, nodes, cap.entries)?;
         let list = EntryList::empty(alloc, cap)?;
         let marking = PlaceSets::empty(alloc, cap)?;
         let standing = PlaceSets::empty(alloc, cap)?;
-        let marks = Vec::with_capacity(alloc, cap as usize)?;
+        let marks = Vec::with_capacity(alloc, cap.entries as usize)?;
         let hints = vec![in alloc; 0; HINTS]?;
         Ok(Log {
             minimal,
@@ -220,7 +219,7 @@ impl Log {
     pub fn len(&self) -> u32
         ensures len { result ≡ length self.now.entries }
         ensures at_most { result ≤ self.now.cap }
-        ensures largest { self.now.cap ≤ 4194304 }
+        ensures largest { self.now.cap ≤ most_load }
         ensures all_new { AllNew self.now.entries }
     {
         self.list.len() as u32

@@ -8,6 +8,7 @@ ghost use Rattle.cstn_log.specs.PlaceSets.{no_block, number_at, HasInCell, HasPl
 ghost use Rattle.cstn_log.specs.declared.sets.Part.{Part as ThePart};
 
 use crate::blocks::Block;
+use crate::caps::Cap;
 use cstn_label::{Label, Prop};
 use std::alloc::{AllocError, Global};
 
@@ -39,12 +40,11 @@ pub struct PlaceSets {
 
 impl PlaceSets {
     // Sets with no place, and room for places below this.
-    pub fn empty(alloc: Global, cap: u32) -> Result<PlaceSets, AllocError>
-        requires { cap ≤ 4194304 }
+    pub fn empty(alloc: Global, cap: Cap) -> Result<PlaceSets, AllocError>
         ensures none { IfOk result (λ s. s.numbers.items ≡ []) }
-        ensures room { IfOk result (λ s. cap / 4096 * 52 + 52 ≤ room_of s) }
+        ensures room { IfOk result (λ s. cap.entries / 4096 * 52 + 52 ≤ room_of s) }
     {
-        let stretches = (cap / STRETCH) as usize + 1;
+        let stretches = (cap.entries / STRETCH) as usize + 1;
         let numbers = Vec::with_capacity(alloc, stretches * ROW)?;
         let parts = Vec::with_capacity(alloc, stretches * ROW)?;
         Ok(PlaceSets { numbers, parts })

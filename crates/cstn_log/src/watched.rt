@@ -1,6 +1,7 @@
 // The sets of the places at observers.
 ghost use Rattle.std.specs.Prelude.{ℕ, ◌≡◌, ◌<◌, ◌≤◌, ◌+◌, ◌*◌, ◌/◌, [], true, None, Some, Option, List, length, slice_index_or};
 ghost use Rattle.cstn_label.specs.declared.props.Prop.{Prop as TheProp};
+ghost use Rattle.cstn_net.specs.Limits.{most_load};
 ghost use Rattle.cstn_net.specs.Networks.{count};
 ghost use Rattle.cstn_net.specs.Read.{the_network};
 ghost use Rattle.cstn_log.specs.PlaceSets.{HasPlace, room_of, AreMarked, AreStanding};
@@ -53,7 +54,7 @@ pub fn put_all(
     requires empty { (marking.old.numbers.items ≡ []) × (standing.old.numbers.items ≡ []) }
     requires room { (length list.now.entries / 4096 * 52 + 52 ≤ room_of marking.old)
         × (length list.now.entries / 4096 * 52 + 52 ≤ room_of standing.old) }
-    requires few { length list.now.entries ≤ 4194304 }
+    requires few { length list.now.entries ≤ most_load }
     ensures marking { AreMarked list.now.entries marking.new }
     ensures standing { AreStanding watched.now list.now.entries standing.new }
     ensures room { (room_of marking.old ≤ room_of marking.new) × (room_of standing.old ≤ room_of standing.new) }

@@ -7,6 +7,7 @@ use Rattle.std.specs.List.Sorted.{IsSearchInRange, IsBinarySearchResult, IsNonDe
 use Rattle.std.specs.Ordering.{nat_cmp, ordering_index}
 use Rattle.std.proofs.lemmas.Cmp.{ranked}
 use Rattle.std.proofs.lemmas.Bool.Decides.{nat_tests}
+use Rattle.cstn_net.specs.Limits.{most_constraints}
 use Rattle.cstn_net.specs.Links.{ends}
 use Rattle.std.proofs.lemmas.Bool.{eq-eqb, ne_eqb, cases_lt}
 use Rattle.std.proofs.lemmas.List.{length-map, length-append}
@@ -24,7 +25,7 @@ use Rattle.cstn_net.proofs.WellFormed.{well_formed_with}
 
 -- the constraints are those of a well-formed network with these time-points
 pub record AreKept (net : Network) (cs : List Constraint) : Type 0 where
-  pub few : length cs ≤ 16384
+  pub few : length cs ≤ most_constraints
   pub constraints : All (λ c. IsConstraint net (the_constraint c)) cs
   pub ascending : AllPairs (λ b c. b.id < c.id) cs
   pub values : All (λ c. IsValue c.most) cs
@@ -68,7 +69,7 @@ pub same_id : (id : ℕ) (most : ℤ) (c : Constraint) → (with_most id most c)
 same_id id most c = elim (has_id id c) as (λ b. (cond b (record c { most = most }) c).id ≡ c.id) [ true ↦ refl | false ↦ refl ]
 
 module _ (net : Network) where
-  pub kept_push : (cs : List Constraint) (c : Constraint) → AreKept net cs → length cs < 16384 →
+  pub kept_push : (cs : List Constraint) (c : Constraint) → AreKept net cs → length cs < most_constraints →
       All (λ d. d.id < c.id) cs → IsConstraint net (the_constraint c) → IsValue c.most → AreKept net (cs ++ c ∷ [])
   kept_push cs c kept few above one value = record {
     few = let long = length-append cs (c ∷ []) in omega arith;

@@ -10,6 +10,7 @@ use Rattle.cstn_label.specs.declared.marks.Mark.TheVariants.{Absent}
 use Rattle.cstn_label.specs.Labels.{Label, IsPlain}
 use Rattle.cstn_label.specs.Read.{marks}
 use Rattle.cstn_label.specs.declared.props.Prop.{Prop}
+use Rattle.cstn_net.specs.Limits.{most_reaction}
 use Rattle.cstn_net.specs.declared.points.TimePoint.{TimePoint}
 use Rattle.cstn_net.specs.declared.errors.NetError.{NetError}
 use Rattle.cstn_net.specs.declared.errors.NetError.TheVariants.{TooManyNodes, NoOrigin, TooManyConstraints, DeadlineRange, ValueRange, NotObserved, TwoObservers, NotPlain, ReactionRange, Memory}
@@ -134,17 +135,17 @@ observes_some : (o : Option Prop) (q : ℕ) → option_map (λ p. p.index) o ≡
 observes_some None q e = cc
 observes_some (Some p) q e = refl
 
-timely_first : (t : TimePoint) (p n : ℕ) → HasReaction t → (0 < n) × (n ≤ 1000) → (o : Option ℕ) → observed t ≡ o →
-    (0 < cond (is_prop p o) t.reaction n) × (cond (is_prop p o) t.reaction n ≤ 1000)
+timely_first : (t : TimePoint) (p n : ℕ) → HasReaction t → (0 < n) × (n ≤ most_reaction) → (o : Option ℕ) → observed t ≡ o →
+    (0 < cond (is_prop p o) t.reaction n) × (cond (is_prop p o) t.reaction n ≤ most_reaction)
 timely_first t p n timely rest None e = rest
 timely_first t p n timely rest (Some q) e =
-    elim (is_prop p (Some q)) as (λ b. (0 < cond b t.reaction n) × (cond b t.reaction n ≤ 1000)) [
+    elim (is_prop p (Some q)) as (λ b. (0 < cond b t.reaction n) × (cond b t.reaction n ≤ most_reaction)) [
       | true ↦ timely (observes_some t.observes q e)
       | false ↦ rest
     ]
 
 -- where each time-point that observes has a reaction in range, each proposition has one in range
-pub timely_reaction : (points : List TimePoint) (p : ℕ) → All HasReaction points → (0 < reaction_of points p) × (reaction_of points p ≤ 1000)
+pub timely_reaction : (points : List TimePoint) (p : ℕ) → All HasReaction points → (0 < reaction_of points p) × (reaction_of points p ≤ most_reaction)
 timely_reaction [] p all = (omega arith, omega arith)
 timely_reaction (t ∷ ts) p all =
     timely_first t p (reaction_of ts p) (All-head HasReaction t ts all) (timely_reaction ts p (All-tail HasReaction t ts all)) (observed t) refl

@@ -6,6 +6,7 @@ use Rattle.std.proofs.lemmas.List.{length-map, get_or_default}
 use Rattle.std.proofs.lemmas.List.Elements.{All-cons, All-nil, All-head, All-tail, All-weaker}
 use Rattle.cstn_label.specs.Labels.{Label, IsPlain}
 use Rattle.cstn_label.specs.Read.{marks}
+use Rattle.cstn_net.specs.Limits.{most_reaction}
 use Rattle.cstn_net.specs.declared.drafts.Draft.{Draft}
 use Rattle.cstn_net.specs.declared.errors.NetError.{NetError}
 use Rattle.cstn_net.specs.declared.errors.NetError.TheVariants.{TooManyNodes, NoOrigin, TooManyConstraints, DeadlineRange, ValueRange, NotObserved, TwoObservers, NotPlain, ReactionRange, Memory}
@@ -40,7 +41,7 @@ observes_one (Some p) some = (p.index, refl)
 
 -- `HasReaction` can't fail at a place whose time-point has a reaction in range whenever it observes something
 nowhere_timely : (points : List TimePoint) (k : ℕ) → k < length points → ((t : TimePoint) → HasReaction (slice_index_or points k t) → ⊥) →
-    ((t : TimePoint) → t ≡ slice_index_or points k t → (p : ℕ) → slice_index_or (map observed points) k None ≡ Some p → (0 < t.reaction) × (t.reaction ≤ 1000)) → ⊥
+    ((t : TimePoint) → t ≡ slice_index_or points k t → (p : ℕ) → slice_index_or (map observed points) k None ≡ Some p → (0 < t.reaction) × (t.reaction ≤ most_reaction)) → ⊥
 nowhere_timely [] k inside fails timely = absurd (omega arith)
 nowhere_timely (u ∷ us) k inside fails timely =
     let t = slice_index_or (u ∷ us) k u in

@@ -12,6 +12,7 @@ use Rattle.cstn_label.specs.declared.nodes.NodeId.{NodeId}
 use Rattle.cstn_label.specs.Labels.{Label, IsPlain, IsMarkPlain}
 use Rattle.cstn_label.specs.Read.{marks}
 use Rattle.cstn_label.proofs.ReadLemmas.{unmarked_above}
+use Rattle.cstn_net.specs.Limits.{most_time_points, most_constraints, most_deadline, most_reaction, most_value}
 use Rattle.cstn_net.specs.declared.drafts.Draft.{Draft}
 use Rattle.cstn_net.specs.declared.points.TimePoint.{TimePoint}
 use Rattle.cstn_net.specs.declared.errors.NetError.{NetError}
@@ -55,7 +56,7 @@ all_by P stable xs none = λ k d inside.
     stable (get_or xs k d) (λ no. none_below (length xs) (HoldsAt (λ x. P x → ⊥) xs) none (suc k) k (omega arith) inside (holds_at (λ x. P x → ⊥) xs k d inside no))
 
 stable_value : (v : ℤ) → ((IsValue v → ⊥) → ⊥) → IsValue v
-stable_value (pos n) h = elim (cases_lt 1000000000 n) [
+stable_value (pos n) h = elim (cases_lt most_value n) [
   | inl high ↦ absurd (h (λ is. omega (arith, ints, is.1)))
   | inr low ↦ (omega (arith, ints), omega (arith, ints))
 ]
@@ -81,7 +82,7 @@ stable_absent Unknown h = absurd (h (λ e. cc))
 
 stable_reaction : (t : TimePoint) → ((HasReaction t → ⊥) → ⊥) → HasReaction t
 stable_reaction t h = λ some. elim (cases_lt 0 t.reaction) [
-  | inl later ↦ elim (cases_lt 1000 t.reaction) [
+  | inl later ↦ elim (cases_lt most_reaction t.reaction) [
     | inl high ↦ absurd (h (λ is. let both = is some in omega (arith, both.1)))
     | inr low ↦ (later, low)
   ]
@@ -116,10 +117,10 @@ module _ (b : BuilderParts) (none : (e : NetError) → IsLowestNetFault b e → 
 
   sized : IsSized b
   sized = record {
-    few_points = at_most 1024 (length b.points) (faultless TooManyNodes);
+    few_points = at_most most_time_points (length b.points) (faultless TooManyNodes);
     origin = at_least_one (length b.points) (faultless NoOrigin);
-    few_constraints = at_most 16384 (length b.drafts) (faultless TooManyConstraints);
-    in_time = at_most 1000000 b.deadline (λ late. faultless (DeadlineRange b.deadline) (refl, late));
+    few_constraints = at_most most_constraints (length b.drafts) (faultless TooManyConstraints);
+    in_time = at_most most_deadline b.deadline (λ late. faultless (DeadlineRange b.deadline) (refl, late));
   }
 
   abbrev Lacks : ℕ → Draft → Type 0

@@ -7,6 +7,7 @@ use Rattle.std.proofs.lemmas.Bool.{cases_lt}
 use Rattle.cstn_label.specs.declared.marks.Mark.{Mark}
 use Rattle.cstn_label.specs.declared.marks.Mark.TheVariants.{Absent, Yes, No}
 use Rattle.cstn_label.specs.Labels.{Scenario, Holds, MarkFits, IsMarkPlain, IsPlain}
+use Rattle.cstn_net.specs.Limits.{most_deadline}
 use Rattle.cstn_net.specs.Networks.{Constraint, IsConstraint, IsNetwork, IsOnObserved, IsValue, IsWellFormed}
 use Rattle.cstn_net.specs.Strategies.{Schedule, Table, IsTable, IsDynamic, IsStrategy, IsConsistent, Meets}
 use Rattle.cstn_net.specs.Examples.{both, split, coarse, fine, fine_q, fine_x, fine_table}
@@ -57,7 +58,7 @@ is_network d e l = record {
   constraints = are_constraints d e l;
 }
 
-is_well_formed : (d : ℕ) (e l : ℤ) → d ≤ 1000000 → IsValue e → IsValue l → IsWellFormed (split d e l)
+is_well_formed : (d : ℕ) (e l : ℤ) → d ≤ most_deadline → IsValue e → IsValue l → IsWellFormed (split d e l)
 is_well_formed d e l small one other = record {
   network = is_network d e l;
   few_points = omega arith;

@@ -2,6 +2,7 @@
 use Rattle.std.proofs.Common.{ℕ, ◌<◌, ◌≤◌, List, length}
 use Rattle.std.specs.List.{All, AllPairs}
 use Rattle.std.proofs.lemmas.List.Elements.{All-weaker}
+use Rattle.cstn_net.specs.Limits.{most_constraints, most_deadline}
 use Rattle.cstn_net.specs.Networks.{Network, Constraint, Observes, IsConstraint, IsValue, IsWellFormed}
 
 -- what a network observes doesn't depend on its constraints
@@ -14,7 +15,7 @@ pub observes_with : (net : Network) (cs : List Constraint) (x p : ℕ) → Obser
 observes_with net cs x p o = record { what = o.what }
 
 -- a well-formed network stays so with another deadline in range
-pub well_formed_by : (net : Network) (deadline : ℕ) → IsWellFormed net → deadline ≤ 1000000 → IsWellFormed (record net { deadline = deadline })
+pub well_formed_by : (net : Network) (deadline : ℕ) → IsWellFormed net → deadline ≤ most_deadline → IsWellFormed (record net { deadline = deadline })
 well_formed_by net deadline h in_time = record {
   network = record {
     origin = h.network.origin;
@@ -47,7 +48,7 @@ constraint_with net cs c h = record {
 }
 
 -- a well-formed network stays so with other constraints in range
-pub well_formed_with : (net : Network) (cs : List Constraint) → IsWellFormed net → length cs ≤ 16384 →
+pub well_formed_with : (net : Network) (cs : List Constraint) → IsWellFormed net → length cs ≤ most_constraints →
     All (IsConstraint net) cs → AllPairs (λ b c. b.id < c.id) cs → All (λ c. IsValue c.most) cs →
     IsWellFormed (record net { constraints = cs })
 well_formed_with net cs h few constraints ascending values = record {

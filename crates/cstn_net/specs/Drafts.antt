@@ -4,6 +4,7 @@ use Rattle.std.specs.List.{All, HoldsAt}
 use Rattle.cstn_label.specs.declared.marks.Mark.TheVariants.{Absent}
 use Rattle.cstn_label.specs.Labels.{Label, IsPlain}
 use Rattle.cstn_label.specs.Read.{marks}
+use Rattle.cstn_net.specs.Limits.{most_time_points, most_constraints, most_deadline, most_reaction}
 use Rattle.cstn_net.specs.declared.constraints.Constraint.{Constraint}
 use Rattle.cstn_net.specs.declared.points.TimePoint.{TimePoint}
 use Rattle.cstn_net.specs.declared.drafts.Draft.{Draft}
@@ -83,14 +84,14 @@ pub record AreFirstTwins (observes : List (Option ℕ)) (p first second : ℕ) :
 
 -- the time-point has a reaction from 1 to 1,000 ticks where it observes something
 abbrev pub HasReaction : TimePoint → Type 0
-HasReaction t = IsSome t.observes → (0 < t.reaction) × (t.reaction ≤ 1000)
+HasReaction t = IsSome t.observes → (0 < t.reaction) × (t.reaction ≤ most_reaction)
 
 -- the builder has the fault that the refusal names
 abbrev pub HasNetFault : BuilderParts → NetError → Type 0
-HasNetFault b TooManyNodes = 1024 < length b.points
+HasNetFault b TooManyNodes = most_time_points < length b.points
 HasNetFault b NoOrigin = length b.points ≡ 0
-HasNetFault b TooManyConstraints = 16384 < length b.drafts
-HasNetFault b (DeadlineRange deadline) = (deadline ≡ b.deadline) × (1000000 < b.deadline)
+HasNetFault b TooManyConstraints = most_constraints < length b.drafts
+HasNetFault b (DeadlineRange deadline) = (deadline ≡ b.deadline) × (most_deadline < b.deadline)
 HasNetFault b (ValueRange constraint) = IsFirst (λ d. IsValue d.most → ⊥) b.drafts constraint
 HasNetFault b (NotObserved prop) =
     IsLeastOfFirst (λ q d. LacksObserver (observations b) (marks d.label) q) b.drafts prop.index
@@ -101,10 +102,10 @@ HasNetFault b (Memory e) = ⊥
 
 -- a builder without the faults of N1 to N4
 pub record IsSized (b : BuilderParts) : Type 0 where
-  pub few_points : length b.points ≤ 1024
+  pub few_points : length b.points ≤ most_time_points
   pub origin : 0 < length b.points
-  pub few_constraints : length b.drafts ≤ 16384
-  pub in_time : b.deadline ≤ 1000000
+  pub few_constraints : length b.drafts ≤ most_constraints
+  pub in_time : b.deadline ≤ most_deadline
 
 -- a builder without the faults of N5 to N9
 pub record IsSound (b : BuilderParts) : Type 0 where

@@ -1,4 +1,5 @@
--- Networks and their strategies.
+-- Limits, networks and their strategies.
+pub mod Limits
 pub mod Networks
 pub mod Strategies
 pub mod Scenarios

@@ -3,6 +3,7 @@ use Rattle.std.specs.Prelude.{ℕ, zero, suc, ◌≡◌, ◌≢◌, ◌<◌, ◌
 use Rattle.std.specs.List.{All, AllPairs, Contains}
 use Rattle.cstn_label.specs.declared.marks.Mark.TheVariants.{Absent}
 use Rattle.cstn_label.specs.Labels.{Label, IsPlain}
+use Rattle.cstn_net.specs.Limits.{most_time_points, most_constraints, most_deadline, most_reaction, most_value, least_value}
 
 -- in each scenario in which the label holds, `to` is executed at most `most` ticks after `from`
 pub record Constraint : Type 0 where
@@ -75,23 +76,23 @@ pub record IsNetwork (net : Network) : Type 0 where
 
 -- the value of a constraint is from -1,000,000,000 to 1,000,000,000 ticks
 abbrev pub IsValue : ℤ → Type 0
-IsValue most = (negsuc 999999999 ≤ℤ most) × (most ≤ℤ pos 1000000000)
+IsValue most = (least_value ≤ℤ most) × (most ≤ℤ pos most_value)
 
 -- a network with ascending ids and with all numbers in range: 1,024 time-points, 52 propositions, reactions of 1,000 ticks,
 -- 16,384 constraints and a deadline of 1,000,000 ticks at most
 pub record IsWellFormed (net : Network) : Type 0 where
   pub network : IsNetwork net
-  pub few_points : count net ≤ 1024
+  pub few_points : count net ≤ most_time_points
   pub letters : (x p : ℕ) → Observes net x p → p < 52
-  pub soon : (x p : ℕ) → Observes net x p → net.reaction p ≤ 1000
-  pub few_constraints : length net.constraints ≤ 16384
+  pub soon : (x p : ℕ) → Observes net x p → net.reaction p ≤ most_reaction
+  pub few_constraints : length net.constraints ≤ most_constraints
   pub ascending : AllPairs (λ b c. b.id < c.id) net.constraints
   pub values : All (λ c. IsValue c.most) net.constraints
-  pub in_time : net.deadline ≤ 1000000
+  pub in_time : net.deadline ≤ most_deadline
 
 -- these may be the constraints of a well-formed network that has the same time-points
 pub record AreConstraintsFor (net : Network) (cs : List Constraint) : Type 0 where
-  pub few : length cs ≤ 16384
+  pub few : length cs ≤ most_constraints
   pub each : All (IsConstraint net) cs
   pub ascending : AllPairs (λ b c. b.id < c.id) cs
   pub values : All (λ c. IsValue c.most) cs

@@ -1,6 +1,7 @@
 // Constraints as they were handed in, and the constraints of a network that are made of them.
 ghost use Rattle.std.specs.Prelude.{◌≡◌, ◌<◌, ◌≤◌, length, IfOk};
 ghost use Rattle.std.specs.List.{All};
+ghost use Rattle.cstn_net.specs.Limits.{most_constraints};
 ghost use Rattle.cstn_net.specs.Drafts.{IsDraftAmong, constraint_of, constraints_from};
 
 use crate::constraints::Constraint;
@@ -22,7 +23,7 @@ pub fn constraints_of(
     count: u16,
     drafts: &[Draft],
 ) -> Result<Vec<Constraint>, AllocError>
-    requires few { length drafts.now ≤ 16384 }
+    requires few { length drafts.now ≤ most_constraints }
     requires among { All (IsDraftAmong count) drafts.now }
     ensures { IfOk result (λ v. v.items ≡ constraints_from 0 drafts.now) }
 {

@@ -27,6 +27,8 @@ pub use laws::{
     plain_strategy_is_a_schedule, possible_until_ruled_out, strategies_are_kept,
     ticks_are_not_dense, unobserved_is_unseen,
 };
-pub use limits::{MAX_CONSTRAINTS, MAX_DEADLINE, MAX_MOST, MAX_NODES, MAX_REACTION, is_value};
+pub use limits::{
+    MAX_CONSTRAINTS, MAX_DEADLINE, MAX_EDITS, MAX_LOAD, MAX_MOST, MAX_NODES, MAX_REACTION, is_value,
+};
 pub use networks::{Network, network_is_well_formed};
 pub use walks::walk_visits_each;

@@ -17,6 +17,12 @@ pub const MAX_MOST: i32 = 1_000_000_000;
 /// The longest reaction, in ticks; the shortest is 1.
 pub const MAX_REACTION: u32 = 1000;
 
+/// The most bounds that a log may have, which is the greatest load and the greatest cap.
+pub const MAX_LOAD: u32 = 4_194_304;
+
+/// The most edits of a network that a session accepts.
+pub const MAX_EDITS: u32 = 1_000_000;
+
 /// Whether a constraint may have this value, in ticks.
 pub fn is_value(most: i32) -> bool
     ensures { IsTrue result ↔ IsValue most }

@@ -2,6 +2,7 @@
 ghost use Rattle.std.specs.Prelude.{ℕ, ◌≡◌, ◌<◌, ◌≤◌, ◌+◌, ◌++◌, ◌∷◌, [], List, length, IfOk};
 ghost use Rattle.std.specs.List.{All};
 ghost use Rattle.std.specs.Vec.{vec_len, vec_capacity};
+ghost use Rattle.cstn_net.specs.Limits.{most_constraints};
 ghost use Rattle.cstn_net.specs.Links.{AreLinked, ends};
 
 use crate::constraints::Constraint;
@@ -26,7 +27,7 @@ pub struct Links {
 impl Links {
     // The links of these constraints, which are between `nodes` time-points.
     pub fn of(alloc: Global, nodes: usize, constraints: &[Constraint]) -> Result<Links, AllocError>
-        requires few { length constraints.now ≤ 16384 }
+        requires few { length constraints.now ≤ most_constraints }
         requires inside { All (λ c. c.to.0 < nodes) constraints.now }
         ensures linked { IfOk result (λ l. AreLinked (ends constraints.now) l.chains.items l.nexts.items) }
         ensures wide { IfOk result (λ l. length l.chains.items ≡ nodes) }
@@ -42,7 +43,7 @@ impl Links {
 
     // Links these constraints afresh.
     pub fn rebuild(&mut self, constraints: &[Constraint])
-        requires few { length constraints.now ≤ 16384 }
+        requires few { length constraints.now ≤ most_constraints }
         requires inside { All (λ c. c.to.0 < length self.old.chains.items) constraints.now }
         requires room { length constraints.now ≤ vec_capacity self.old.nexts }
         ensures linked { AreLinked (ends constraints.now) self.new.chains.items self.new.nexts.items }
@@ -58,7 +59,7 @@ impl Links {
 
     // Links one more constraint, which ends at this time-point, behind the last of its chain.
     pub fn append(&mut self, to: NodeId)
-        requires few { vec_len self.old.nexts < 16384 }
+        requires few { vec_len self.old.nexts < most_constraints }
         requires room { vec_len self.old.nexts < vec_capacity self.old.nexts }
         requires inside { to.0 < length self.old.chains.items }
         requires linked { (xs : List ℕ) × AreLinked xs self.old.chains.items self.old.nexts.items }

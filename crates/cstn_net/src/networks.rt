@@ -3,6 +3,7 @@ ghost use Rattle.std.specs.Prelude.{OnOk, OnErr, MatchOption, slice_index, slice
 ghost use Rattle.std.specs.List.{All, AllPairs, Contains, HoldsAt};
 ghost use Rattle.std.specs.Option.{option_map};
 ghost use Rattle.cstn_label.specs.Read.{marks};
+ghost use Rattle.cstn_net.specs.Limits.{most_constraints, most_deadline, most_reaction};
 ghost use Rattle.cstn_net.specs.Networks.{Network, IsWellFormed, IsConstraint, IsLeastUnobserved, IsOnObserved, IsValue, Observes, count, limit};
 ghost use Rattle.cstn_net.specs.Observers.{KnowsObservers};
 ghost use Rattle.cstn_net.specs.Links.{AreLinked, IsNextPlace, ends};
@@ -81,7 +82,7 @@ impl Network {
     /// The deadline, in ticks, at most 1,000,000.
     pub fn deadline(&self) -> u32
         ensures deadline { result ≡ self.now.deadline }
-        ensures range { result ≤ 1000000 }
+        ensures range { result ≤ most_deadline }
     {
         self.deadline
     }
@@ -90,7 +91,7 @@ impl Network {
     pub fn limit(&self, x: NodeId) -> i32
         requires { x.0 < count (the_network self.now) }
         ensures limit { result ≡ pos (limit (the_network self.now) x.0) }
-        ensures range { result ≤ℤ pos 1000000 }
+        ensures range { result ≤ℤ pos most_deadline }
     {
         if x.0 == 0 { 0 } else { self.deadline as i32 }
     }
@@ -113,7 +114,7 @@ impl Network {
     /// How many ticks after its observer is executed a proposition is known, from 1 to 1,000; 1 where nothing observes it.
     pub fn reaction(&self, p: Prop) -> u32
         ensures reaction { result ≡ (the_network self.now).reaction p.index }
-        ensures range { (1 ≤ result) × (result ≤ 1000) }
+        ensures range { (1 ≤ result) × (result ≤ most_reaction) }
         ensures unobserved { ((x : ℕ) → Observes (the_network self.now) x p.index → ⊥) → result ≡ 1 }
     {
         match self.observers[p.index as usize] {
@@ -181,7 +182,7 @@ impl Network {
 
     /// Sets the deadline, in ticks, at most 1,000,000.
     pub fn set_deadline(&mut self, deadline: u32)
-        requires { deadline ≤ 1000000 }
+        requires { deadline ≤ most_deadline }
         ensures set { self.new ≡ record self.old { deadline = deadline } }
         ensures well_formed { IsWellFormed (the_network self.new) }
     {
@@ -206,7 +207,7 @@ impl Network {
     /// Adds a constraint behind the others. There must be room for it, and its id must be above theirs.
     pub fn insert(&mut self, c: Constraint)
         requires room { 0 < self.old.spare }
-        requires few { length self.old.constraints < 16384 }
+        requires few { length self.old.constraints < most_constraints }
         requires above { All (λ d. d.id < c.id) self.old.constraints }
         requires constraint { IsConstraint (the_network self.old) (the_constraint c) }
         requires value { IsValue c.most }

@@ -1,6 +1,7 @@
 // Which time-point observes each proposition.
 ghost use Rattle.std.specs.Prelude.{ℕ, ◌≡◌, ◌<◌, ◌≤◌, ◌↔◌, length, map, None, Some, IsTrue, MatchOption, slice_index_or};
 ghost use Rattle.cstn_label.specs.Read.{marks};
+ghost use Rattle.cstn_net.specs.Limits.{most_time_points};
 ghost use Rattle.cstn_net.specs.Read.{prop_number, observed};
 ghost use Rattle.cstn_net.specs.Drafts.{HasTwins, AreFirstTwins};
 ghost use Rattle.cstn_net.specs.Observers.{KnowsObservers, SeesAll, IsLeastUnseen, noted};
@@ -12,7 +13,7 @@ use cstn_label::{Label, NodeId, Prop};
 pub type Observers = [Option<NodeId>; 52];
 
 pub fn observers_of(points: &[TimePoint]) -> Observers
-    requires { length points.now ≤ 1024 }
+    requires { length points.now ≤ most_time_points }
     ensures { KnowsObservers (map observed points.now) result }
 {
     let mut table = [None; 52];

@@ -3,6 +3,7 @@ ghost use Rattle.std.specs.Prelude.{ℕ, ◌≡◌, ◌<◌, ◌≤◌, ◌↔�
 ghost use Rattle.std.specs.List.{All};
 ghost use Rattle.cstn_label.specs.Labels.{IsPlain};
 ghost use Rattle.cstn_label.specs.Read.{marks};
+ghost use Rattle.cstn_net.specs.Limits.{most_time_points, most_constraints};
 ghost use Rattle.cstn_net.specs.Networks.{IsValue};
 ghost use Rattle.cstn_net.specs.Read.{prop_number, observed};
 ghost use Rattle.cstn_net.specs.Faults.{IsFirst};
@@ -22,7 +23,7 @@ fn is_in_range(draft: Draft) -> bool
 }
 
 pub fn first_out_of_range(drafts: &[Draft]) -> Option<u32>
-    requires { length drafts.now ≤ 16384 }
+    requires { length drafts.now ≤ most_constraints }
     ensures { MatchOption result (All (λ d. IsValue d.most) drafts.now) (IsFirst (λ d. IsValue d.most → ⊥) drafts.now) }
 {
     for (i, draft) in drafts.iter().enumerate() {
@@ -34,7 +35,7 @@ pub fn first_out_of_range(drafts: &[Draft]) -> Option<u32>
 }
 
 pub fn first_not_plain(drafts: &[Draft]) -> Option<u32>
-    requires { length drafts.now ≤ 16384 }
+    requires { length drafts.now ≤ most_constraints }
     ensures { MatchOption result (All (λ d. IsPlain (marks d.label)) drafts.now) (IsFirst (λ d. IsPlain (marks d.label) → ⊥) drafts.now) }
 {
     for (i, draft) in drafts.iter().enumerate() {
@@ -72,7 +73,7 @@ fn twin(table: &Observers, x: NodeId, observes: Option<Prop>) -> Option<(Prop, N
 
 // The proposition, its first observer and the time-point, for the first time-point whose proposition an earlier one observes.
 pub fn first_twins(table: &Observers, points: &[TimePoint]) -> Option<(Prop, NodeId, NodeId)>
-    requires few { length points.now ≤ 1024 }
+    requires few { length points.now ≤ most_time_points }
     requires observers { KnowsObservers (map observed points.now) table.now }
     ensures { MatchOption result (HasTwins (map observed points.now) (length points.now) → ⊥)
         (λ t. AreFirstTwins (map observed points.now) t.0.index t.1.0 t.2.0) }
@@ -93,7 +94,7 @@ fn is_timely(point: TimePoint) -> bool
 
 // The first time-point that observes and has a reaction out of range.
 pub fn first_untimely(points: &[TimePoint]) -> Option<NodeId>
-    requires { length points.now ≤ 1024 }
+    requires { length points.now ≤ most_time_points }
     ensures { MatchOption result (All HasReaction points.now) (λ x. IsFirst (λ t. HasReaction t → ⊥) points.now x.0) }
 {
     for (i, point) in points.iter().enumerate() {

@@ -1,6 +1,7 @@
 ghost use Rattle.std.specs.Prelude.{ℕ, ◌≡◌, ◌<◌, ◌≤◌, ◌↔◌, ◌++◌, ◌∷◌, [], map, length, None, Some, slice_index_or, if◌then◌else◌, IsNone, IfOk, IfSome};
 ghost use Rattle.std.specs.List.{Contains, filter, range_with_len};
 ghost use Rattle.std.specs.List.Sorted.{IsStrictlyIncreasing};
+ghost use Rattle.cstn_net.specs.Limits.{most_time_points};
 ghost use Rattle.cstn_net.specs.Read.{the_network};
 ghost use Rattle.cstn_plan.specs.Plans.{the_bounds};
 ghost use Rattle.cstn_lift.specs.Lowered.{lowered};
@@ -84,7 +85,7 @@ fn next_at(
     awaited: &[Option<u32>],
     moment: u32,
 ) -> Result<NextMoment, AllocError>
-    requires few { length coming.now ≤ 1024 }
+    requires few { length coming.now ≤ most_time_points }
     requires size { length awaited.now ≡ 52 }
     ensures moment { IfOk result (λ n. n.moment ≡ moment) }
     ensures named { IfOk result (λ n. map (λ x. x.0) n.named.items
@@ -137,7 +138,7 @@ fn is_upto(t: u32, moment: Option<u32>) -> bool
 
 // The time-points whose moment is t or earlier.
 fn named_at(alloc: Global, moments: &[Option<u32>], t: u32) -> Result<Vec<NodeId>, AllocError>
-    requires few { length moments.now ≤ 1024 }
+    requires few { length moments.now ≤ most_time_points }
     ensures { IfOk result (λ v. map (λ x. x.0) v.items ≡ filter (λ x. is_upto t (slice_index_or moments.now x None)) (range_with_len 0 (length moments.now))) }
 {
     let mut named = Vec::new(alloc);

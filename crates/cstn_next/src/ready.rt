@@ -2,6 +2,7 @@
 ghost use Rattle.std.specs.Prelude.{ℕ, ◌≡◌, ◌<◌, ◌≤◌, ◌==◌, ◌&&◌, cond, max, slice_index, Some, None, if◌then◌else◌, IfOk};
 ghost use Rattle.cstn_label.specs.Marks.{is_plain};
 ghost use Rattle.cstn_label.specs.Read.{marks};
+ghost use Rattle.cstn_net.specs.Limits.{most_time_points};
 ghost use Rattle.cstn_net.specs.Networks.{count};
 ghost use Rattle.cstn_plan.specs.Asked.{moment_of};
 ghost use Rattle.cstn_plan.specs.Plans.{the_bounds};
@@ -12,15 +13,16 @@ ghost use Rattle.cstn_next.specs.Next.{latest, is_ready, coming_at, coming_momen
 use cstn_history::{History, completed, known_at, numbers_left};
 use cstn_label::{Bound, Label, NodeId, Prop, labels_are_their_marks};
 use cstn_lift::Labelled;
+use cstn_net::MAX_NODES;
 use cstn_plan::SoundPlan;
 use std::alloc::{AllocError, Global};
 
 // A moment for each of the 1,024 time-points that there may be.
-type Moments = [u32; 1024];
+type Moments = [u32; MAX_NODES];
 
 // For each time-point of a plan the latest moment that a bound with a plain label asks for, or 0 where none does.
 fn latest(plan: &SoundPlan) -> Moments
-    ensures { (k : ℕ) → k < 1024 → slice_index result k ≡ latest (the_bounds plan.now.bounds) k }
+    ensures { (k : ℕ) → k < most_time_points → slice_index result k ≡ latest (the_bounds plan.now.bounds) k }
 {
     plan.network();
     let mut after = zeros();
@@ -35,12 +37,12 @@ fn latest(plan: &SoundPlan) -> Moments
 fn zeros() -> Moments
     ensures { (k : ℕ) → slice_index result k ≡ 0 }
 {
-    [0; 1024]
+    [0; MAX_NODES]
 }
 
 fn note(after: &mut Moments, bound: Bound)
-    requires { bound.node.0 < 1024 }
-    ensures { (k : ℕ) → k < 1024 → slice_index after.new k
+    requires { bound.node.0 < most_time_points }
+    ensures { (k : ℕ) → k < most_time_points → slice_index after.new k
         ≡ cond ((bound.node.0 == k) && is_plain (marks bound.label))
         (max (moment_of bound.least) (slice_index after.old k)) (slice_index after.old k) }
 {

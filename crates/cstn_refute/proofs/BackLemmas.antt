@@ -1,8 +1,9 @@
 -- What is printed of a refutation is read again.
-use Rattle.std.proofs.Common.{ℕ, ◌≡◌, ◌+◌, ◌<◌, ◌≤◌, ◌^◌, true, List, [], ◌∷◌, ◌++◌, length, min, arith, refl, ap, ◌∙◌, append_assoc, length-append}
+use Rattle.std.proofs.Common.{ℕ, ◌≡◌, ◌+◌, ◌-◌, ◌<◌, ◌≤◌, ◌^◌, true, List, [], ◌∷◌, ◌++◌, length, min, arith, refl, ap, ◌∙◌, append_assoc, length-append}
 use Rattle.std.specs.Prelude.{is_some, if◌then◌else◌, Option, Some, None, codes}
 use Rattle.std.specs.List.{All}
 use Rattle.std.proofs.lemmas.List.Elements.{All-get_or, All-head, All-tail}
+use Rattle.cstn_net.specs.Limits.{most_load}
 use Rattle.cstn_rules.specs.declared.entries.Why.{Why}
 use Rattle.cstn_rules.specs.declared.entries.Why.TheVariants.{Base, Chain, Wait}
 use Rattle.cstn_rules.specs.Derivations.{Entry}
@@ -56,15 +57,15 @@ word_back (Chain id i) rest is =
 word_back (Wait i j) rest is =
     placed_back (codes "wait") i j rest (λ found. Some (Wait found.0 found.1, found.2)) (word_part (codes "wait") (omega arith) refl) is.0 is.1 (λ bytes. refl)
 
-least_of : (k : ℕ) → k < 4194304 → min k 4194303 ≡ k
+least_of : (k : ℕ) → k < most_load → min k (most_load - 1) ≡ k
 least_of k small = grind arith
 
-is_place_back : (k : ℕ) → k < 4194304 → is_place k (printed_number k) ≡ true
+is_place_back : (k : ℕ) → k < most_load → is_place k (printed_number k) ≡ true
 is_place_back k small =
     ap (λ high. is_some (number_within k high (printed_number k))) (least_of k small)
     ∙ ap is_some (within_back k k k (omega arith) (omega arith) (omega arith))
 
-rule_back : (k : ℕ) (why : Why) (rest : List ℕ) → k < 4194304 → ArePlaces why →
+rule_back : (k : ℕ) (why : Why) (rest : List ℕ) → k < most_load → ArePlaces why →
     rule_read k (printed_number k ++ (32 ∷ printed_why why ++ 32 ∷ rest)) ≡ Some (why, rest)
 rule_back k why rest small is =
     ap (λ (o : Option (List ℕ × List ℕ)). o >>= (λ place. if is_place k place.0 then rule_of (part place.1) else None))
@@ -73,7 +74,7 @@ rule_back k why rest small is =
     ∙ word_back why rest is
 
 -- a step's line is read again
-step_back : (names : List (List ℕ)) (k : ℕ) (e : Entry) (label : List ℕ) → AreNames names → k < 4194304 → IsPrintableStep names e → label_read label ≡ Some e.bound.label →
+step_back : (names : List (List ℕ)) (k : ℕ) (e : Entry) (label : List ℕ) → AreNames names → k < most_load → IsPrintableStep names e → label_read label ≡ Some e.bound.label →
     step_read names k (step_with names k e label) ≡ Some e
 step_back names k e label are small is read =
     let bound : IsPrintableBound names e.bound = record { node = is.node; low = is.low; high = is.high; marks = is.marks } in
@@ -91,7 +92,7 @@ why_free (Wait i j) is =
     spaced (codes "wait") (printed_number i ++ 32 ∷ printed_number j) (free (codes "wait") (word_part (codes "wait") (omega arith) refl))
     (spaced (printed_number i) (printed_number j) (number_free i (omega (arith, is.0))) (number_free j (omega (arith, is.1))))
 
-step_free : (names : List (List ℕ)) (k : ℕ) (e : Entry) (label : List ℕ) → AreNames names → k < 4194304 → IsPrintableStep names e → label_read label ≡ Some e.bound.label →
+step_free : (names : List (List ℕ)) (k : ℕ) (e : Entry) (label : List ℕ) → AreNames names → k < most_load → IsPrintableStep names e → label_read label ≡ Some e.bound.label →
     IsFree (step_with names k e label)
 step_free names k e label are small is read =
     spaced (printed_number k ++ 32 ∷ printed_why e.why) (bound_with names e.bound label)
@@ -100,10 +101,10 @@ step_free names k e label are small is read =
 
 -- the lines of steps, in any order of marks, are read
 lines_read : (names : List (List ℕ)) (before : List Entry) (k : ℕ) (steps : List Entry) (text : List ℕ) → AreNames names → length before ≡ k →
-    k + length steps ≤ 4194304 → All (IsPrintableStep names) steps → AreLines names k steps text → AreLinesOf (step_lines names) before steps text
+    k + length steps ≤ most_load → All (IsPrintableStep names) steps → AreLines names k steps text → AreLinesOf (step_lines names) before steps text
 lines_read names before k [] text are long few each lines = lines
 lines_read names before k (e ∷ steps) text are long few each (label, rest, read, whole, lines) =
-    let small : k < 4194304 = omega (arith, few) in
+    let small : k < most_load = omega (arith, few) in
     let here = All-head (IsPrintableStep names) e steps each in
     let longer : length (before ++ e ∷ []) ≡ k + 1 = length-append before (e ∷ []) ∙ omega (arith, long) in (
       step_with names k e label,

@@ -1,8 +1,9 @@
 -- A text that says a load and steps is the printed one, but for the order of marks.
-use Rattle.std.proofs.Common.{ℕ, ◌≡◌, ◌+◌, ◌≤◌, Bool, true, false, List, [], ◌∷◌, ◌++◌, length, min, arith, refl, sym, ap, ◌∙◌, subst, append_assoc, length-append}
+use Rattle.std.proofs.Common.{ℕ, ◌≡◌, ◌+◌, ◌-◌, ◌≤◌, Bool, true, false, List, [], ◌∷◌, ◌++◌, length, min, arith, refl, sym, ap, ◌∙◌, subst, append_assoc, length-append}
 use Rattle.std.specs.Prelude.{is_some, if◌then◌else◌, bytes_eq, Option, Some, None, codes}
 use Rattle.std.proofs.lemmas.Option.{same_Some}
 use Rattle.std.proofs.lemmas.Slice.Eq.{bytes_eq-Decides}
+use Rattle.cstn_net.specs.Limits.{most_load}
 use Rattle.cstn_rules.specs.declared.entries.Why.{Why}
 use Rattle.cstn_rules.specs.declared.entries.Why.TheVariants.{Base, Chain, Wait}
 use Rattle.cstn_rules.specs.Derivations.{Entry}
@@ -73,15 +74,15 @@ why_text false false true word rest found is other third e = wait_text word rest
 why_text false false false word rest found is other third e = absurd (cc)
 
 is_place_text : (k : ℕ) (text : List ℕ) → is_place k text ≡ true → text ≡ printed_number k
-is_place_text k text e = at (number_within k (min k 4194303) text) refl e
+is_place_text k text e = at (number_within k (min k (most_load - 1)) text) refl e
   where
-    only : (k n : ℕ) → k ≤ n → n ≤ min k 4194303 → n ≡ k
+    only : (k n : ℕ) → k ≤ n → n ≤ min k (most_load - 1) → n ≡ k
     only k n p q = grind arith
 
-    at : (o : Option ℕ) → o ≡ number_within k (min k 4194303) text → is_some o ≡ true → text ≡ printed_number k
+    at : (o : Option ℕ) → o ≡ number_within k (min k (most_load - 1)) text → is_some o ≡ true → text ≡ printed_number k
     at None from e = absurd (cc)
     at (Some n) from e =
-        let range = within_said k (min k 4194303) text n (sym from) in
+        let range = within_said k (min k (most_load - 1)) text n (sym from) in
         range.2 ∙ ap printed_number (only k n range.0 range.1)
 
 rule_text : (k : ℕ) (line : List ℕ) (found : Why × List ℕ) → rule_read k line ≡ Some found → line ≡ printed_number k ++ (32 ∷ printed_why found.0 ++ 32 ∷ found.1)

@@ -1,9 +1,10 @@
 -- What a text says can be written.
-use Rattle.std.proofs.Common.{ℕ, ◌≡◌, ◌+◌, ◌<◌, ◌≤◌, ◌^◌, Bool, true, false, List, [], ◌∷◌, ◌++◌, length, min, arith, refl, sym, subst, length-append}
+use Rattle.std.proofs.Common.{ℕ, ◌≡◌, ◌+◌, ◌-◌, ◌<◌, ◌≤◌, ◌^◌, Bool, true, false, List, [], ◌∷◌, ◌++◌, length, min, arith, refl, sym, subst, length-append}
 use Rattle.std.specs.Prelude.{is_some, if◌then◌else◌, bytes_eq, Option, Some, None, codes}
 use Rattle.std.specs.List.{All}
 use Rattle.std.proofs.lemmas.Option.{same_Some}
 use Rattle.std.proofs.lemmas.List.Elements.{All-nil, All-cons}
+use Rattle.cstn_net.specs.Limits.{most_load}
 use Rattle.cstn_rules.specs.declared.entries.Why.{Why}
 use Rattle.cstn_rules.specs.declared.entries.Why.TheVariants.{Base, Chain, Wait}
 use Rattle.cstn_rules.specs.Derivations.{Entry}
@@ -50,19 +51,19 @@ word_said false true wait rest found e = chain_said rest found e
 word_said false false true rest found e = wait_said rest found e
 word_said false false false rest found e = absurd (cc)
 
-least_most : (k n : ℕ) → k ≤ n → n ≤ min k 4194303 → k < 4194304
+least_most : (k n : ℕ) → k ≤ n → n ≤ min k (most_load - 1) → k < most_load
 least_most k n p q = grind arith
 
-is_place_said : (k : ℕ) (text : List ℕ) → is_place k text ≡ true → k < 4194304
-is_place_said k text e = at (number_within k (min k 4194303) text) refl e
+is_place_said : (k : ℕ) (text : List ℕ) → is_place k text ≡ true → k < most_load
+is_place_said k text e = at (number_within k (min k (most_load - 1)) text) refl e
   where
-    at : (o : Option ℕ) → o ≡ number_within k (min k 4194303) text → is_some o ≡ true → k < 4194304
+    at : (o : Option ℕ) → o ≡ number_within k (min k (most_load - 1)) text → is_some o ≡ true → k < most_load
     at None from e = absurd (cc)
     at (Some n) from e =
-        let found = within_said k (min k 4194303) text n (sym from) in
+        let found = within_said k (min k (most_load - 1)) text n (sym from) in
         least_most k n found.0 found.1
 
-rule_said : (k : ℕ) (line : List ℕ) (found : Why × List ℕ) → rule_read k line ≡ Some found → (k < 4194304) × ArePlaces found.0
+rule_said : (k : ℕ) (line : List ℕ) (found : Why × List ℕ) → rule_read k line ≡ Some found → (k < most_load) × ArePlaces found.0
 rule_said k line found e =
     let place = then_read (part line) _ found e in
     let rest = if_read (is_place k place.0.0) (part place.0.1 >>= (λ word. why_read word.0 word.1)) found place.2 in
@@ -70,7 +71,7 @@ rule_said k line found e =
     (is_place_said k place.0.0 rest.0, word_said (bytes_eq word.0.0 (codes "base")) (bytes_eq word.0.0 (codes "chain")) (bytes_eq word.0.0 (codes "wait")) word.0.1 found word.2)
 
 -- a step's line says a step that can be written
-pub step_said : (names : List (List ℕ)) (k : ℕ) (line : List ℕ) (e : Entry) → step_read names k line ≡ Some e → (k < 4194304) × IsPrintableStep names e
+pub step_said : (names : List (List ℕ)) (k : ℕ) (line : List ℕ) (e : Entry) → step_read names k line ≡ Some e → (k < most_load) × IsPrintableStep names e
 step_said names k line e is =
     let rule = then_read (rule_read k line) _ e is in
     let b = then_read (named_bound_read names rule.0.1) _ e rule.2 in
@@ -80,8 +81,8 @@ step_said names k line e is =
     (rules.0, subst (IsPrintableStep names) same (record { node = bound.node; low = bound.low; high = bound.high; marks = bound.marks; places = rules.1 }))
 
 -- what the lines that are left say can be written, and there are few enough
-lines_written : (names : List (List ℕ)) (before steps : List Entry) (text : List ℕ) → length before ≤ 4194304 → AreLines (step_lines names) before steps text →
-    (length before + length steps ≤ 4194304) × All (IsPrintableStep names) steps
+lines_written : (names : List (List ℕ)) (before steps : List Entry) (text : List ℕ) → length before ≤ most_load → AreLines (step_lines names) before steps text →
+    (length before + length steps ≤ most_load) × All (IsPrintableStep names) steps
 lines_written names before [] text few lines = (omega (arith, few), All-nil (IsPrintableStep names))
 lines_written names before (e ∷ steps) text few (line, rest, read, free, whole, lines) =
     let step = step_said names (length before) line e read in

@@ -1,4 +1,5 @@
--- Refutations, and their texts.
+-- Limits, refutations, and their texts.
+pub mod Limits
 pub mod Refutations
 pub mod Steps
 pub mod Texts

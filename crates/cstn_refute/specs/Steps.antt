@@ -1,7 +1,8 @@
 -- Steps as lines.
-use Rattle.std.specs.Prelude.{ℕ, ◌++◌, Bool, min, is_some, if◌then◌else◌, List, [], ◌∷◌, Option, None, Some, codes, bytes_eq, pos, slice_index_or}
+use Rattle.std.specs.Prelude.{ℕ, ◌-◌, ◌++◌, Bool, min, is_some, if◌then◌else◌, List, [], ◌∷◌, Option, None, Some, codes, bytes_eq, pos, slice_index_or}
 use Rattle.std.specs.Option.{option_and_then}
 use Rattle.cstn_label.specs.Bounds.{Bound}
+use Rattle.cstn_net.specs.Limits.{most_load}
 use Rattle.cstn_rules.specs.declared.entries.Why.{Why}
 use Rattle.cstn_rules.specs.declared.entries.Why.TheVariants.{Base, Chain, Wait}
 use Rattle.cstn_rules.specs.Derivations.{Entry}
@@ -9,6 +10,7 @@ use Rattle.cstn_text.specs.Numbers.{number_within, printed_number, printed_value
 use Rattle.cstn_text.specs.PrintedNames.{printed_name}
 use Rattle.cstn_text.specs.PrintedLabels.{label_read, printed_label}
 use Rattle.cstn_text.specs.Parts.{part, node_read}
+use Rattle.cstn_refute.specs.Limits.{most_least}
 
 infixl 20 ◌>>=◌
 -- what f gives from the value of o, if both are there
@@ -42,7 +44,7 @@ why_read word rest =
 -- a least value, a space, and a label
 abbrev pub bound_read : ℕ → List ℕ → Option Bound
 bound_read x bytes =
-    part bytes >>= (λ least. number_within 0 1000001 least.0 >>= (λ d. label_read least.1 >>= (λ a.
+    part bytes >>= (λ least. number_within 0 most_least least.0 >>= (λ d. label_read least.1 >>= (λ a.
     Some (record { node = x; least = pos d; label = a }))))
 
 -- the printed name of a time-point, a space, and the rest of its bound
@@ -51,7 +53,7 @@ named_bound_read names bytes = part bytes >>= (λ name. node_read names name.0 >
 
 -- whether the text is the number k, where k is below 4,194,304
 abbrev pub is_place : ℕ → List ℕ → Bool
-is_place k text = is_some (number_within k (min k 4194303) text)
+is_place k text = is_some (number_within k (min k (most_load - 1)) text)
 
 -- a step's rule and what follows, after its place k and a space
 abbrev pub rule_read : ℕ → List ℕ → Option (Why × List ℕ)

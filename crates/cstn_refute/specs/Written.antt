@@ -3,9 +3,11 @@ use Rattle.std.specs.Prelude.{ℕ, ◌≡◌, ◌<◌, ◌≤◌, ◌^◌, List,
 use Rattle.std.specs.List.{All}
 use Rattle.cstn_label.specs.declared.marks.Mark.TheVariants.{Absent}
 use Rattle.cstn_label.specs.Bounds.{Bound}
+use Rattle.cstn_net.specs.Limits.{most_load}
 use Rattle.cstn_rules.specs.declared.entries.Why.{Why}
 use Rattle.cstn_rules.specs.declared.entries.Why.TheVariants.{Base, Chain, Wait}
 use Rattle.cstn_rules.specs.Derivations.{Entry}
+use Rattle.cstn_refute.specs.Limits.{most_least}
 
 -- a rule's id and places are numbers below 2^32
 abbrev pub ArePlaces : Why → Type 0
@@ -17,21 +19,21 @@ ArePlaces (Wait i j) = (i < 2 ^ 32) × (j < 2 ^ 32)
 pub record IsPrintableBound (names : List (List ℕ)) (b : Bound) : Type 0 where
   pub node : b.node < length names
   pub low : pos 0 ≤ℤ b.least
-  pub high : b.least ≤ℤ pos 1000001
+  pub high : b.least ≤ℤ pos most_least
   pub marks : (p : ℕ) → 52 ≤ p → b.label p ≡ Absent
 
 -- the step is at a time-point that has a name, with a least value from 0 to 1,000,001 and marks on the 52 propositions alone
 pub record IsPrintableStep (names : List (List ℕ)) (e : Entry) : Type 0 where
   pub node : e.bound.node < length names
   pub low : pos 0 ≤ℤ e.bound.least
-  pub high : e.bound.least ≤ℤ pos 1000001
+  pub high : e.bound.least ≤ℤ pos most_least
   pub marks : (p : ℕ) → 52 ≤ p → e.bound.label p ≡ Absent
   pub places : ArePlaces e.why
 
 -- a load and steps that a text can say
 pub record AreWritten (names : List (List ℕ)) (load : ℕ) (steps : List Entry) : Type 0 where
   pub load_low : 1 ≤ load
-  pub load_high : load ≤ 4194304
+  pub load_high : load ≤ most_load
   pub some : 1 ≤ length steps
-  pub few : length steps ≤ 4194304
+  pub few : length steps ≤ most_load
   pub each : All (IsPrintableStep names) steps

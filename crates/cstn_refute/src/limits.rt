@@ -1,7 +1,6 @@
-// The limits of a text.
+// The limits of a step.
 
-/// How many steps there are at most.
-pub(crate) const MOST_STEPS: u32 = 4_194_304;
+use cstn_net::MAX_DEADLINE;
 
 /// The greatest least value of a step.
-pub(crate) const MOST_LEAST: u32 = 1_000_001;
+pub(crate) const MOST_LEAST: u32 = MAX_DEADLINE + 1;

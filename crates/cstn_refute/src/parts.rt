@@ -1,15 +1,19 @@
 // The parts of a step's line.
 ghost use Rattle.std.specs.Prelude.{◌≡◌, ◌<◌, ◌≤◌, IfSome, IsTrue, length, pos, ◌≤ℤ◌};
 ghost use Rattle.std.specs.Option.{option_map};
+ghost use Rattle.cstn_label.specs.Limits.{most_ids};
 ghost use Rattle.cstn_label.specs.Read.{the_bound};
+ghost use Rattle.cstn_net.specs.Limits.{most_load};
 ghost use Rattle.cstn_rules.specs.Read.{the_entry};
+ghost use Rattle.cstn_refute.specs.Limits.{most_least};
 ghost use Rattle.cstn_refute.specs.Refutations.{IsStep};
 ghost use Rattle.cstn_refute.specs.Steps.{place_read, places_read, chain_read, wait_read, why_read, is_place, rule_read, bound_read, named_bound_read};
 ghost use Rattle.cstn_refute.specs.Steps.{step_read};
 
-use crate::limits::{MOST_LEAST, MOST_STEPS};
+use crate::limits::MOST_LEAST;
 use cstn_label::{Bound, NodeId};
 use cstn_listing::{part, read_node};
+use cstn_net::MAX_LOAD;
 use cstn_rules::{Entry, Why};
 use cstn_text::{Names, read_label, read_number_within};
 
@@ -64,7 +68,7 @@ fn read_wait(bytes: &[u8]) -> Option<(Why, &[u8])>
 
 fn read_bound(node: NodeId, bytes: &[u8]) -> Option<Bound>
     ensures bound { option_map the_bound result ≡ bound_read node.0 bytes.now }
-    ensures step { IfSome result (λ b. (pos 0 ≤ℤ b.least) × (b.least ≤ℤ pos 1000001)) }
+    ensures step { IfSome result (λ b. (pos 0 ≤ℤ b.least) × (b.least ≤ℤ pos most_least)) }
 {
     let (least, label) = part(bytes)?;
     let least = read_number_within(0, MOST_LEAST, least)?;
@@ -78,15 +82,15 @@ fn read_bound(node: NodeId, bytes: &[u8]) -> Option<Bound>
 
 fn is_place(k: u32, bytes: &[u8]) -> bool
     ensures place { result ≡ is_place k bytes.now }
-    ensures few { IsTrue result → k < 4194304 }
+    ensures few { IsTrue result → k < most_load }
 {
-    read_number_within(k, k.min(MOST_STEPS - 1), bytes).is_some()
+    read_number_within(k, k.min(MAX_LOAD - 1), bytes).is_some()
 }
 
 // The rule in the line of the step at the place k, and what follows it, if the line begins so.
 fn read_rule(k: u32, line: &[u8]) -> Option<(Why, &[u8])>
     ensures rule { option_map (λ found. (found.0, found.1.now)) result ≡ rule_read k line.now }
-    ensures few { IfSome result (λ found. k < 4194304) }
+    ensures few { IfSome result (λ found. k < most_load) }
 {
     let (place, rest) = part(line)?;
     if !is_place(k, place) {
@@ -101,9 +105,9 @@ fn read_rule(k: u32, line: &[u8]) -> Option<(Why, &[u8])>
 /// The bound that a text writes: the printed name of a time-point, a least value from 0 to 1,000,001 and a label, with a space
 /// between; none where the text isn't of the form.
 pub fn read_named_bound(names: &Names, bytes: &[u8]) -> Option<Bound>
-    requires few { length names.now ≤ 65536 }
+    requires few { length names.now ≤ most_ids }
     ensures bound { option_map the_bound result ≡ named_bound_read names.now bytes.now }
-    ensures range { IfSome result (λ b. (pos 0 ≤ℤ b.least) × (b.least ≤ℤ pos 1000001)) }
+    ensures range { IfSome result (λ b. (pos 0 ≤ℤ b.least) × (b.least ≤ℤ pos most_least)) }
 {
     let (name, rest) = part(bytes)?;
     let node = read_node(names, name)?;
@@ -112,10 +116,10 @@ pub fn read_named_bound(names: &Names, bytes: &[u8]) -> Option<Bound>
 
 /// The step that a line says, if it is the line of a step at the place k.
 pub(crate) fn read_step(names: &Names, k: u32, line: &[u8]) -> Option<Entry>
-    requires few { length names.now ≤ 65536 }
+    requires few { length names.now ≤ most_ids }
     ensures step { option_map the_entry result ≡ step_read names.now k line.now }
     ensures form { IfSome result IsStep }
-    ensures few { IfSome result (λ step. k < 4194304) }
+    ensures few { IfSome result (λ step. k < most_load) }
 {
     let (why, rest) = read_rule(k, line)?;
     let bound = read_named_bound(names, rest)?;

@@ -1,6 +1,8 @@
 // Refutations read from their texts.
 ghost use Rattle.std.specs.Prelude.{ℕ, ◌≡◌, ◌<◌, ◌≤◌, ◌+◌, Some, [], length, map, IfOk, IfErr};
 ghost use Rattle.std.specs.List.{All};
+ghost use Rattle.cstn_label.specs.Limits.{most_ids};
+ghost use Rattle.cstn_net.specs.Limits.{most_load};
 ghost use Rattle.cstn_rules.specs.Derivations.{Entry as TheEntry};
 ghost use Rattle.cstn_rules.specs.Read.{the_entry};
 ghost use Rattle.cstn_refute.specs.Refutations.{IsStep, the_steps};
@@ -24,7 +26,7 @@ impl Refutation {
     /// that ends without a step, or without its last LF, is wrong at the line that is missing or cut. Fails with `Memory` where
     /// memory is refused.
     pub fn read(alloc: Global, names: &Names, bytes: &[u8]) -> Result<Refutation, RefuteError>
-        requires few { length names.now ≤ 65536 }
+        requires few { length names.now ≤ most_ids }
         ensures accepted { IfOk result (λ r. told names.now bytes.now ≡ tells r.load (the_steps r)) }
         ensures line { IfErr result (IsWrong (told names.now bytes.now)) }
 
@@ -48,7 +50,7 @@ fn read_steps(
     load: u32,
     bytes: &[u8],
 ) -> Result<Refutation, RefuteError>
-    requires few { length names.now ≤ 65536 }
+    requires few { length names.now ≤ most_ids }
     ensures accepted { IfOk result (λ r. told_after (step_lines names.now) load [] (parts_at 10 bytes.now).0 (parts_at 10 bytes.now).1
         ≡ tells r.load (the_steps r)) }
     ensures line { IfErr result (IsWrong (told_after (step_lines names.now) load [] (parts_at 10 bytes.now).0 (parts_at 10 bytes.now).1)) }
@@ -72,11 +74,11 @@ fn read_steps(
 
 // The step at the place k, which this line says; or the number of the line, where it isn't of the form.
 fn read_next(names: &Names, k: u32, line: &[u8]) -> Result<Entry, RefuteError>
-    requires few { length names.now ≤ 65536 }
-    requires place { k ≤ 4194304 }
+    requires few { length names.now ≤ most_ids }
+    requires place { k ≤ most_load }
     ensures step { IfOk result (λ e. step_read names.now k line.now ≡ Some (the_entry e)) }
     ensures form { IfOk result IsStep }
-    ensures few { IfOk result (λ e. k < 4194304) }
+    ensures few { IfOk result (λ e. k < most_load) }
     ensures line { (next : TheEntry → Told) → IfErr result (IsWrong (or_wrong (step_read names.now k line.now) (k + 2) next)) }
 {
     match read_step(names, k, line) {
@@ -87,7 +89,7 @@ fn read_next(names: &Names, k: u32, line: &[u8]) -> Result<Entry, RefuteError>
 
 // The refutation of the load and the steps, if there is a step and the text ends behind the LF of the last one.
 fn finish(load: u32, steps: Vec<Entry>, left: &[u8]) -> Result<Refutation, RefuteError>
-    requires few { length steps.items ≤ 4194304 }
+    requires few { length steps.items ≤ most_load }
     requires each { All IsStep steps.items }
     ensures accepted { IfOk result (λ r. at_end is_some_listed load (map the_entry steps.items) left.now ≡ tells r.load (the_steps r)) }
     ensures line { IfErr result (IsWrong (at_end is_some_listed load (map the_entry steps.items) left.now)) }

@@ -1,6 +1,8 @@
 // The replay of a refutation's text.
 ghost use Rattle.std.specs.Prelude.{◌≡◌, ◌≤◌, ◌++◌, ℕ, List, length, IfOk, codes, decimal};
+ghost use Rattle.cstn_label.specs.Limits.{most_ids};
 ghost use Rattle.cstn_net.specs.Read.{the_network};
+ghost use Rattle.cstn_text.specs.Limits.{most_text};
 ghost use Rattle.cstn_refute.specs.Refutations.{the_steps};
 ghost use Rattle.cstn_reply.specs.Read.{the_said};
 ghost use Rattle.cstn_reply.specs.Texts.{say};
@@ -21,8 +23,8 @@ pub fn replay_text(
     names: &Names,
     text: &[u8],
 ) -> Result<Said, AllocError>
-    requires few { length names.now ≤ 65536 }
-    requires short { length text.now ≤ 1476395008 }
+    requires few { length names.now ≤ most_ids }
+    requires short { length text.now ≤ most_text }
     ensures said { IfOk result (λ said. IsReplayOf names.now text.now (the_network network.now) (the_said said)) }
 {
     match Refutation::read(alloc, names, text) {

@@ -6,6 +6,7 @@ use Rattle.cstn_label.specs.declared.marks.Mark.TheVariants.{Absent}
 use Rattle.cstn_label.specs.Labels.{Label, IsMarked, IsPlain, joined, without}
 use Rattle.cstn_label.specs.Bounds.{Bound, Dominates}
 use Rattle.cstn_label.proofs.LabelLemmas.{kept_without, absent_joined, plain_left}
+use Rattle.cstn_net.specs.Limits.{most_deadline}
 use Rattle.cstn_net.specs.Networks.{Network, IsWellFormed, IsConstraint, Constraint, Observes, count, limit}
 use Rattle.cstn_net.proofs.Knowledge.{one_observed}
 use Rattle.cstn_rules.specs.Rules.{base, finished, carried, awaited, without_own, IsBase, IsChain, IsWait, IsBoundOf}
@@ -84,7 +85,7 @@ waited net p seen b = (
 )
 
 -- a limit is at most 1,000,000
-pub limit_small : (net : Network) (x : ℕ) → IsWellFormed net → limit net x ≤ 1000000
+pub limit_small : (net : Network) (x : ℕ) → IsWellFormed net → limit net x ≤ most_deadline
 limit_small net zero good = omega arith
 limit_small net (suc x) good = good.in_time
 

@@ -3,6 +3,7 @@ ghost use Rattle.std.specs.List.{Contains};
 ghost use Rattle.cstn_label.specs.declared.marks.Mark.TheVariants.{Absent};
 ghost use Rattle.cstn_label.specs.Bounds.{Bound as TheBound};
 ghost use Rattle.cstn_label.specs.Read.{marks, the_bound};
+ghost use Rattle.cstn_net.specs.Limits.{most_reaction};
 ghost use Rattle.cstn_net.specs.Networks.{IsWellFormed, Observes, count, limit};
 ghost use Rattle.cstn_net.specs.Strategies.{Table, IsStrategy};
 ghost use Rattle.cstn_net.specs.Bounds.{HoldsIn};
@@ -98,7 +99,7 @@ fn wait_for(net: &Network, p: Prop, seen: &Bound, b: &Bound) -> Option<Bound>
 fn reaction(net: &Network, p: Prop) -> i32
     requires { (x : ℕ) × Observes (the_network net.now) x p.index }
     ensures reaction { result ≡ pos ((the_network net.now).reaction p.index) }
-    ensures range { result ≤ℤ pos 1000 }
+    ensures range { result ≤ℤ pos most_reaction }
 {
     network_is_well_formed(net);
     net.reaction(p) as i32

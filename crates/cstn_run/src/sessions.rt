@@ -1,5 +1,6 @@
 // Guided sessions: live lines are answered by a guide.
 ghost use Rattle.std.specs.Prelude.{◌≡◌, ◌≤◌, [], false, map, length, IfOk};
+ghost use Rattle.cstn_net.specs.Limits.{most_time_points};
 ghost use Rattle.cstn_net.specs.Networks.{count};
 ghost use Rattle.cstn_plan.specs.Plans.{the_bounds};
 ghost use Rattle.cstn_lift.specs.Lowered.{lowered};
@@ -45,7 +46,7 @@ impl RunSession {
     /// A session of a guide, under the names of its time-points. Fails for want of memory alone, and drops the guide then.
     pub fn start(alloc: Global, guide: Guide, names: &Names) -> Result<RunSession, AllocError>
         requires named { length names.now ≡ count (the_labelled guide.labelled).base }
-        requires few { length names.now ≤ 1024 }
+        requires few { length names.now ≤ most_time_points }
         ensures start { IfOk result (λ g. g ≡ record {
           labelled = guide.labelled;
           bounds = guide.bounds;

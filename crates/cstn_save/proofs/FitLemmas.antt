@@ -6,6 +6,7 @@ use Rattle.std.proofs.Math.Path.{fun_ext}
 use Rattle.std.proofs.lemmas.List.{length-append}
 use Rattle.cstn_label.specs.Marks.{is_marked}
 use Rattle.cstn_label.specs.Labels.{Label, IsPlain, joined}
+use Rattle.cstn_net.specs.Limits.{most_constraints}
 use Rattle.cstn_net.specs.Networks.{Network, Constraint, IsWellFormed}
 use Rattle.cstn_lift.specs.declared.errors.LiftError.{LiftError}
 use Rattle.cstn_lift.specs.Labelled.{Labelled, label_in}
@@ -112,7 +113,7 @@ module _ (deadline : ℕ) (os : List (Option ℕ)) (r s : ℕ → ℕ) (ds : Lis
 
 -- a labelled network is without a fault where it has few enough constraints once it is lowered
 abbrev pub HasNoFault : Labelled → Type 0
-HasNoFault m = IsLabelled m → length (lowered m).constraints ≤ 16384 → (e : LiftError) → HasLiftFault m e → ⊥
+HasNoFault m = IsLabelled m → length (lowered m).constraints ≤ most_constraints → (e : LiftError) → HasLiftFault m e → ⊥
 
 -- what is read back of a labelled network makes a labelled network
 pub fit_back : (m : Labelled) (names : List (List ℕ)) → ((n : Labelled) → HasNoFault n) → IsLabelled m → IsWellFormed (lowered m) → IsFit (parts m names)
@@ -120,7 +121,7 @@ fit_back m names law good small =
     let net : Network = m.base in
     let back : ℕ → ℕ = first_reaction observed_prop observed_reaction (timed_observations net) in
     let n : List (Option ℕ) → Labelled = λ os. read net.deadline os back net.reaction net.constraints m.labels in
-    let Fits : List (Option ℕ) → Type 0 = λ os. IsWellFormed (n os).base → IsLabelled (n os) × (length (lowered (n os)).constraints ≤ 16384) in
+    let Fits : List (Option ℕ) → Type 0 = λ os. IsWellFormed (n os).base → IsLabelled (n os) × (length (lowered (n os)).constraints ≤ most_constraints) in
     let here : Fits net.observes = λ base. (
       labelled_alike net.deadline net.observes back net.reaction net.constraints m.labels base good,
       omega (arith, lowered_count net.deadline net.observes back net.reaction net.constraints m.labels, small.few_constraints),

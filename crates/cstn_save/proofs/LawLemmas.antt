@@ -5,6 +5,7 @@ use Rattle.std.specs.Int.{w32}
 use Rattle.std.specs.List.{All}
 use Rattle.std.specs.Str.{is_utf8, IsUtf8}
 use Rattle.std.proofs.lemmas.Str.{IsUtf8-append, IsUtf8-from_is_utf8, is_utf8-from_IsUtf8}
+use Rattle.cstn_net.specs.Limits.{most_value, least_value}
 use Rattle.cstn_save.proofs.TextLemmas.{nodes_utf8, edges_utf8, edge_utf8, head_utf8, tail_utf8}
 use Rattle.std.proofs.lemmas.Bool.{false≢true}
 use Rattle.std.proofs.lemmas.List.{take_all, length-map}
@@ -61,10 +62,10 @@ given_of m names good is =
       props = λ i h. in_reach net i good.base;
     }
 
-below_top : (n : ℕ) → pos n ≤ℤ pos 1000000000 → n < 2 ^ 31
+below_top : (n : ℕ) → pos n ≤ℤ pos most_value → n < 2 ^ 31
 below_top n h = omega (arith, ints)
 
-above_bottom : (n : ℕ) → negsuc 999999999 ≤ℤ negsuc n → n < 2 ^ 31
+above_bottom : (n : ℕ) → least_value ≤ℤ negsuc n → n < 2 ^ 31
 above_bottom n h = omega (arith, ints)
 
 value_fits : (v : ℤ) → IsValue v → FitsSigned w32 v

@@ -7,6 +7,7 @@ use Rattle.std.specs.Int.{w32}
 use Rattle.std.specs.Str.Parse.{digits_value_after}
 use Rattle.std.proofs.lemmas.Bool.{and_parts}
 use Rattle.std.proofs.lemmas.Fmt.{digits_decimal, digits_value-decimal, decimal_nonempty, length-decimal-le}
+use Rattle.cstn_net.specs.Limits.{most_reaction}
 use Rattle.cstn_text.specs.Numbers.{printed_number, printed_value}
 use Rattle.cstn_text.proofs.NumberLemmas.{digits}
 use Rattle.cstn_markup.specs.Bytes.{number_after}
@@ -49,7 +50,7 @@ not_empty [] n some e = absurd (omega arith)
 not_empty (b ∷ bytes) n some e = e
 
 -- a reaction is read back
-pub reaction_back : (n : ℕ) → 0 < n → n ≤ 1000 → reaction_in (printed_number n) ≡ Some n
+pub reaction_back : (n : ℕ) → 0 < n → n ≤ most_reaction → reaction_in (printed_number n) ≡ Some n
 reaction_back n some soon =
     let n64 : n < 2 ^ 64 = omega arith in
     let short : length (decimal n) ≤ 4 = length-decimal-le 4 n (omega arith) (omega arith) n64 in

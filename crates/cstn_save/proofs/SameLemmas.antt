@@ -6,6 +6,7 @@ use Rattle.std.proofs.Math.Path.{fun_ext}
 use Rattle.std.proofs.lemmas.Bool.{eqb-true}
 use Rattle.std.proofs.lemmas.List.{length-map}
 use Rattle.std.proofs.lemmas.List.Elements.{All-tail, All-head, All-cons, All-nil, All-weaker}
+use Rattle.cstn_net.specs.Limits.{most_reaction}
 use Rattle.cstn_net.specs.Networks.{Network, Constraint, count, Observes, IsConstraint, IsWellFormed, IsValue}
 use Rattle.cstn_net.specs.declared.errors.NetError.{NetError}
 use Rattle.cstn_net.specs.Read.{first_reaction}
@@ -124,7 +125,7 @@ well_formed_back m names wf =
       };
       few_points = omega (arith, size, wf.few_points);
       letters = λ x p o. wf.letters x p (back x p o);
-      soon = λ x p o. subst (λ n. n ≤ 1000) (reacts x p o) (wf.soon x p (back x p o));
+      soon = λ x p o. subst (λ n. n ≤ most_reaction) (reacts x p o) (wf.soon x p (back x p o));
       few_constraints = omega (arith, numbered_length 0 (map drawn net.constraints), length-map net.constraints drawn, wf.few_constraints);
       ascending = λ i j d below inside. omega (arith, below, numbered_id 0 (map drawn net.constraints) i d (omega (arith, below, inside)), numbered_id 0 (map drawn net.constraints) j d inside);
       values = all_numbered (λ c. IsValue c.most) (λ i c h. h) 0 net.constraints wf.values;

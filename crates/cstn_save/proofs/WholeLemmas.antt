@@ -7,6 +7,7 @@ use Rattle.std.proofs.lemmas.Bool.{eqb-true}
 use Rattle.std.proofs.lemmas.Fmt.{decimal_nonempty}
 use Rattle.cstn_label.specs.Labels.{Label, IsPlain, empty}
 use Rattle.cstn_label.specs.declared.marks.Mark.TheVariants.{Absent}
+use Rattle.cstn_net.specs.Limits.{most_reaction}
 use Rattle.cstn_lift.specs.Labelled.{label_in}
 use Rattle.cstn_markup.specs.Bytes.{is_same}
 use Rattle.cstn_label.specs.Letters.{letter_of, prop_of}
@@ -43,7 +44,7 @@ letter_text p small =
 -- what a time-point observes is one of the 52 propositions, and its reaction is from 1 to 1,000 ticks
 abbrev pub IsInReach : Option Observation → Type 0
 IsInReach None = Unit {0}
-IsInReach (Some o) = (o.prop < 52) × (0 < o.reaction) × (o.reaction ≤ 1000)
+IsInReach (Some o) = (o.prop < 52) × (0 < o.reaction) × (o.reaction ≤ most_reaction)
 
 -- a label that a document can have: plain, and of the 52 letters
 pub record IsDocumentLabel (a : Label) : Type 0 where

@@ -7,6 +7,7 @@ use Rattle.std.proofs.lemmas.Int.{ints}
 use Rattle.std.proofs.lemmas.Nat.{mul-add-lt, div-mul-add, mod-mul-add}
 use Rattle.std.proofs.lemmas.List.{length-set, get_or-set_same, get_or-set_other}
 use Rattle.cstn_label.specs.Labels.{Scenario, Holds}
+use Rattle.cstn_net.specs.Limits.{most_deadline}
 use Rattle.cstn_net.specs.Networks.{Network, IsNetwork, IsWellFormed, Constraint, Observes, count, limit}
 use Rattle.cstn_net.specs.Strategies.{Table, Agrees, IsConsistent, IsDynamic}
 use Rattle.cstn_table.specs.Tables.{observed_props, row_of, scenario_of, row_at}
@@ -106,7 +107,7 @@ module _ (net : Network) (good : IsNetwork net) (moments : List ℕ) (low : IsLo
 
 -- the moments of a row are at most 1,000,000
 pub row_small : (net : Network) → IsWellFormed net → (moments : List ℕ) → IsLow net moments → (row x : ℕ) → row < rows net →
-    x < count net → row_at (count net) moments row x ≤ 1000000
+    x < count net → row_at (count net) moments row x ≤ most_deadline
 row_small net good moments low row zero r here = let within = row_within net good.network moments low row zero r here in omega arith
 row_small net good moments low row (suc x) r here =
     let within = row_within net good.network moments low row (suc x) r here in

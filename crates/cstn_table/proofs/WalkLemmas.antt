@@ -2,6 +2,7 @@
 use Rattle.std.proofs.Common.{ℕ, zero, suc, ◌≡◌, inl, inr, ◌+◌, ◌<◌, ◌≤◌, Bool, true, false, ◌||◌, Option, Some, None, IfSome, List, [], ◌∷◌, length, get_or, set, map, arith, refl, sym, subst, ◌∙◌, ap}
 use Rattle.std.proofs.lemmas.Bool.{cases_lt}
 use Rattle.std.proofs.lemmas.List.{get_or-map}
+use Rattle.cstn_net.specs.Limits.{most_deadline}
 use Rattle.cstn_net.specs.declared.constraints.Constraint.{Constraint}
 use Rattle.cstn_net.specs.Networks.{Network, Constraint as TheConstraint}
 use Rattle.cstn_net.specs.Read.{the_constraint}
@@ -68,7 +69,7 @@ one_more net Q k before between now a b h g =
     (both_walks net (λ ts. (i : ℕ) → i < k → Q i ts) (Q k) before between now a b h g)
 
 -- with a moment raised there is less room
-pub less_room : (ts : List ℕ) (i t : ℕ) → i < length ts → get_or ts i 0 < t → t ≤ 1000000 → room (set ts i t) < room ts
+pub less_room : (ts : List ℕ) (i t : ℕ) → i < length ts → get_or ts i 0 < t → t ≤ most_deadline → room (set ts i t) < room ts
 less_room [] i t inside later within = absurd (omega arith)
 less_room (u ∷ ts) zero t inside later within = omega arith
 less_room (u ∷ ts) (suc i) t inside later within =

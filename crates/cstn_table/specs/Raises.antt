@@ -3,6 +3,7 @@ use Rattle.std.specs.Prelude.{ℕ, ◌≡◌, ◌+◌, ◌-◌, ◌*◌, ◌^◌
 use Rattle.std.specs.List.{Contains}
 use Rattle.cstn_label.specs.declared.props.Prop.{Prop}
 use Rattle.cstn_label.specs.Labels.{Scenario, Holds}
+use Rattle.cstn_net.specs.Limits.{most_deadline}
 use Rattle.cstn_net.specs.Networks.{Network, Constraint, count}
 use Rattle.cstn_net.specs.Strategies.{Table, Agrees, IsTable, IsStrategy, IsLeast, Meets}
 use Rattle.cstn_table.specs.Tables.{observed_props, scenario_of, row_at, table_of}
@@ -35,7 +36,7 @@ pub record IsLow (net : Network) (moments : List ℕ) : Type 0 where
 -- how far the moments can rise, added up over all of them
 abbrev pub room : List ℕ → ℕ
 room [] = 0
-room (t ∷ ts) = (1000000 - t) + room ts
+room (t ∷ ts) = (most_deadline - t) + room ts
 
 -- what is true after a walk over the moments: they are low; where `raised`, one has risen, so there is less room; otherwise
 -- all stayed, and `Quiet` holds, which says that nothing the walk looked at raises a moment

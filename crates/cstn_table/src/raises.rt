@@ -1,6 +1,7 @@
 // Raises of moments by constraints.
 ghost use Rattle.std.specs.Prelude.{ℕ, ◌<◌, ◌≤◌, ◌-ℤ◌, ◌≤ℤ◌, pos, ◌↔◌, IfNone, IfSome};
 ghost use Rattle.std.specs.List.{Contains};
+ghost use Rattle.cstn_net.specs.Limits.{most_deadline};
 ghost use Rattle.cstn_net.specs.Networks.{Constraint as TheConstraint, IsValue, count};
 ghost use Rattle.cstn_net.specs.Strategies.{IsConsistent};
 ghost use Rattle.cstn_net.specs.Read.{the_network, the_constraint, IsInRange};
@@ -35,7 +36,7 @@ pub fn raise(net: &Network, moments: &mut [u32], row: usize, x: NodeId, least: u
 
 // The earliest moment for the start of a constraint whose end is at the moment `end`.
 fn earliest_start(end: u32, most: i32) -> u32
-    requires end { end ≤ 1000000 }
+    requires end { end ≤ most_deadline }
     requires most { IsValue most }
     ensures { (t : ℕ) → ((pos end -ℤ pos t) ≤ℤ most ↔ (result ≤ t)) }
 {

@@ -1,4 +1,5 @@
--- What stands in a line: names, numbers, labels.
+-- Limits, and what stands in a line: names, numbers, labels.
+pub mod Limits
 pub mod Names
 pub mod Numbers
 pub mod PrintedNames

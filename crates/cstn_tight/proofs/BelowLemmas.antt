@@ -3,6 +3,7 @@ use Rattle.std.proofs.Common.{ℕ, ◌≡◌, ◌<◌, ◌+◌, ◌-◌, Bool, t
 use Rattle.std.specs.Prelude.{pos}
 use Rattle.std.proofs.lemmas.List.{length-take-le, take-map}
 use Rattle.std.proofs.lemmas.Option.{slice_get_within}
+use Rattle.cstn_net.specs.Limits.{most_load}
 use Rattle.cstn_net.specs.Networks.{Network, IsWellFormed}
 use Rattle.cstn_net.specs.Strategies.{IsConsistent}
 use Rattle.cstn_rules.specs.declared.entries.Entry.{Entry as DeclaredEntry}
@@ -47,7 +48,7 @@ module _ (net : Network) (good : IsWellFormed net) (consistent : IsConsistent ne
       over true stands = refl
       over false stands = absurd (greatest_refuted net good consistent deadline (greatest_of (log_of net) place deadline f is) some (stands refl))
 
-  module _ (few : place < 4194304) (entries steps : List DeclaredEntry) (whole : the_entries entries ≡ log_of net)
+  module _ (few : place < most_load) (entries steps : List DeclaredEntry) (whole : the_entries entries ≡ log_of net)
       (cut : the_entries steps ≡ part (the_entries (take (place + 1) entries))) where
     part_before : the_entries steps ≡ part (log_of (at_deadline net (deadline - 1)))
     part_before = cut ∙ ap part (sym (take-map the_entry (place + 1) entries) ∙ ap (take (place + 1)) whole ∙ sym before)

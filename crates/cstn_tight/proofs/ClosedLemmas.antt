@@ -10,6 +10,7 @@ use Rattle.std.proofs.lemmas.List.Elements.{Contains-get_or}
 use Rattle.cstn_label.specs.declared.bounds.Bound.{Bound as Declared}
 use Rattle.cstn_label.specs.Bounds.{Bound}
 use Rattle.cstn_label.specs.Read.{the_bound}
+use Rattle.cstn_net.specs.Limits.{most_deadline, most_load}
 use Rattle.cstn_net.specs.Networks.{Network, IsWellFormed, count, limit}
 use Rattle.cstn_net.specs.Strategies.{IsConsistent}
 use Rattle.cstn_rules.specs.Closed.{IsClosed}
@@ -66,7 +67,7 @@ pub some_live : (list : List Entry) → 1 ≤ length list → 1 ≤ length (live
 some_live [] some = absurd (omega arith)
 some_live (e ∷ es) some = live_some e es
 
-limit_in_time : (net : Network) → IsWellFormed net → (x : ℕ) → limit net x ≤ 1000000
+limit_in_time : (net : Network) → IsWellFormed net → (x : ℕ) → limit net x ≤ most_deadline
 limit_in_time net good zero = omega arith
 limit_in_time net good (suc x) = good.in_time
 
@@ -99,7 +100,7 @@ module _ (net : Network) (good : IsWellFormed net) where
 
   -- the list that is made of the plan
   pub closed_of : IsConsistent net → ((bounds : List Bound) → IsClosed net bounds → ((b : Bound) → Contains bounds b → IsBoundOf net b) → IsFaultless net bounds) →
-      (load : ℕ) (bounds : List Declared) → load ≡ load_of net → load ≤ 4194304 → map the_bound bounds ≡ live_bounds (log_of net) →
+      (load : ℕ) (bounds : List Declared) → load ≡ load_of net → load ≤ most_load → map the_bound bounds ≡ live_bounds (log_of net) →
       (r : Result ClosedParts AllocError) → IfOk r (λ c. c ≡ record { load = load; bounds = bounds }) → IfOk r (IsClosedOf net)
   closed_of consistent accepts load bounds load_is few live (Err e) is = tt
   closed_of consistent accepts load bounds load_is few live (Ok c) is =

@@ -2,6 +2,7 @@
 use Rattle.std.proofs.Common.{ℕ, ◌≡◌, ◌≤◌, ◌-◌, true, inl, inr, arith}
 use Rattle.std.specs.Prelude.{◌↔◌}
 use Rattle.std.proofs.lemmas.Bool.{cases_lt}
+use Rattle.cstn_net.specs.Limits.{most_deadline}
 use Rattle.cstn_net.specs.Networks.{Network, IsWellFormed}
 use Rattle.cstn_net.specs.Strategies.{IsConsistent}
 use Rattle.cstn_net.proofs.Kept.{later_deadline}
@@ -31,8 +32,8 @@ one_least net g h first second =
     omega arith
 
 module _ (net : Network) (good : IsWellFormed net) where
-  pub good_at_deadline : (h : ℕ) → h ≤ 1000000 → IsWellFormed (at_deadline net h)
+  pub good_at_deadline : (h : ℕ) → h ≤ most_deadline → IsWellFormed (at_deadline net h)
   good_at_deadline h upto = well_formed_by net h good upto
 
-  pub decided_at : (h : ℕ) → h ≤ 1000000 → (is_consistent (at_deadline net h) ≡ true) ↔ IsConsistent (at_deadline net h)
+  pub decided_at : (h : ℕ) → h ≤ most_deadline → (is_consistent (at_deadline net h) ≡ true) ↔ IsConsistent (at_deadline net h)
   decided_at h upto = decided (at_deadline net h) (good_at_deadline h upto)

@@ -8,6 +8,7 @@ use Rattle.std.proofs.lemmas.Option.{same_Some}
 use Rattle.cstn_label.specs.declared.bounds.Bound.{Bound as Declared}
 use Rattle.cstn_label.specs.Bounds.{Bound}
 use Rattle.cstn_label.specs.Read.{the_bound}
+use Rattle.cstn_net.specs.Limits.{most_deadline, most_load}
 use Rattle.cstn_net.specs.Networks.{Network, IsWellFormed, limit}
 use Rattle.cstn_net.specs.Strategies.{IsConsistent}
 use Rattle.cstn_rules.specs.declared.entries.Entry.{Entry as DeclaredEntry}
@@ -16,6 +17,7 @@ use Rattle.cstn_rules.specs.Derivations.{Entry}
 use Rattle.cstn_rules.specs.Rules.{IsBoundOf}
 use Rattle.cstn_rules.specs.Read.{the_entry}
 use Rattle.cstn_log.specs.Entries.{the_entries}
+use Rattle.cstn_refute.specs.Limits.{most_least}
 use Rattle.cstn_refute.specs.Refutations.{RefutationParts}
 use Rattle.cstn_check.specs.Growth.{log_of, load_of, live_bounds}
 use Rattle.cstn_check.specs.Verdicts.{IsRefutationOf}
@@ -45,11 +47,11 @@ module _ (net : Network) (good : IsWellFormed net) (entries : List DeclaredEntry
   there : (place : ℕ) (e : DeclaredEntry) → slice_get entries place ≡ Some e → slice_get (log_of net) place ≡ Some (the_entry e)
   there place e at = ap (λ l. slice_get l place) (sym whole) ∙ entry_at entries place e at
 
-  limit_small : (x : ℕ) → limit net x ≤ 1000000
+  limit_small : (x : ℕ) → limit net x ≤ most_deadline
   limit_small zero = omega arith
   limit_small (suc x) = good.in_time
 
-  pub range_at : (place : ℕ) (e : DeclaredEntry) → slice_get entries place ≡ Some e → (pos 0 ≤ℤ e.bound.least) × (e.bound.least ≤ℤ pos 1000001)
+  pub range_at : (place : ℕ) (e : DeclaredEntry) → slice_get entries place ≡ Some e → (pos 0 ≤ℤ e.bound.least) × (e.bound.least ≤ℤ pos most_least)
   range_at place e at =
       let range = (log_kept net good.network good.letters).ranged place (the_entry e) (there place e at) in
       let high = range.high in
@@ -74,7 +76,7 @@ module _ (net : Network) (good : IsWellFormed net) (entries : List DeclaredEntry
 module _ (net : Network) (good : IsWellFormed net) (consistent : IsConsistent net) (place deadline : ℕ)
     (f : IsFirstGreatest (log_of net) (load_of net) place) (is : f.entry.bound.least ≡ pos deadline) where
   pub tight_is : ((n : Network) (bounds : List Bound) → IsClosed n bounds → ((b : Bound) → Contains bounds b → IsBoundOf n b) → IsFaultless n bounds) →
-      (load : ℕ) (bounds : List Declared) (closed : ClosedParts) (refutation : Option RefutationParts) → load ≡ load_of net → load ≤ 4194304 →
+      (load : ℕ) (bounds : List Declared) (closed : ClosedParts) (refutation : Option RefutationParts) → load ≡ load_of net → load ≤ most_load →
       map the_bound bounds ≡ live_bounds (log_of net) → closed ≡ record { load = load; bounds = bounds } →
       (IsNone refutation ↔ (deadline ≡ 0)) → IfSome refutation (IsRefutationOf (at_deadline net (deadline - 1))) →
       IsTightOf net (record { deadline = deadline; closed = closed; refutation = refutation })

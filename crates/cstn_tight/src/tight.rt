@@ -1,6 +1,7 @@
 // The least deadline of a network, with its evidence.
 ghost use Rattle.std.specs.Prelude.{ℕ, ◌≡◌, ◌<◌, ◌≤◌, ◌-◌, ◌+◌, ◌↔◌, List, true, false, Some, length, pos, ◌≤ℤ◌, IfOk, IfSome, IsNone, IsOk, IsErrOf};
 ghost use Rattle.std.specs.List.{All};
+ghost use Rattle.cstn_net.specs.Limits.{most_load};
 ghost use Rattle.cstn_net.specs.Networks.{IsWellFormed, count};
 ghost use Rattle.cstn_net.specs.Strategies.{IsConsistent};
 ghost use Rattle.cstn_net.specs.Read.{the_network};
@@ -39,7 +40,7 @@ pub struct Tight {
 /// first entry with the greatest least value, and its ancestors. The network is dropped, also on failure.
 pub fn least(alloc: Global, net: Network, cap: u32) -> Result<Tight, TightError>
     requires some { 1 ≤ cap }
-    requires most { cap ≤ 4194304 }
+    requires most { cap ≤ most_load }
 
     // But for want of memory, it fails exactly where the network isn't consistent or a log is full.
     ensures no { (r : RefutationParts) → IsErrOf result (TightError.No r)
@@ -110,7 +111,7 @@ fn refutation_before(
 ) -> Result<Option<Refutation>, AllocError>
     requires yes { (load : ℕ) × (check.now.verdict ≡ Some (Verdict.Yes load)) }
     requires consistent { IsConsistent (the_network check.now.net) }
-    requires few { place < 4194304 }
+    requires few { place < most_load }
     requires first { (f : IsFirstGreatest (log_of (the_network check.now.net)) (load_of (the_network check.now.net)) place)
         × (f.entry.bound.least ≡ pos deadline) }
     ensures none { IfOk result (λ r. IsNone r ↔ (deadline ≡ 0)) }

@@ -1,6 +1,7 @@
 -- The texts of verdicts stand for them.
 use Rattle.std.proofs.Common.{◌≡◌, ℕ, ◌≤◌, Bool, true, false, List, refl, sym, subst, inl, inr, arith}
 use Rattle.std.specs.Prelude.{◌⊎◌, nat_lt, if◌then◌else◌, Option}
+use Rattle.cstn_net.specs.Limits.{most_load}
 use Rattle.cstn_net.specs.Networks.{Network, IsWellFormed}
 use Rattle.cstn_net.specs.Strategies.{IsConsistent}
 use Rattle.cstn_check.specs.Growth.{is_refuted, log_of, load_of}
@@ -15,10 +16,9 @@ use Rattle.cstn_documents.specs.Documents.{HasNetwork, IsRefused}
 use Rattle.cstn_check.specs.Decisions.{verdict}
 use Rattle.cstn_top.proofs.Standing.{NoAccepted, IsOfDocument, StandsFor, not_above, never_decided}
 use Rattle.cstn_top.proofs.Documents.{document_says, document_then}
-use Rattle.cstn_words.specs.Limits.{most_cap}
 
 -- what is said of a verdict stands for it, where what follows yes does
-pub plan_stands : NoAccepted → (Shows : List ℕ → Type 0) (cap : ℕ) (names : List (List ℕ)) (net : Network) (after_yes : Plan) (live : List ℕ) (said : Said) → IsOfDocument names net → cap ≤ most_cap →
+pub plan_stands : NoAccepted → (Shows : List ℕ → Type 0) (cap : ℕ) (names : List (List ℕ)) (net : Network) (after_yes : Plan) (live : List ℕ) (said : Said) → IsOfDocument names net → cap ≤ most_load →
     (IsConsistent net → IsOutput after_yes live said → StandsFor Shows (IsNoText names net) said) → IsOutput (on_verdict cap names net after_yes (verdict cap net)) live said → StandsFor Shows (IsNoText names net) said
 plan_stands no_text Shows cap names net after_yes live said of capped yes' output = by_tests (nat_lt cap (load_of net)) (is_refuted net (log_of net)) refl refl output
   where

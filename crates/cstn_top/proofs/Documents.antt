@@ -7,6 +7,7 @@ use Rattle.cstn_element.specs.Results.{Refusal as DocumentRefusal}
 use Rattle.cstn_graphml.specs.Document.{Parts, document}
 use Rattle.cstn_graphml.specs.Networks.{observed_prop, network_of, labelled_of, IsFit}
 use Rattle.cstn_reply.specs.Texts.{Said, say}
+use Rattle.cstn_documents.specs.Limits.{most_document}
 use Rattle.cstn_top.specs.Plans.{says, unlabelled, IsOutput, MayTalk}
 use Rattle.cstn_top.specs.Answers.{Answer, LabelledAnswer, of_plain, judged, on_labelled, on_document}
 use Rattle.cstn_documents.specs.Documents.{AreUnlabelled}
@@ -17,7 +18,6 @@ use Rattle.cstn_top.proofs.DocumentNames.{document_names}
 use Rattle.cstn_top.proofs.ReadBack.{numbered_ids}
 use Rattle.cstn_top.proofs.Standing.{IsOfDocument}
 use Rattle.cstn_top.proofs.Edited.{document_named}
-use Rattle.cstn_documents.specs.Limits.{most_document}
 
 -- what is said of a document: it is refused, or this is said of its labelled network
 pub labelled_says : (answer : LabelledAnswer) (bytes : List ℕ) (deadline : Option ℕ) (live : List ℕ) (said : Said) → IsOutput (on_labelled answer bytes deadline) live said → ((said.outcome ≡ Document) × IsNoDocument bytes deadline) ⊎ HasLabelled bytes deadline (λ names m. IsOutput (answer names m) live said)

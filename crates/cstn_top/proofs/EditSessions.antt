@@ -10,6 +10,7 @@ use Rattle.std.proofs.lemmas.Slice.Eq.{bytes_eq-Decides}
 use Rattle.std.proofs.lemmas.List.Quantifiers.{position-Some}
 use Rattle.cstn_label.specs.Marks.{is_plain}
 use Rattle.cstn_label.specs.Labels.{Label}
+use Rattle.cstn_net.specs.Limits.{most_constraints, most_edits}
 use Rattle.cstn_net.specs.Networks.{Network, Constraint, IsWellFormed, count}
 use Rattle.cstn_text.specs.Names.{number_of}
 use Rattle.cstn_rules.specs.Derivations.{Entry, IsRefutation}
@@ -41,8 +42,6 @@ use Rattle.cstn_top.specs.Lines.{AreAnswered}
 use Rattle.cstn_top.proofs.ReadBack.{StepsBack}
 use Rattle.cstn_top.proofs.EditTexts.{next_small, kept_text}
 use Rattle.cstn_top.specs.EditSessions.{EditedNetwork, unedited, may_add, may_remove, may_change, after_add, after_edit, after_lines, network_after, SaysYes, SaysNo, SaysFull, AnswersCheck, IsNoCheck, IsAtLastCheck}
-use Rattle.cstn_documents.specs.Limits.{most_constraints}
-use Rattle.cstn_top.specs.Limits.{most_edits}
 
 -- ---- the network as edited
 

@@ -10,7 +10,9 @@ use Rattle.cstn_label.specs.declared.marks.Mark.{Mark}
 use Rattle.cstn_label.specs.declared.marks.Mark.TheVariants.{Absent, Yes, No, Unknown}
 use Rattle.cstn_label.specs.Bounds.{Bound}
 use Rattle.cstn_label.specs.Labels.{Label}
+use Rattle.cstn_net.specs.Limits.{most_load, most_edits}
 use Rattle.cstn_net.specs.Networks.{Network, Constraint, IsWellFormed, IsOnObserved, count, limit}
+use Rattle.cstn_text.specs.Limits.{most_text}
 use Rattle.cstn_rules.specs.declared.entries.Why.{Why}
 use Rattle.cstn_rules.specs.declared.entries.Why.TheVariants.{Base, Chain, Wait}
 use Rattle.cstn_rules.specs.Derivations.{Entry, Follows, IsRefutation}
@@ -36,9 +38,6 @@ use Rattle.cstn_top.proofs.Listing.{limit_in_time}
 use Rattle.cstn_top.proofs.Lengths.{steps_text_short}
 use Rattle.cstn_top.proofs.ReadBack.{StepsBack, no_refutation}
 use Rattle.cstn_top.specs.EditSessions.{EditedNetwork, unedited, after_adding, after_removing, after_changing, after_add, after_edit, after_lines}
-use Rattle.cstn_words.specs.Limits.{most_cap}
-use Rattle.cstn_documents.specs.Limits.{most_text}
-use Rattle.cstn_top.specs.Limits.{most_edits}
 
 -- ---- ids stay numbers of 32 bits
 
@@ -111,7 +110,7 @@ replay_accepted net steps refutation live said = (only, λ same. inl (refutation
     only (inr found) = absurd (no_refutation net steps found.0 found.1 refutation)
 
 module _ (names : List (List ℕ)) (net : Network) (good : IsWellFormed net) (named : length names ≡ count net) (ids : HasIds net)
-    (list : List Entry) (kept : IsKept net list) (few : length list ≤ most_cap) (refutation : IsRefutation net list) where
+    (list : List Entry) (kept : IsKept net list) (few : length list ≤ most_load) (refutation : IsRefutation net list) where
   places_small : (steps : List Entry) (k : ℕ) (why : Why) (r : Bound) → k < 2 ^ 32 → Follows net steps k why r → ArePlaces why
   places_small steps k Base r below follows = tt
   places_small steps k (Chain id i) r below follows =

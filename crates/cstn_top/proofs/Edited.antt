@@ -6,6 +6,7 @@ use Rattle.std.proofs.lemmas.Option.{none-some, same_Some}
 use Rattle.std.proofs.lemmas.List.Quantifiers.{position-Some}
 use Rattle.cstn_label.specs.declared.marks.Mark.TheVariants.{Absent}
 use Rattle.cstn_label.specs.Labels.{Label}
+use Rattle.cstn_net.specs.Limits.{most_constraints}
 use Rattle.cstn_net.specs.Networks.{Network, IsWellFormed, count}
 use Rattle.cstn_net.specs.Strategies.{IsConsistent}
 use Rattle.cstn_io.specs.Contents.{IsAllOf}
@@ -37,7 +38,6 @@ use Rattle.cstn_reply.specs.Sessions.{Turn, more, last, wrong, on_turn, script, 
 use Rattle.cstn_edit.specs.Editing.{Editing, begun_editing, answered_edit, answered_add, answered_check, answered, edit_turn, edit_ending, ending_by, last_checked}
 use Rattle.cstn_reply.specs.declared.output.Outcome.{Outcome}
 use Rattle.cstn_reply.specs.declared.output.Outcome.TheVariants.{Good, Bad, Words, Document, Full, Unfinished, Script, Wide}
-use Rattle.cstn_documents.specs.Limits.{most_constraints}
 
 -- each time-point of a document has a name
 pub document_named : (bytes : List ℕ) (deadline : Option ℕ) (parts : Parts) → document bytes deadline ≡ Ok parts → length parts.names ≡ length parts.observes

@@ -10,6 +10,7 @@ use Rattle.cstn_label.specs.declared.marks.Mark.{Mark}
 use Rattle.cstn_label.specs.Bounds.{Bound}
 use Rattle.cstn_label.specs.Labels.{Scenario, MarkFits}
 use Rattle.cstn_label.proofs.LabelLemmas.{made_true, made_holds}
+use Rattle.cstn_net.specs.Limits.{most_constraints}
 use Rattle.cstn_net.specs.Networks.{Network, count}
 use Rattle.cstn_text.specs.Names.{number_of}
 use Rattle.cstn_lift.specs.Labelled.{Labelled}
@@ -165,8 +166,8 @@ module _ (s : Following) (sound : IsSound s) (x : ℕ) (here : x < count s.netwo
   abbrev refusal : Bool → Bool → Option (List ℕ)
   refusal possible place = if not possible then Some (line (refused_fact s.names (Undecided (node_of x)))) else if place then None else Some too_many
 
-  place_is : (net : Network) → has_place net ≡ true → length net.constraints < 16384
-  place_is net is = ltb-true (length net.constraints) 16384 is
+  place_is : (net : Network) → has_place net ≡ true → length net.constraints < most_constraints
+  place_is net is = ltb-true (length net.constraints) most_constraints is
 
   by_possible : s.history.done x ≡ None → (possible : Bool) → allows s.history (completed_label s.network x) ≡ possible
       → (place : Bool) → (has_place (left_now s).base && has_place (lowered (left_now s))) ≡ place

@@ -3,6 +3,7 @@ use Rattle.std.proofs.Common.{ℕ, ◌+◌, ◌≤◌, ◌<◌, ◌^◌, List, [
 use Rattle.std.specs.Prelude.{Option}
 use Rattle.std.specs.List.{All}
 use Rattle.std.proofs.lemmas.List.Elements.{All-nil, All-cons}
+use Rattle.cstn_net.specs.Limits.{most_constraints}
 use Rattle.cstn_net.specs.Networks.{Constraint}
 use Rattle.cstn_lift.specs.Labelled.{Labelled}
 use Rattle.cstn_lift.specs.Lowered.{numbered}
@@ -15,7 +16,7 @@ abbrev pub HasSmallId : Constraint → Type 0
 HasSmallId c = c.id < 2 ^ 31
 
 -- constraints that are numbered from k on
-pub small_numbers : (k : ℕ) (cs : List Constraint) → k + length (numbered k cs) ≤ 16384 → All HasSmallId (numbered k cs)
+pub small_numbers : (k : ℕ) (cs : List Constraint) → k + length (numbered k cs) ≤ most_constraints → All HasSmallId (numbered k cs)
 small_numbers k [] few = All-nil HasSmallId
 small_numbers k (c ∷ cs) few = All-cons HasSmallId (record c { id = k }) (numbered (k + 1) cs) (omega (arith, few)) (small_numbers (k + 1) cs (omega (arith, few)))
 

@@ -7,6 +7,7 @@ use Rattle.std.proofs.lemmas.Bool.{cases_eq}
 use Rattle.std.proofs.lemmas.List.Elements.{All-head, All-tail, All-weaker}
 use Rattle.cstn_label.specs.declared.nodes.NodeId.{NodeId}
 use Rattle.cstn_label.specs.declared.props.Prop.{Prop}
+use Rattle.cstn_net.specs.Limits.{most_constraints}
 use Rattle.cstn_net.specs.Networks.{count}
 use Rattle.cstn_net.specs.Strategies.{Table}
 use Rattle.cstn_text.specs.PrintedNames.{printed_name}
@@ -200,7 +201,7 @@ all_go s (first ∷ lines) sound can keep =
     (one.0, one.1, all_go one.0 lines (next_sound s one.0 first one.1.text sound one.1.answer) one.1.can (keep.1 one.1.text one.0 one.1.answer))
 
 pub plans_go_on : (cap : ℕ) (names : List (List ℕ)) (m : Labelled) (before lines : List (List ℕ)) (s : Following) → IsLabelled m
-    → length (lowered m).constraints ≤ 16384 → length names ≡ count m.base → state_after follow_turn (begun cap names m) 0 before ≡ Some s
+    → length (lowered m).constraints ≤ most_constraints → length names ≡ count m.base → state_after follow_turn (begun cap names m) 0 before ≡ Some s
     → Can s.network s.history → KeepToNext s lines → KeepGoing s lines
 plans_go_on cap names m before lines s good few named leads can keep =
     all_go s lines (lines_sound (begun cap names m) s 0 before (begun_sound cap names m good few named) leads) can keep

@@ -2,6 +2,7 @@
 use Rattle.std.proofs.Common.{ℕ, ℤ, ◌≡◌, ◌+◌, Bool, true, false, List, [], ◌∷◌, ◌++◌, Option, Some, None, refl, sym, subst, ◌∙◌}
 use Rattle.std.specs.Prelude.{nat_lt, if◌then◌else◌, codes, decimal}
 use Rattle.cstn_label.specs.Labels.{Label}
+use Rattle.cstn_net.specs.Limits.{most_deadline}
 use Rattle.cstn_text.specs.Names.{number_of}
 use Rattle.cstn_check.specs.declared.verdicts.Verdict.{Verdict}
 use Rattle.cstn_history.specs.Histories.{History}
@@ -72,7 +73,7 @@ line_keeps s (Some (came_at t p v)) sound is = fact_keeps s (came_at t p v) soun
 line_keeps s (Some (now_at t)) sound is = fact_keeps s (now_at t) sound tt (is (now_at t) refl)
 line_keeps s (Some (awaited_at t p)) sound is = fact_keeps s (awaited_at t p) sound tt (is (awaited_at t p) refl)
 line_keeps s (Some (edits edit)) sound is = plan_keeps s edit
-line_keeps s (Some (ends_by deadline)) sound is = deadline_keeps s deadline (nat_lt 1000000 deadline)
+line_keeps s (Some (ends_by deadline)) sound is = deadline_keeps s deadline (nat_lt most_deadline deadline)
 line_keeps s (Some asks_next) sound is = subst (KeepsPoints s) (sym (next_keeps s (verdict_now s))) (same s)
 line_keeps s (Some (asks_by name)) sound is = subst (KeepsPoints s) (sym (by_keeps s name (number_of s.names name))) (same s)
 line_keeps s (Some asks_blame) sound is = subst (KeepsPoints s) (sym (blame_keeps s (verdict_now s))) (same s)

@@ -3,6 +3,7 @@ use Rattle.std.proofs.Common.{ℕ, ℤ, ◌≡◌, Bool, true, false, List, ◌+
 use Rattle.std.specs.Prelude.{nat_lt, slice_index_or, if◌then◌else◌, codes, decimal}
 use Rattle.std.proofs.lemmas.Bool.{both_ways, eq-eqb}
 use Rattle.cstn_label.specs.Labels.{Label}
+use Rattle.cstn_net.specs.Limits.{most_deadline}
 use Rattle.cstn_text.specs.Names.{number_of}
 use Rattle.cstn_check.specs.declared.verdicts.Verdict.{Verdict}
 use Rattle.cstn_check.specs.declared.verdicts.Verdict.TheVariants.{Yes, No, Full}
@@ -89,7 +90,7 @@ module _ (s : Following) where
   line_stays (Some (now_at t)) sound is = fact_stays (now_at t) sound tt (is (now_at t) refl)
   line_stays (Some (awaited_at t p)) sound is = fact_stays (awaited_at t p) sound tt (is (awaited_at t p) refl)
   line_stays (Some (edits edit)) sound is = plan_stays edit
-  line_stays (Some (ends_by deadline)) sound is = deadline_stays deadline (nat_lt 1000000 deadline)
+  line_stays (Some (ends_by deadline)) sound is = deadline_stays deadline (nat_lt most_deadline deadline)
   line_stays (Some asks_next) sound is = stays s (on_next s) (next_keeps s (verdict_now s))
   line_stays (Some (asks_by name)) sound is = stays s (on_by s name) (by_keeps s name (number_of s.names name))
   line_stays (Some asks_blame) sound is = stays s (on_blame s) (blame_keeps s (verdict_now s))

@@ -13,6 +13,7 @@ use Rattle.cstn_label.specs.declared.marks.Mark.{Mark}
 use Rattle.cstn_label.specs.declared.marks.Mark.TheVariants.{Absent, Yes as YesMark, No as NoMark, Unknown}
 use Rattle.cstn_label.specs.Labels.{Label}
 use Rattle.cstn_label.specs.Marks.{is_marked}
+use Rattle.cstn_net.specs.Limits.{most_constraints, most_deadline}
 use Rattle.cstn_net.specs.Networks.{Network, Constraint, IsConstraint, IsOnObserved, IsValue, IsWellFormed, Observes, count}
 use Rattle.cstn_net.proofs.ListLemmas.{none_passes}
 use Rattle.cstn_net.proofs.WellFormed.{well_formed_by, well_formed_with}
@@ -206,7 +207,7 @@ observed net a small none p named = by_observer (observer_of net p) refl
 
 -- what holds of a constraint that is added
 record IsAccepted (s : Following) (most : ℤ) (a : Label) : Type 0 where
-  few : length s.network.base.constraints < 16384
+  few : length s.network.base.constraints < most_constraints
   value : is_value most ≡ true
   plain : is_plain a ≡ true
   observed : unobserved s.network.base a ≡ None
@@ -214,11 +215,11 @@ record IsAccepted (s : Following) (most : ℤ) (a : Label) : Type 0 where
 accepted : (s : Following) (most : ℤ) (a : Label) → add_refusal s.network.base s.edits most a ≡ None → IsAccepted s most a
 accepted s most a none =
     let one = none_refused (at_limit s.edits) _ _ none in
-    let two = none_refused (nat_le 16384 (length s.network.base.constraints)) _ _ one.1 in
+    let two = none_refused (nat_le most_constraints (length s.network.base.constraints)) _ _ one.1 in
     let three = none_refused (not (is_value most)) _ _ two.1 in
     let four = none_refused (not (is_plain a)) _ _ three.1 in
     record {
-      few = leb-false 16384 (length s.network.base.constraints) two.0;
+      few = leb-false most_constraints (length s.network.base.constraints) two.0;
       value = not-false (is_value most) three.0;
       plain = not-false (is_plain a) four.0;
       observed = none_mapped _ (unobserved s.network.base a) four.1;
@@ -281,7 +282,7 @@ change_sound s id most sound =
     (All-map (λ c. c.id < s.fresh) (with_value id most) cs
     (All-weaker (λ c. c.id < s.fresh) (λ c. (with_value id most c).id < s.fresh) (λ c below. (let same = same_id id most c in omega arith)) cs sound.above)))
 
-deadline_sound : (s : Following) (deadline : ℕ) → IsSound s → deadline ≤ 1000000 → IsSound (next_of (on_deadline s deadline))
+deadline_sound : (s : Following) (deadline : ℕ) → IsSound s → deadline ≤ most_deadline → IsSound (next_of (on_deadline s deadline))
 deadline_sound s deadline sound within =
     replan_sound s deadline s.network.base.constraints s.edits s.fresh (λ v. line (codes "deadline " ++ decimal deadline)) sound
     (well_formed_by s.network.base deadline sound.labelled.base within) sound.above
@@ -323,7 +324,7 @@ plan_sound s (removed id) sound is = remove_sound s id sound
 plan_sound s (changed id most) sound is = change_sound s id most sound
 plan_sound s asked sound is = subst IsSound (sym (check_keeps s (verdict_now s))) sound
 
-deadline_line_sound : (s : Following) (deadline : ℕ) (b : Bool) → IsSound s → deadline ≤ 1000000 → IsSound (next_of (if b then on_other s else on_deadline s deadline))
+deadline_line_sound : (s : Following) (deadline : ℕ) (b : Bool) → IsSound s → deadline ≤ most_deadline → IsSound (next_of (if b then on_other s else on_deadline s deadline))
 deadline_line_sound s deadline true sound within = sound
 deadline_line_sound s deadline false sound within = deadline_sound s deadline sound within
 
@@ -337,7 +338,7 @@ line_sound s (Some (came_at t p v)) sound is = fact_sound s (came_at t p v) soun
 line_sound s (Some (now_at t)) sound is = fact_sound s (now_at t) sound tt (is (now_at t) refl)
 line_sound s (Some (awaited_at t p)) sound is = fact_sound s (awaited_at t p) sound tt (is (awaited_at t p) refl)
 line_sound s (Some (edits edit)) sound is = plan_sound s edit sound (is (edits edit) refl)
-line_sound s (Some (ends_by deadline)) sound is = deadline_line_sound s deadline (nat_lt 1000000 deadline) sound (is (ends_by deadline) refl)
+line_sound s (Some (ends_by deadline)) sound is = deadline_line_sound s deadline (nat_lt most_deadline deadline) sound (is (ends_by deadline) refl)
 line_sound s (Some asks_next) sound is = subst IsSound (sym (next_keeps s (verdict_now s))) sound
 line_sound s (Some (asks_by name)) sound is = subst IsSound (sym (by_keeps s name (number_of s.names name))) sound
 line_sound s (Some asks_blame) sound is = subst IsSound (sym (blame_keeps s (verdict_now s))) sound
@@ -377,7 +378,7 @@ nothing_timely m good = record {
   in_time = record { now = omega arith; expected = λ p e is. absurd (cc); origin = λ p e is. absurd (cc) };
 }
 
-pub begun_sound : (cap : ℕ) (names : List (List ℕ)) (m : Labelled) → IsLabelled m → length (lowered m).constraints ≤ 16384 → length names ≡ count m.base → IsSound (begun cap names m)
+pub begun_sound : (cap : ℕ) (names : List (List ℕ)) (m : Labelled) → IsLabelled m → length (lowered m).constraints ≤ most_constraints → length names ≡ count m.base → IsSound (begun cap names m)
 begun_sound cap names m good few named =
     let fresh = above m.base.constraints in
     let room : HasRoom m = record { base = good.base.few_constraints; lowered = few } in

@@ -1,6 +1,7 @@
 -- The least deadline of a labelled network is that of the network it is lowered to.
 use Rattle.std.proofs.Common.{◌≡◌, ℕ, ◌≤◌, ◌-◌, refl, subst, inl, inr, arith}
 use Rattle.std.specs.Prelude.{◌⊎◌, ◌↔◌}
+use Rattle.cstn_net.specs.Limits.{most_deadline}
 use Rattle.cstn_net.specs.Networks.{Network}
 use Rattle.cstn_net.specs.Strategies.{IsConsistent}
 use Rattle.cstn_lift.specs.Labelled.{Labelled}
@@ -11,7 +12,6 @@ use Rattle.cstn_lift.proofs.Equivalent.{equivalent}
 use Rattle.cstn_tight.specs.Deadlines.{at_deadline, IsLeastDeadline}
 use Rattle.cstn_tight.proofs.LeastLemmas.{good_at_deadline}
 use Rattle.cstn_top.specs.LabelledDeadlines.{labelled_at, IsLabelledLeastDeadline}
-use Rattle.cstn_words.specs.Limits.{most_deadline}
 
 pub lowered_at : (m : Labelled) (h : ℕ) → lowered (labelled_at m h) ≡ at_deadline (lowered m) h
 unfolding guards_of

@@ -4,6 +4,7 @@ use Rattle.std.specs.Prelude.{◌⊎◌, Option, None, Some, Result, Ok, Err, Is
 use Rattle.std.specs.List.{All}
 use Rattle.std.proofs.lemmas.List.{length-map}
 use Rattle.std.proofs.lemmas.List.Elements.{All-nil, All-cons}
+use Rattle.cstn_net.specs.Limits.{most_constraints}
 use Rattle.cstn_net.specs.Networks.{Constraint, IsWellFormed, count}
 use Rattle.cstn_element.specs.Results.{Refusal as DocumentRefusal}
 use Rattle.cstn_graphml.specs.Document.{Parts, document}
@@ -24,7 +25,6 @@ use Rattle.cstn_top.proofs.DocumentNames.{document_names}
 use Rattle.cstn_top.proofs.Standing.{IsOfDocument}
 use Rattle.cstn_top.proofs.Documents.{labelled_says, labelled_talks}
 use Rattle.cstn_top.proofs.Edited.{document_named}
-use Rattle.cstn_documents.specs.Limits.{most_constraints}
 
 -- the ids of the constraints of a lowered network are numbers of 32 bits
 small_ids : (k : ℕ) (cs : List Constraint) → k + length (numbered k cs) ≤ most_constraints → All (λ (c : Constraint). c.id < 2 ^ 32) (numbered k cs)

@@ -4,6 +4,7 @@ use Rattle.std.specs.Prelude.{Result, Ok, IsSomeAnd, nat_lt, slice_get, slice_in
 use Rattle.std.specs.List.{All}
 use Rattle.std.proofs.lemmas.List.{append_cancel_right}
 use Rattle.std.proofs.lemmas.List.Elements.{All-weaker}
+use Rattle.cstn_net.specs.Limits.{most_constraints, most_load}
 use Rattle.cstn_net.specs.Networks.{Network, Constraint, IsWellFormed, Observes, count}
 use Rattle.cstn_text.specs.Names.{AreNames}
 use Rattle.cstn_lift.specs.Labelled.{Labelled}
@@ -23,12 +24,11 @@ use Rattle.cstn_check.specs.declared.verdicts.Verdict.TheVariants.{Yes, No, Full
 use Rattle.cstn_check.proofs.Deciding.{Tells, verdict_tells}
 use Rattle.cstn_refute.specs.Texts.{shown}
 use Rattle.cstn_words.specs.Requests.{Asked, replay}
-use Rattle.cstn_words.specs.Limits.{most_cap}
 use Rattle.cstn_reply.specs.Texts.{line}
 use Rattle.cstn_reply.specs.Sessions.{Turn, more, last, wrong}
 use Rattle.cstn_reply.specs.Reached.{state_after}
+use Rattle.cstn_documents.specs.Limits.{most_document}
 use Rattle.cstn_documents.specs.Documents.{parts_of, HasLabelled}
-use Rattle.cstn_documents.specs.Limits.{most_document, most_constraints}
 use Rattle.cstn_follow.specs.Following.{Following, begun, left_now, names_left, verdict_now}
 use Rattle.cstn_follow.specs.Hearing.{counted}
 use Rattle.cstn_follow.specs.Questions.{check_after}
@@ -87,7 +87,7 @@ module _ (one : OneJudgement) (no_text : NoAccepted) (backs : DocumentsBack) whe
       )))
 
   -- after a no the refutation is accepted on the document of what is left
-  pub left_passes : (s : Following) (load : ℕ) (file : List ℕ) → IsSound s → AreNamesOf s.network.base s.names → AreUnseen s.network.base → s.cap ≤ most_cap → verdict_now s ≡ No load
+  pub left_passes : (s : Following) (load : ℕ) (file : List ℕ) → IsSound s → AreNamesOf s.network.base s.names → AreUnseen s.network.base → s.cap ≤ most_load → verdict_now s ≡ No load
       → length (canonical (left_now s) (names_left s)) ≤ most_document → (asked : Asked) → asked.deadline ≡ None
       → IsAccepted (plan_at (replay asked file) (canonical (left_now s) (names_left s) ∷ shown (names_left s) load (part (log_of (lowered (left_now s)))) ∷ []))
   left_passes s load file sound named unseen capped refuted short asked plain =
@@ -107,7 +107,7 @@ module _ (one : OneJudgement) (no_text : NoAccepted) (backs : DocumentsBack) whe
 
   -- the answers to `check` and `rest`
   pub refutation_passes : (cap : ℕ) (names : List (List ℕ)) (m : Labelled) (lines : List (List ℕ)) (s t u : Following) (load : ℕ) (text bytes file : List ℕ) (asked : Asked) → IsLabelled m
-      → length (lowered m).constraints ≤ most_constraints → AreNamesOf m.base names → AreUnseen m.base → cap ≤ most_cap → state_after follow_turn (begun cap names m) 0 lines ≡ Some s → verdict_now s ≡ No load
+      → length (lowered m).constraints ≤ most_constraints → AreNamesOf m.base names → AreUnseen m.base → cap ≤ most_load → state_after follow_turn (begun cap names m) 0 lines ≡ Some s → verdict_now s ≡ No load
       → follow_turn s (codes "check") ≡ more (text ++ line (codes "end")) t → follow_turn s (codes "rest") ≡ more bytes u → length bytes ≤ most_document → asked.deadline ≡ None
       → IsAccepted (plan_at (replay asked file) (bytes ∷ text ∷ []))
   refutation_passes cap names m lines s t u load text bytes file asked good few named unseen capped leads refuted checked left_is short plain =
@@ -121,7 +121,7 @@ module _ (one : OneJudgement) (no_text : NoAccepted) (backs : DocumentsBack) whe
       let bytes_are : canonical (left_now s) (names_left s) ≡ bytes = ap text_of left_is in
       subst (λ (b : List ℕ). IsAccepted (plan_at (replay asked file) (b ∷ text ∷ []))) bytes_are
       (subst (λ (x : List ℕ). IsAccepted (plan_at (replay asked file) (canonical (left_now s) (names_left s) ∷ x ∷ []))) text_is
-      (left_passes s load file sound (named_still s keeps) (unseen_still s keeps) (subst (λ (c : ℕ). c ≤ most_cap) (sym keeps.cap) capped) refuted
+      (left_passes s load file sound (named_still s keeps) (unseen_still s keeps) (subst (λ (c : ℕ). c ≤ most_load) (sym keeps.cap) capped) refuted
       (subst (λ (b : List ℕ). length b ≤ most_document) (sym bytes_are) short) asked plain))
     where
       named_still : (s : Following) → KeepsPoints (begun cap names m) s → AreNamesOf s.network.base s.names

@@ -10,6 +10,8 @@ use Rattle.cstn_label.specs.declared.marks.Mark.TheVariants.{Absent, Yes, No, Un
 use Rattle.cstn_label.specs.Bounds.{Bound}
 use Rattle.cstn_label.specs.Labels.{Label}
 use Rattle.cstn_label.specs.Letters.{letter_of}
+use Rattle.cstn_net.specs.Limits.{most_load}
+use Rattle.cstn_text.specs.Limits.{most_text}
 use Rattle.cstn_rules.specs.declared.entries.Why.{Why}
 use Rattle.cstn_rules.specs.declared.entries.Why.TheVariants.{Base, Chain, Wait}
 use Rattle.cstn_rules.specs.Derivations.{Entry}
@@ -18,13 +20,12 @@ use Rattle.cstn_text.specs.Numbers.{printed_number, printed_value}
 use Rattle.cstn_text.specs.PrintedNames.{printed_name}
 use Rattle.cstn_text.specs.PrintedLabels.{printed_mark, marks_below, or_dash, printed_label}
 use Rattle.cstn_text.proofs.PrintedNameLemmas.{name_length}
+use Rattle.cstn_refute.specs.Limits.{most_least}
 use Rattle.cstn_refute.specs.Steps.{printed_why, printed_bound, printed_step}
 use Rattle.cstn_refute.specs.Texts.{printed_steps, shown as shown_steps}
 use Rattle.cstn_refute.specs.Written.{ArePlaces, IsPrintableStep as IsWrittenStep, AreWritten as AreWrittenSteps}
 use Rattle.cstn_closed.specs.Texts.{printed_bounds, shown as shown_bounds}
 use Rattle.cstn_closed.specs.Written.{IsPrintableBound as IsWrittenBound, AreWritten as AreWrittenBounds}
-use Rattle.cstn_words.specs.Limits.{most_cap}
-use Rattle.cstn_documents.specs.Limits.{most_text}
 
 mark_short : (letter : ℕ) (m : Mark) → length (printed_mark letter m) ≤ 2
 mark_short letter Absent = omega arith
@@ -44,7 +45,7 @@ dash_short (b ∷ bytes) n some short = short
 label_short : (a : Label) → length (printed_label a) ≤ 104
 label_short a = dash_short (marks_below a 52) 104 (omega arith) (marks_short a 52)
 
-value_short : (v : ℤ) → pos 0 ≤ℤ v → v ≤ℤ pos 1000001 → length (printed_value v) ≤ 7
+value_short : (v : ℤ) → pos 0 ≤ℤ v → v ≤ℤ pos most_least → length (printed_value v) ≤ 7
 value_short (pos n) low high = length-decimal-le 7 n (omega arith) (omega (arith, ints)) (omega (arith, ints))
 value_short (negsuc n) low high = absurd (omega (arith, ints))
 
@@ -62,7 +63,7 @@ three_parts xs ys zs n m = omega (arith, two_parts (xs ++ n ∷ ys) zs m, two_pa
 front_part : (front xs ys : List ℕ) (n : ℕ) → length (front ++ xs ++ n ∷ ys) ≡ length front + length xs + length ys + 1
 front_part front xs ys n = omega (arith, two_parts (front ++ xs) ys n, length-append front xs)
 
-bound_short : (names : List (List ℕ)) (b : Bound) → AreNames names → b.node < length names → pos 0 ≤ℤ b.least → b.least ≤ℤ pos 1000001 → length (printed_bound names b) ≤ 305
+bound_short : (names : List (List ℕ)) (b : Bound) → AreNames names → b.node < length names → pos 0 ≤ℤ b.least → b.least ≤ℤ pos most_least → length (printed_bound names b) ≤ 305
 bound_short names b are inside low high =
     within (length (printed_bound names b)) (length (printed_name (get_or names b.node []))) (length (printed_value b.least)) (length (printed_label b.label))
     (three_parts (printed_name (get_or names b.node [])) (printed_value b.least) (printed_label b.label) 32 32)
@@ -89,10 +90,10 @@ bounds_text_short names load bounds are written =
     (front_part (codes "yes ") (printed_number load) (printed_bounds names bounds) 10)
     (load_short load written.load_high) (bounds_short names bounds are written.each) written.few
   where
-    load_short : (load : ℕ) → load ≤ most_cap → length (printed_number load) ≤ 7
+    load_short : (load : ℕ) → load ≤ most_load → length (printed_number load) ≤ 7
     load_short load most = length-decimal-le 7 load (omega arith) (omega arith) (omega arith)
 
-    within : (whole l r n : ℕ) → whole ≡ 4 + l + r + 1 → l ≤ 7 → r ≤ 312 * n → n ≤ most_cap → whole ≤ most_text
+    within : (whole l r n : ℕ) → whole ≡ 4 + l + r + 1 → l ≤ 7 → r ≤ 312 * n → n ≤ most_load → whole ≤ most_text
     within whole l r n is a b few = omega arith
 
 number_short : (n : ℕ) → n < 2 ^ 32 → length (printed_number n) ≤ 10
@@ -110,7 +111,7 @@ why_short (Wait i j) places =
     spaced_short (length (printed_why (Wait i j))) 5 (length (printed_number i)) (length (printed_number j))
     (front_part (codes "wait ") (printed_number i) (printed_number j) 32) (omega arith) (number_short i places.0) (number_short j places.1)
 
-steps_short : (names : List (List ℕ)) (k : ℕ) (steps : List Entry) → AreNames names → All (IsWrittenStep names) steps → k + length steps ≤ most_cap → length (printed_steps names k steps) ≤ 342 * length steps
+steps_short : (names : List (List ℕ)) (k : ℕ) (steps : List Entry) → AreNames names → All (IsWrittenStep names) steps → k + length steps ≤ most_load → length (printed_steps names k steps) ≤ 342 * length steps
 steps_short names k [] are all few = omega arith
 steps_short names k (e ∷ steps) are all few =
     let here = All-get_or (IsWrittenStep names) (e ∷ steps) 0 e (omega arith) all in
@@ -120,7 +121,7 @@ steps_short names k (e ∷ steps) are all few =
     (place_short k (omega arith)) (why_short e.why here.places) (bound_short names e.bound are here.node here.low here.high)
     (steps_short names (k + 1) steps are (All-tail (IsWrittenStep names) e steps all) (omega arith))
   where
-    place_short : (k : ℕ) → k < most_cap → length (printed_number k) ≤ 7
+    place_short : (k : ℕ) → k < most_load → length (printed_number k) ≤ 7
     place_short k below = length-decimal-le 7 k (omega arith) (omega arith) (omega arith)
 
     within : (whole line p w b r n : ℕ) → whole ≡ line + r + 1 → line ≡ p + w + b + 2 → p ≤ 7 → w ≤ 27 → b ≤ 305 → r ≤ 342 * n → whole ≤ 342 * suc n
@@ -133,8 +134,8 @@ steps_text_short names load steps are written =
     (front_part (codes "no ") (printed_number load) (printed_steps names 0 steps) 10)
     (load_short load written.load_high) (steps_short names 0 steps are written.each (let few = written.few in omega arith)) written.few
   where
-    load_short : (load : ℕ) → load ≤ most_cap → length (printed_number load) ≤ 7
+    load_short : (load : ℕ) → load ≤ most_load → length (printed_number load) ≤ 7
     load_short load most = length-decimal-le 7 load (omega arith) (omega arith) (omega arith)
 
-    within : (whole l r n : ℕ) → whole ≡ 3 + l + r + 1 → l ≤ 7 → r ≤ 342 * n → n ≤ most_cap → whole ≤ most_text
+    within : (whole l r n : ℕ) → whole ≡ 3 + l + r + 1 → l ≤ 7 → r ≤ 342 * n → n ≤ most_load → whole ≤ most_text
     within whole l r n is a b few = omega arith

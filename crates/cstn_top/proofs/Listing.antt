@@ -7,11 +7,11 @@ use Rattle.std.proofs.lemmas.List.Elements.{Contains-get_or}
 use Rattle.cstn_label.specs.declared.bounds.Bound.{Bound as Declared}
 use Rattle.cstn_label.specs.Bounds.{Bound}
 use Rattle.cstn_label.specs.Read.{the_bound}
+use Rattle.cstn_net.specs.Limits.{most_deadline}
 use Rattle.cstn_net.specs.Networks.{Network, IsWellFormed, count, limit}
 use Rattle.cstn_rules.specs.Rules.{IsBoundOf}
 use Rattle.cstn_check.specs.Growth.{log_of, live_bounds}
 use Rattle.cstn_closed.specs.Written.{IsNamed}
-use Rattle.cstn_words.specs.Limits.{most_deadline}
 
 pub limit_in_time : (net : Network) → IsWellFormed net → (x : ℕ) → limit net x ≤ most_deadline
 limit_in_time net good zero = omega arith

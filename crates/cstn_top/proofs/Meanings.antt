@@ -4,6 +4,7 @@ use Rattle.std.specs.Prelude.{◌⊎◌, nat_lt, if◌then◌else◌, Option, No
 use Rattle.std.proofs.lemmas.List.{length-map}
 use Rattle.cstn_net.specs.Networks.{Network, IsWellFormed, count}
 use Rattle.cstn_net.specs.Strategies.{IsConsistent}
+use Rattle.cstn_text.specs.Limits.{most_text}
 use Rattle.cstn_element.specs.Results.{Refusal as DocumentRefusal}
 use Rattle.cstn_graphml.specs.Document.{Parts, document}
 use Rattle.cstn_graphml.specs.Networks.{observed_prop, network_of}
@@ -28,7 +29,6 @@ use Rattle.cstn_top.proofs.Documents.{document_says, document_talks}
 use Rattle.cstn_top.proofs.Edited.{document_named}
 use Rattle.cstn_check.specs.Verdicts.{is_consistent}
 use Rattle.cstn_check.proofs.Decides.{decided}
-use Rattle.cstn_documents.specs.Limits.{most_text}
 
 -- what follows of the network of a document, each of whose time-points has a name
 pub network_then : (bytes : List ℕ) (deadline : Option ℕ) (one other : List (List ℕ) → Network → Type 0) → HasNetwork bytes deadline one → ((names : List (List ℕ)) (net : Network) → IsWellFormed net → length names ≡ count net → one names net → other names net) → HasNetwork bytes deadline other

@@ -3,6 +3,7 @@ use Rattle.std.proofs.Common.{◌≡◌, ℕ, ◌<◌, List, [], ◌∷◌, leng
 use Rattle.std.specs.Prelude.{nat_lt, if◌then◌else◌, Option, codes}
 use Rattle.cstn_net.specs.Networks.{Network}
 use Rattle.cstn_net.specs.Read.{the_network}
+use Rattle.cstn_text.specs.Limits.{most_text}
 use Rattle.cstn_lift.specs.Read.{the_labelled}
 use Rattle.cstn_words.specs.Requests.{Asked, Request, check, run, edit, follow, closed, tight, conflict, tree, save, replay, closedcheck, treecheck, files_of}
 use Rattle.cstn_reply.specs.Texts.{Said, say}
@@ -38,7 +39,6 @@ use Rattle.cstn_top.specs.Prepared.{Planned}
 use Rattle.cstn_top.specs.Questions.{Asks, the_question}
 use Rattle.cstn_top.specs.declared.commands.questions.Question.{Question}
 use Rattle.cstn_top.proofs.Comes.{comes_itself, comes_to_text, accepted_comes, told_comes, labelled_comes, lowered_comes, refused_comes}
-use Rattle.cstn_documents.specs.Limits.{most_text}
 
 -- where a file is there, so is what was read of it, whatever the status
 pub one_read : (told : Option (List ℕ → Option (List ℕ))) (name : List ℕ) (status : Status) → AreThere told (name ∷ []) → AreThere told (files_read status (name ∷ []))

@@ -9,8 +9,10 @@ use Rattle.cstn_label.specs.declared.marks.Mark.{Mark}
 use Rattle.cstn_label.specs.declared.marks.Mark.TheVariants.{Absent, Yes, No, Unknown}
 use Rattle.cstn_label.specs.Bounds.{Bound}
 use Rattle.cstn_label.specs.Labels.{Label}
+use Rattle.cstn_net.specs.Limits.{most_constraints, most_load}
 use Rattle.cstn_net.specs.Networks.{Network, Constraint, IsWellFormed, IsOnObserved, count, limit}
 use Rattle.cstn_net.specs.Strategies.{IsConsistent}
+use Rattle.cstn_text.specs.Limits.{most_text}
 use Rattle.cstn_rules.specs.Closed.{IsClosed}
 use Rattle.cstn_rules.specs.declared.entries.Why.{Why}
 use Rattle.cstn_rules.specs.declared.entries.Why.TheVariants.{Base, Chain, Wait}
@@ -45,8 +47,6 @@ use Rattle.cstn_reply.specs.declared.output.Outcome.TheVariants.{Good, Script}
 use Rattle.cstn_tight.proofs.ClosedLemmas.{live_short, some_live}
 use Rattle.cstn_top.proofs.Listing.{limit_in_time}
 use Rattle.cstn_top.proofs.Lengths.{bounds_text_short, steps_text_short}
-use Rattle.cstn_words.specs.Limits.{most_cap}
-use Rattle.cstn_documents.specs.Limits.{most_constraints, most_text}
 
 -- the ids of the constraints of a document are numbers of 32 bits
 pub numbered_ids : (k : ℕ) (cs : List DrawnConstraint) → k + length (numbered_drawn k cs) ≤ most_constraints → All (λ (c : Constraint). c.id < 2 ^ 32) (numbered_drawn k cs)
@@ -69,7 +69,7 @@ some_load : (net : Network) → IsWellFormed net → 1 ≤ load_of net
 some_load net good = omega (arith, load_above net good, good.network.origin)
 
 -- the bounds of a yes can be written
-module _ (names : List (List ℕ)) (net : Network) (good : IsWellFormed net) (named : length names ≡ count net) (few : load_of net ≤ most_cap) where
+module _ (names : List (List ℕ)) (net : Network) (good : IsWellFormed net) (named : length names ≡ count net) (few : load_of net ≤ most_load) where
   bound_written : IsClosed net (live_bounds (log_of net)) → (b : Bound) → Contains (live_bounds (log_of net)) b → IsWrittenBound names b
   bound_written closed b has =
       let is = live_in_range net good b has in
@@ -185,7 +185,7 @@ abbrev pub StepsBack : Type 0
 StepsBack = (names : List (List ℕ)) (load : ℕ) (steps : List Entry) → AreNames names → AreWrittenSteps names load steps → told_steps names (shown_steps names load steps) ≡ tells_steps load steps
 
 -- the text of a yes is accepted
-pub yes_text : BoundsBack → (names : List (List ℕ)) (net : Network) → IsWellFormed net → AreNames names → length names ≡ count net → load_of net ≤ most_cap → IsConsistent net → IsYesText names net (shown_bounds names (load_of net) (live_bounds (log_of net)))
+pub yes_text : BoundsBack → (names : List (List ℕ)) (net : Network) → IsWellFormed net → AreNames names → length names ≡ count net → load_of net ≤ most_load → IsConsistent net → IsYesText names net (shown_bounds names (load_of net) (live_bounds (log_of net)))
 yes_text back names net good are named few consistent =
     let bounds = live_bounds (log_of net) in
     let text = shown_bounds names (load_of net) bounds in
@@ -196,7 +196,7 @@ yes_text back names net good are named few consistent =
     (subst (λ (t : ToldBounds). IsAccepted (certified_bounds names t net)) (sym told) (certificate_accepted names net bounds (listed_faultless net good consistent) closed))
 
 -- and so is the text of a no
-pub no_text : StepsBack → (names : List (List ℕ)) (net : Network) → IsWellFormed net → AreNames names → length names ≡ count net → HasIds net → load_of net ≤ most_cap → (IsConsistent net → ⊥) → IsNoText names net (shown_steps names (load_of net) (part (log_of net)))
+pub no_text : StepsBack → (names : List (List ℕ)) (net : Network) → IsWellFormed net → AreNames names → length names ≡ count net → HasIds net → load_of net ≤ most_load → (IsConsistent net → ⊥) → IsNoText names net (shown_steps names (load_of net) (part (log_of net)))
 no_text back names net good are named ids few never =
     let steps = part (log_of net) in
     let text = shown_steps names (load_of net) steps in

@@ -1,11 +1,13 @@
 -- What is written as evidence passes when it is handed in with the same document.
 use Rattle.std.proofs.Common.{◌≡◌, ℕ, ◌≤◌, Bool, true, false, List, [], ◌∷◌, length, refl, sym, ap, subst, inl, inr, arith}
 use Rattle.std.specs.Prelude.{nat_lt, if◌then◌else◌, Option, Result, Ok, Err, IsSomeAnd, codes}
+use Rattle.cstn_net.specs.Limits.{most_load}
 use Rattle.cstn_element.specs.Results.{Refusal as DocumentRefusal}
 use Rattle.cstn_graphml.specs.Document.{Parts, document}
 use Rattle.cstn_graphml.specs.Networks.{labelled_of, IsFit}
 use Rattle.cstn_words.specs.Requests.{Asked, check, run, closed, replay, closedcheck}
 use Rattle.cstn_reply.specs.Texts.{Said, say}
+use Rattle.cstn_documents.specs.Limits.{most_document}
 use Rattle.cstn_top.specs.Plans.{Plan, says, judges, IsOutput}
 use Rattle.cstn_top.specs.Answers.{LabelledAnswer, of_lowered, judged, on_labelled, by_text}
 use Rattle.cstn_top.specs.commands.Check.{checked}
@@ -25,8 +27,6 @@ use Rattle.cstn_top.proofs.records.Run.{run_proved}
 use Rattle.cstn_top.proofs.records.Closed.{closed_proved}
 use Rattle.cstn_top.proofs.OneOutput.{OneJudgement}
 use Rattle.cstn_top.proofs.Dispatched.{IsEvidence}
-use Rattle.cstn_words.specs.Limits.{most_cap}
-use Rattle.cstn_documents.specs.Limits.{most_document}
 
 -- a document that isn't refused isn't too long
 not_long : (answer : LabelledAnswer) (bytes : List ℕ) (deadline : Option ℕ) (live : List ℕ) (said : Said) → (said.outcome ≡ Document → ⊥) → IsOutput (on_labelled answer bytes deadline) live said → nat_lt most_document (length bytes) ≡ false
@@ -58,25 +58,25 @@ good_differs : (o : Outcome) → o ≡ Good → o ≡ Document → ⊥
 good_differs o is also = grind arith
 
 module _ (one : OneJudgement) (yes_text : YesAccepted) (no_text : NoAccepted) where
-  pub check_passes : (asked : Asked) (cap : ℕ) (file bytes live : List ℕ) (said : Said) → cap ≤ most_cap → IsOutput (plan_at (check asked cap) (bytes ∷ [])) live said → said.outcome ≡ Bad → IsAccepted (plan_at (replay asked file) (bytes ∷ said.text ∷ []))
+  pub check_passes : (asked : Asked) (cap : ℕ) (file bytes live : List ℕ) (said : Said) → cap ≤ most_load → IsOutput (plan_at (check asked cap) (bytes ∷ [])) live said → said.outcome ≡ Bad → IsAccepted (plan_at (replay asked file) (bytes ∷ said.text ∷ []))
   check_passes asked cap file bytes live said capped output no' =
       labelled_accepted one (of_lowered (by_text replayed said.text)) bytes asked.deadline
       (not_long (of_lowered (checked cap)) bytes asked.deadline live said (bad_differs said.outcome no') output)
       (subst (λ (o : Outcome). IsEvidence (check asked cap) (status_of o) said.text (bytes ∷ [])) no' ((check_proved asked cap).evidence yes_text no_text (bytes ∷ []) live said capped output))
 
-  pub run_passes : (asked : Asked) (cap : ℕ) (file bytes live : List ℕ) (said : Said) → cap ≤ most_cap → IsOutput (plan_at (run asked cap) (bytes ∷ [])) live said → said.outcome ≡ Bad → IsAccepted (plan_at (replay asked file) (bytes ∷ said.text ∷ []))
+  pub run_passes : (asked : Asked) (cap : ℕ) (file bytes live : List ℕ) (said : Said) → cap ≤ most_load → IsOutput (plan_at (run asked cap) (bytes ∷ [])) live said → said.outcome ≡ Bad → IsAccepted (plan_at (replay asked file) (bytes ∷ said.text ∷ []))
   run_passes asked cap file bytes live said capped output no' =
       labelled_accepted one (of_lowered (by_text replayed said.text)) bytes asked.deadline
       (not_long (carried_out cap) bytes asked.deadline live said (bad_differs said.outcome no') output)
       (subst (λ (o : Outcome). IsEvidence (run asked cap) (status_of o) said.text (bytes ∷ [])) no' ((run_proved asked cap).evidence yes_text no_text (bytes ∷ []) live said capped output))
 
-  pub closed_passes : (asked : Asked) (cap : ℕ) (file bytes live : List ℕ) (said : Said) → cap ≤ most_cap → IsOutput (plan_at (closed asked cap) (bytes ∷ [])) live said → said.outcome ≡ Bad → IsAccepted (plan_at (replay asked file) (bytes ∷ said.text ∷ []))
+  pub closed_passes : (asked : Asked) (cap : ℕ) (file bytes live : List ℕ) (said : Said) → cap ≤ most_load → IsOutput (plan_at (closed asked cap) (bytes ∷ [])) live said → said.outcome ≡ Bad → IsAccepted (plan_at (replay asked file) (bytes ∷ said.text ∷ []))
   closed_passes asked cap file bytes live said capped output no' =
       labelled_accepted one (of_lowered (by_text replayed said.text)) bytes asked.deadline
       (not_long (of_lowered (listed cap)) bytes asked.deadline live said (bad_differs said.outcome no') output)
       (subst (λ (o : Outcome). IsEvidence (closed asked cap) (status_of o) said.text (bytes ∷ [])) no' ((closed_proved asked cap).evidence yes_text no_text (bytes ∷ []) live said capped output))
 
-  pub bounds_pass : (asked : Asked) (cap : ℕ) (file bytes live : List ℕ) (said : Said) → cap ≤ most_cap → IsOutput (plan_at (closed asked cap) (bytes ∷ [])) live said → said.outcome ≡ Good → IsAccepted (plan_at (closedcheck asked file) (bytes ∷ said.text ∷ []))
+  pub bounds_pass : (asked : Asked) (cap : ℕ) (file bytes live : List ℕ) (said : Said) → cap ≤ most_load → IsOutput (plan_at (closed asked cap) (bytes ∷ [])) live said → said.outcome ≡ Good → IsAccepted (plan_at (closedcheck asked file) (bytes ∷ said.text ∷ []))
   bounds_pass asked cap file bytes live said capped output yes' =
       labelled_accepted one (of_lowered (by_text certified said.text)) bytes asked.deadline
       (not_long (of_lowered (listed cap)) bytes asked.deadline live said (good_differs said.outcome yes') output)

@@ -2,6 +2,7 @@
 use Rattle.std.proofs.Common.{◌≡◌, ℕ, ◌≤◌, ◌<◌, List, length, refl, sym, subst, inl, inr, arith}
 use Rattle.std.specs.Prelude.{nat_lt, if◌then◌else◌, Option, None, Some, codes}
 use Rattle.cstn_net.specs.Networks.{Network}
+use Rattle.cstn_text.specs.Limits.{most_text}
 use Rattle.cstn_check.specs.Growth.{log_of, load_of, live_bounds}
 use Rattle.cstn_check.specs.Decisions.{verdict, unless_yes, or_else, checked as checked_text}
 use Rattle.cstn_refute.specs.Texts.{Told as ToldSteps, tells as tells_steps, wrong as wrong_step, told as told_steps}
@@ -17,7 +18,6 @@ use Rattle.cstn_top.specs.commands.Check.{checked}
 use Rattle.cstn_top.specs.commands.Tree.{unfolded}
 use Rattle.cstn_top.specs.commands.Replay.{replayed_steps, replayed}
 use Rattle.cstn_top.specs.commands.Closedcheck.{certified_bounds, certified}
-use Rattle.cstn_documents.specs.Limits.{most_text}
 
 said_or : (o : Option Said) (said : Said) → says (or_else o said) ≡ unless_said o (says said)
 said_or None said = refl

@@ -7,9 +7,11 @@ use Rattle.std.proofs.lemmas.Bool.{cases_lt}
 use Rattle.std.proofs.lemmas.Option.{slice_get_within}
 use Rattle.cstn_label.specs.Labels.{Scenario}
 use Rattle.cstn_label.specs.Bounds.{Bound}
+use Rattle.cstn_net.specs.Limits.{most_load}
 use Rattle.cstn_net.specs.Networks.{Network, IsWellFormed, count}
 use Rattle.cstn_net.specs.Strategies.{Table, IsLeast}
 use Rattle.cstn_net.specs.declared.errors.NetError.{NetError}
+use Rattle.cstn_text.specs.Limits.{most_text}
 use Rattle.cstn_lift.specs.declared.errors.LiftError.{LiftError}
 use Rattle.cstn_lift.specs.Labelled.{Labelled}
 use Rattle.cstn_lift.specs.Lowered.{lowered}
@@ -31,6 +33,7 @@ use Rattle.cstn_check.proofs.Decides.{log_decides, log_closed, log_sound}
 use Rattle.cstn_check.proofs.Ends.{load_above}
 use Rattle.cstn_text.specs.Names.{AreNames}
 use Rattle.cstn_text.specs.PrintedNames.{printed_name}
+use Rattle.cstn_tree.specs.Limits.{most_observed}
 use Rattle.cstn_tree.specs.Trees.{Tree, lines_of as tree_lines, table_of}
 use Rattle.cstn_tree.specs.Made.{IsTreeOf}
 use Rattle.cstn_tree.specs.Good.{IsUnbroken}
@@ -38,6 +41,7 @@ use Rattle.cstn_tree.specs.Texts.{Told as ToldTree, tells as tells_tree, wrong a
 use Rattle.cstn_tree.specs.Written.{AreWritten as IsWrittenTree}
 use Rattle.cstn_words.specs.Requests.{tree}
 use Rattle.cstn_reply.specs.Texts.{Said, say, yes_line}
+use Rattle.cstn_documents.specs.Limits.{most_document}
 use Rattle.cstn_top.specs.Plans.{Plan, says, replays, branches, IsOutput, session}
 use Rattle.cstn_top.specs.Answers.{Answer, LabelledAnswer, of_plain, judged, on_labelled, on_document, on_verdict, by_text}
 use Rattle.cstn_top.specs.commands.Replay.{replayed, replayed_steps}
@@ -58,9 +62,6 @@ use Rattle.cstn_host.specs.Files.{Named, the_file, yes_lines}
 use Rattle.cstn_top.proofs.Documents.{of_network}
 use Rattle.cstn_top.proofs.SomeFault.{faultless, faultless_is_closed}
 use Rattle.cstn_plan.specs.Asked.{asked}
-use Rattle.cstn_words.specs.Limits.{most_cap}
-use Rattle.cstn_documents.specs.Limits.{most_document, most_text}
-use Rattle.cstn_top.specs.Limits.{most_observed}
 
 -- it can't be that the plan has no output
 abbrev pub HasSome : Plan → List ℕ → Type 0
@@ -157,10 +158,10 @@ pub record TreesMade : Type 0 where
   pub good : (net : Network) (bounds : List Bound) (table : Table) → IsWellFormed net → IsEarliest net bounds table → (tree : Tree) → IsTreeOf net bounds tree → IsUnbroken net tree
   pub least : (net : Network) (bounds : List Bound) (table : Table) → IsWellFormed net → IsEarliest net bounds table → (tree : Tree) → IsTreeOf net bounds tree → (s : Scenario) (x : ℕ) → x < count net → IsLeast net s x (table_of tree s x)
   pub written : (names : List (List ℕ)) (load : ℕ) (net : Network) (bounds : List Bound) (table : Table) → IsWellFormed net → IsEarliest net bounds table →
-      length names ≡ count net → 1 ≤ load → load ≤ most_cap → (tree : Tree) → IsTreeOf net bounds tree → IsWrittenTree names load tree
+      length names ≡ count net → 1 ≤ load → load ≤ most_load → (tree : Tree) → IsTreeOf net bounds tree → IsWrittenTree names load tree
   pub back : (names : List (List ℕ)) (load : ℕ) (tree : Tree) → AreNames names → IsWrittenTree names load tree → told_tree names (shown_tree names load (tree_lines tree)) ≡ tells_tree (tree_lines tree)
 
-pub tree_some : TreesMade → (cap : ℕ) (names : List (List ℕ)) (net : Network) (live : List ℕ) → IsOfDocument names net → cap ≤ most_cap → IsYes cap net → HasSome (branches names (load_of net) (live_bounds (log_of net)) net) live
+pub tree_some : TreesMade → (cap : ℕ) (names : List (List ℕ)) (net : Network) (live : List ℕ) → IsOfDocument names net → cap ≤ most_load → IsYes cap net → HasSome (branches names (load_of net) (live_bounds (log_of net)) net) live
 tree_some trees cap names net live of capped yes' none =
     let bounds : List Bound = live_bounds (log_of net) in
     let table : Table = asked net bounds in
@@ -179,7 +180,7 @@ tree_some trees cap names net live of capped yes' none =
       said_is = refl;
     })
 
-pub unfolded_some : TreesMade → (cap : ℕ) (names : List (List ℕ)) (net : Network) (live : List ℕ) → IsOfDocument names net → cap ≤ most_cap → HasSome (unfolded cap names net) live
+pub unfolded_some : TreesMade → (cap : ℕ) (names : List (List ℕ)) (net : Network) (live : List ℕ) → IsOfDocument names net → cap ≤ most_load → HasSome (unfolded cap names net) live
 unfolded_some trees cap names net live of capped = by_width (nat_lt most_observed (observed net))
   where
     by_width : (wide : Bool) → HasSome (if wide then says (say Wide (codes "wide " ++ decimal (observed net))) else on_verdict cap names net (branches names (load_of net) (live_bounds (log_of net)) net) (verdict cap net)) live

@@ -3,6 +3,7 @@ use Rattle.std.proofs.Common.{◌≡◌, ℕ, ◌-◌, ◌≤◌, ◌<◌, ◌^�
 use Rattle.std.specs.Prelude.{◌⊎◌, nat_lt, nat_eq, if◌then◌else◌}
 use Rattle.std.specs.List.{list_any}
 use Rattle.std.proofs.lemmas.List.Elements.{All-filter}
+use Rattle.cstn_net.specs.Limits.{most_load}
 use Rattle.cstn_net.specs.Networks.{Network, Constraint, IsWellFormed, count}
 use Rattle.cstn_net.specs.Strategies.{IsConsistent}
 use Rattle.cstn_text.specs.Names.{AreNames}
@@ -35,7 +36,6 @@ use Rattle.cstn_reply.specs.declared.output.Outcome.TheVariants.{Good, Bad, Word
 use Rattle.cstn_check.specs.Decisions.{verdict}
 use Rattle.cstn_conflict.specs.Texts.{blame_text}
 use Rattle.cstn_tight.specs.Texts.{refuted_text, tight_text}
-use Rattle.cstn_words.specs.Limits.{most_cap}
 
 -- a network with a deadline up to its own is well-formed
 at_well : (net : Network) (h : ℕ) → IsWellFormed net → h ≤ net.deadline → IsWellFormed (at_deadline net h)
@@ -85,14 +85,14 @@ not_zero n none is = grind arith
 
 -- the laws of texts that are needed here
 abbrev pub YesAccepted : Type 0
-YesAccepted = (names : List (List ℕ)) (net : Network) → IsWellFormed net → AreNames names → length names ≡ count net → load_of net ≤ most_cap → IsConsistent net → IsYesText names net (shown_bounds names (load_of net) (live_bounds (log_of net)))
+YesAccepted = (names : List (List ℕ)) (net : Network) → IsWellFormed net → AreNames names → length names ≡ count net → load_of net ≤ most_load → IsConsistent net → IsYesText names net (shown_bounds names (load_of net) (live_bounds (log_of net)))
 
 abbrev pub NoAccepted : Type 0
-NoAccepted = (names : List (List ℕ)) (net : Network) → IsWellFormed net → AreNames names → length names ≡ count net → HasIds net → load_of net ≤ most_cap → (IsConsistent net → ⊥) → IsNoText names net (shown_steps names (load_of net) (part (log_of net)))
+NoAccepted = (names : List (List ℕ)) (net : Network) → IsWellFormed net → AreNames names → length names ≡ count net → HasIds net → load_of net ≤ most_load → (IsConsistent net → ⊥) → IsNoText names net (shown_steps names (load_of net) (part (log_of net)))
 
 module _ (yes_text : YesAccepted) (no_text : NoAccepted) where
   -- what is said of a verdict stands for it
-  pub verdict_stands : (cap : ℕ) (names : List (List ℕ)) (net : Network) (text live : List ℕ) (said : Said) (after_yes : List ℕ → Type 0) → IsOfDocument names net → cap ≤ most_cap → (load_of net ≤ cap → IsConsistent net → after_yes text) →
+  pub verdict_stands : (cap : ℕ) (names : List (List ℕ)) (net : Network) (text live : List ℕ) (said : Said) (after_yes : List ℕ → Type 0) → IsOfDocument names net → cap ≤ most_load → (load_of net ≤ cap → IsConsistent net → after_yes text) →
       IsOutput (on_verdict cap names net (says (record { outcome = Good; text = text })) (verdict cap net)) live said → StandsFor after_yes (IsNoText names net) said
   verdict_stands cap names net text live said after_yes is capped yes' output = by_tests (nat_lt cap (load_of net)) (is_refuted net (log_of net)) refl refl output
     where
@@ -109,7 +109,7 @@ module _ (yes_text : YesAccepted) (no_text : NoAccepted) where
           subst (StandsFor after_yes (IsNoText names net)) (sym same) (yes' (not_above cap (load_of net) over) ((log_decides net good.network good.letters).1 no'))
 
   -- what is said of a least deadline stands for it
-  pub tight_stands : (cap : ℕ) (names : List (List ℕ)) (net : Network) (live : List ℕ) (said : Said) → IsOfDocument names net → cap ≤ most_cap →
+  pub tight_stands : (cap : ℕ) (names : List (List ℕ)) (net : Network) (live : List ℕ) (said : Said) → IsOfDocument names net → cap ≤ most_load →
       IsOutput (tightened cap names net) live said → StandsFor (IsTightText names net) (IsNoText names net) said
   tight_stands cap names net live said is capped output = by_tests (is_tight_full cap net) (is_consistent net) refl refl output
     where
@@ -147,7 +147,7 @@ module _ (yes_text : YesAccepted) (no_text : NoAccepted) where
           (no_text names net good is.are is.named is.ids (omega (arith, not_above cap (load_of net) first.0, capped)) (λ consistent. let yes' : is_consistent net ≡ true = (decided net good).1 consistent in let f : ⊥ = cc in f))
 
   -- what is said of a conflict set stands for it
-  pub conflict_stands : (cap : ℕ) (names : List (List ℕ)) (net : Network) (live : List ℕ) (said : Said) → IsOfDocument names net → cap ≤ most_cap →
+  pub conflict_stands : (cap : ℕ) (names : List (List ℕ)) (net : Network) (live : List ℕ) (said : Said) → IsOfDocument names net → cap ≤ most_load →
       IsOutput (blamed cap names net) live said → StandsFor (λ text. Unit {0}) (IsConflictText names net) said
   conflict_stands cap names net live said is capped output = by_tests (is_blame_full cap net) (is_consistent net) refl refl output
     where

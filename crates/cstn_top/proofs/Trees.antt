@@ -2,9 +2,11 @@
 use Rattle.std.proofs.Common.{◌≡◌, ℕ, ◌≤◌, ◌<◌, Bool, true, false, List, ◌++◌, length, refl, sym, ◌∙◌, ap, subst, inl, inr, arith}
 use Rattle.std.specs.Prelude.{nat_lt, if◌then◌else◌, Option, None, Some, codes, decimal}
 use Rattle.cstn_net.specs.Networks.{Network, IsWellFormed}
+use Rattle.cstn_text.specs.Limits.{most_text}
 use Rattle.cstn_check.specs.Growth.{log_of, load_of, live_bounds}
 use Rattle.cstn_check.specs.declared.verdicts.Verdict.{Verdict}
 use Rattle.cstn_check.specs.declared.verdicts.Verdict.TheVariants.{Yes, No, Full as IsFullVerdict}
+use Rattle.cstn_tree.specs.Limits.{most_observed}
 use Rattle.cstn_tree.specs.Good.{first_broken}
 use Rattle.cstn_tree.specs.Read.{the_tree}
 use Rattle.cstn_tree.specs.Texts.{Told, tells, wrong, shown, told as told_tree}
@@ -25,8 +27,6 @@ use Rattle.cstn_check.specs.Decisions.{verdict, IsYes, IsNo}
 use Rattle.cstn_check.proofs.Deciding.{Tells, verdict_tells}
 use Rattle.cstn_tree.specs.Unfolded.{observed}
 use Rattle.cstn_tree.specs.Checked.{told_of_line}
-use Rattle.cstn_documents.specs.Limits.{most_text}
-use Rattle.cstn_top.specs.Limits.{most_observed}
 
 -- ---- `tree`
 

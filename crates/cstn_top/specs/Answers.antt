@@ -1,6 +1,7 @@
 -- What is said of documents, of networks and of texts, as plans.
 use Rattle.std.specs.Prelude.{ℕ, nat_lt, if◌then◌else◌, List, length, Option, None, Some, codes, Result, Ok, Err}
 use Rattle.cstn_net.specs.Networks.{Network}
+use Rattle.cstn_text.specs.Limits.{most_text}
 use Rattle.cstn_lift.specs.Labelled.{Labelled}
 use Rattle.cstn_lift.specs.Lowered.{lowered}
 use Rattle.cstn_element.specs.Results.{Refusal}
@@ -10,9 +11,9 @@ use Rattle.cstn_check.specs.Decisions.{unless_yes}
 use Rattle.cstn_check.specs.declared.verdicts.Verdict.{Verdict}
 use Rattle.cstn_reply.specs.Texts.{Said, say}
 use Rattle.cstn_reply.specs.declared.output.Outcome.TheVariants.{Document, Script}
+use Rattle.cstn_documents.specs.Limits.{most_document}
 use Rattle.cstn_documents.specs.Refusals.{refusal_text}
 use Rattle.cstn_top.specs.Plans.{Plan, says, judges, unlabelled}
-use Rattle.cstn_documents.specs.Limits.{most_document, most_text}
 
 -- what is said of a network under the names of its time-points
 abbrev pub Answer : Type 0

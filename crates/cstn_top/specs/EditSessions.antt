@@ -4,6 +4,7 @@ use Rattle.std.specs.List.{All}
 use Rattle.std.specs.Option.{is_none}
 use Rattle.cstn_label.specs.Marks.{is_plain}
 use Rattle.cstn_label.specs.Labels.{Label}
+use Rattle.cstn_net.specs.Limits.{most_constraints, most_load, most_edits}
 use Rattle.cstn_net.specs.Networks.{Network, Constraint}
 use Rattle.cstn_net.specs.Strategies.{IsConsistent}
 use Rattle.cstn_text.specs.Names.{AreNames, number_of}
@@ -18,9 +19,6 @@ use Rattle.cstn_lines.specs.EditLines.{Edit, added, removed, changed, asked, edi
 use Rattle.cstn_reply.specs.Texts.{line, yes_line, full_line}
 use Rattle.cstn_edit.specs.Editing.{begun_editing, edit_turn, edit_ending}
 use Rattle.cstn_reply.specs.Reached.{Says}
-use Rattle.cstn_words.specs.Limits.{most_cap}
-use Rattle.cstn_documents.specs.Limits.{most_constraints}
-use Rattle.cstn_top.specs.Limits.{most_edits}
 
 -- ---- the network as edited
 
@@ -111,7 +109,7 @@ pub record SaysNo (cap : ℕ) (names : List (List ℕ)) (net : Network) (text : 
   pub steps : IsRefutation net (part list)
   pub text_is : text ≡ shown names (length list) (part list)
   pub inconsistent : IsConsistent net → ⊥
-  pub accepted : AreNames names → HasIds net → cap ≤ most_cap → IsNoText names net text
+  pub accepted : AreNames names → HasIds net → cap ≤ most_load → IsNoText names net text
 
 -- the text says that the log is full, and the log of the network has more than `cap` entries
 pub record SaysFull (cap : ℕ) (net : Network) (text : List ℕ) : Type 0 where

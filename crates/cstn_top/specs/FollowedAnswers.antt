@@ -2,6 +2,7 @@
 use Rattle.std.specs.Prelude.{ℕ, ◌≡◌, ◌<◌, ◌≤◌, ◌⊎◌, ◌↔◌, Bool, max, List, ◌++◌, length, Option, None, Some, codes}
 use Rattle.std.specs.List.{AllPairs, Contains}
 use Rattle.std.specs.List.Sorted.{IsStrictlyIncreasing}
+use Rattle.cstn_net.specs.Limits.{most_constraints}
 use Rattle.cstn_net.specs.Networks.{count}
 use Rattle.cstn_text.specs.Names.{number_of}
 use Rattle.cstn_lift.specs.Labelled.{Labelled}
@@ -25,7 +26,6 @@ use Rattle.cstn_follow.specs.Questions.{next_text}
 use Rattle.cstn_follow.specs.Searches.{by_refusal, by_line, ids_text}
 use Rattle.cstn_follow.specs.Waiting.{rest_until}
 use Rattle.cstn_follow.specs.Blame.{ids_of, is_of, but, alone}
-use Rattle.cstn_documents.specs.Limits.{most_constraints}
 use Rattle.cstn_top.specs.commands.Follow.{IsTrueOf, follow_turn}
 
 -- lines lead a session of some labelled network, whose time-points have names, to this state

@@ -15,6 +15,7 @@ use Rattle.cstn_check.specs.Growth.{load_of}
 use Rattle.cstn_exec.specs.Sound.{AgreesHanded}
 use Rattle.cstn_words.specs.Requests.{Asked, Request, check, run, edit, replay, files_of}
 use Rattle.cstn_reply.specs.Written.{LiveState}
+use Rattle.cstn_documents.specs.Limits.{most_document}
 use Rattle.cstn_top.specs.Plans.{Ends}
 use Rattle.cstn_top.specs.Dispatch.{command_of, plan_at}
 use Rattle.cstn_top.specs.Meanings.{IsStopped}
@@ -26,7 +27,6 @@ use Rattle.cstn_reply.specs.declared.status.Status.TheVariants.{Good, Bad, Full,
 use Rattle.cstn_run.specs.Meanings.{end_of, WasNamed}
 use Rattle.cstn_top.specs.EditSessions.{network_after, IsNoCheck}
 use Rattle.cstn_top.specs.Told.{IsToldOf}
-use Rattle.cstn_documents.specs.Limits.{most_document}
 
 -- the bytes are a document with the deadline that is asked for, and its parts make a labelled network
 pub record Document : Type 0 where

@@ -1,5 +1,4 @@
 -- What is said and written for a request, as a plan.
-pub mod Limits
 pub mod Plans
 pub mod Lines
 pub mod Answers

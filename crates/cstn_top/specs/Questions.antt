@@ -3,7 +3,9 @@ use Rattle.std.specs.Prelude.{◌≤◌, ◌<◌, ◌^◌, ℕ, List, length, ma
 use Rattle.std.specs.List.{All}
 use Rattle.cstn_net.specs.Networks.{Constraint}
 use Rattle.cstn_net.specs.Read.{the_network}
+use Rattle.cstn_text.specs.Limits.{most_text}
 use Rattle.cstn_lift.specs.Read.{the_labelled}
+use Rattle.cstn_words.specs.Limits.{most_files}
 use Rattle.cstn_words.specs.Requests.{Request, files_of}
 use Rattle.cstn_reply.specs.Read.{the_said}
 use Rattle.cstn_reply.specs.declared.output.Said.{Said as SaidText}
@@ -33,8 +35,6 @@ use Rattle.cstn_top.specs.declared.commands.Prepared.TheVariants.{Says}
 use Rattle.cstn_top.specs.declared.commands.questions.Question.{Question}
 use Rattle.cstn_top.specs.declared.commands.questions.Question.TheVariants.{Check, Closed, Tight, Conflict, Tree, Edit, Run, Save, Replay, Closedcheck, Treecheck, Drill, Host}
 use Rattle.cstn_top.specs.declared.commands.questions.Question.TheVariants.{Follow}
-use Rattle.cstn_words.specs.Limits.{most_files}
-use Rattle.cstn_documents.specs.Limits.{most_text}
 
 -- what is said to a question
 abbrev pub the_question : Question → Plan

@@ -1,5 +1,6 @@
 // The law of what is written as evidence. The call does nothing but cite other laws: its contract is the law.
 ghost use Rattle.std.specs.Prelude.{ℕ, ◌≡◌, ◌≤◌, List, length};
+ghost use Rattle.cstn_net.specs.Limits.{most_load};
 ghost use Rattle.cstn_net.specs.Networks.{Network, IsWellFormed, count};
 ghost use Rattle.cstn_net.specs.Strategies.{IsConsistent};
 ghost use Rattle.cstn_log.specs.Cuts.{part};
@@ -8,7 +9,6 @@ ghost use Rattle.cstn_text.specs.Names.{AreNames};
 ghost use Rattle.cstn_refute.specs.Texts.{shown as shown_steps};
 ghost use Rattle.cstn_closed.specs.Texts.{shown as shown_bounds};
 ghost use Rattle.cstn_top.specs.Accepted.{IsYesText, IsNoText, HasIds};
-ghost use Rattle.cstn_words.specs.Limits.{most_cap};
 
 use cstn_closed::closed_texts_are_read_back;
 use cstn_refute::texts_are_read_back;
@@ -16,10 +16,10 @@ use cstn_refute::texts_are_read_back;
 /// The text of the bounds of a yes is accepted by the check of bounds, and that of the steps of a no by the replay, where each
 /// time-point has a name, ids are numbers of 32 bits, and the load is 4,194,304 at most.
 pub fn evidence_is_accepted()
-    ensures bounds { (names : List (List ℕ)) (net : Network) → IsWellFormed net → AreNames names → length names ≡ count net → load_of net ≤ most_cap
+    ensures bounds { (names : List (List ℕ)) (net : Network) → IsWellFormed net → AreNames names → length names ≡ count net → load_of net ≤ most_load
         → IsConsistent net → IsYesText names net (shown_bounds names (load_of net) (live_bounds (log_of net))) }
     ensures steps { (names : List (List ℕ)) (net : Network) → IsWellFormed net → AreNames names → length names ≡ count net → HasIds net
-        → load_of net ≤ most_cap → (IsConsistent net → ⊥) → IsNoText names net (shown_steps names (load_of net) (part (log_of net))) }
+        → load_of net ≤ most_load → (IsConsistent net → ⊥) → IsNoText names net (shown_steps names (load_of net) (part (log_of net))) }
 {
     closed_texts_are_read_back();
     texts_are_read_back();

@@ -2,6 +2,7 @@
 // calls do nothing: their contracts are the laws.
 ghost use Rattle.std.specs.Prelude.{ℕ, ◌≡◌, ◌<◌, ◌≤◌, ◌↔◌, ◌⊎◌, ◌+◌, ◌^◌, ◌++◌, List, [], ◌∷◌, length, None, Some, codes, false};
 ghost use Rattle.std.specs.List.{All};
+ghost use Rattle.cstn_net.specs.Limits.{most_constraints, most_load};
 ghost use Rattle.cstn_net.specs.Networks.{Network, Constraint, IsWellFormed, Observes, count};
 ghost use Rattle.cstn_lines.specs.Pieces.{is_past};
 ghost use Rattle.cstn_text.specs.Names.{number_of};
@@ -15,6 +16,7 @@ ghost use Rattle.cstn_follow.specs.Hearing.{counted};
 ghost use Rattle.cstn_edit.specs.Editing.{Editing, begun_editing, edit_turn, last_checked};
 ghost use Rattle.cstn_reply.specs.Sessions.{more};
 ghost use Rattle.cstn_reply.specs.Reached.{state_after};
+ghost use Rattle.cstn_documents.specs.Limits.{most_document};
 ghost use Rattle.cstn_top.specs.Accepted.{HasIds, IsAccepted};
 ghost use Rattle.cstn_top.specs.Plans.{Plan, IsOutput};
 ghost use Rattle.cstn_top.specs.Lines.{AreAnswered};
@@ -32,8 +34,6 @@ ghost use Rattle.cstn_top.specs.EditSessions.{network_after, AnswersCheck, IsAtL
 ghost use Rattle.cstn_top.specs.FollowedPlans.{IsRefusedBy, KeepToNext, KeepGoing};
 ghost use Rattle.cstn_top.specs.FollowedAnswers.{IsReached, Accepts, AnswersNext, AnswersBy, AnswersBlame};
 ghost use Rattle.cstn_top.specs.commands.Follow.{IsFact, IsTrueOf, follow_turn};
-ghost use Rattle.cstn_words.specs.Limits.{most_cap};
-ghost use Rattle.cstn_documents.specs.Limits.{most_constraints, most_document};
 
 use crate::evidence::evidence_is_accepted;
 use cstn_closed::{closed_lists_are_accepted, closed_texts_are_read_back};
@@ -88,16 +88,16 @@ pub fn outputs_are_one()
 /// What `check`, `run` and `closed` write after no passes: `replay` of the same document with that text says `accepted`, and
 /// nothing else. So does `closedcheck` with what `closed` writes after yes.
 pub fn evidence_passes()
-    ensures no_of_check { (asked : Asked) (cap : ℕ) (file bytes live : List ℕ) (said : Said) → cap ≤ most_cap
+    ensures no_of_check { (asked : Asked) (cap : ℕ) (file bytes live : List ℕ) (said : Said) → cap ≤ most_load
         → IsOutput (plan_at (check asked cap) (bytes ∷ [])) live said → said.outcome ≡ Bad
         → IsAccepted (plan_at (replay asked file) (bytes ∷ said.text ∷ [])) }
-    ensures no_of_run { (asked : Asked) (cap : ℕ) (file bytes live : List ℕ) (said : Said) → cap ≤ most_cap
+    ensures no_of_run { (asked : Asked) (cap : ℕ) (file bytes live : List ℕ) (said : Said) → cap ≤ most_load
         → IsOutput (plan_at (run asked cap) (bytes ∷ [])) live said → said.outcome ≡ Bad
         → IsAccepted (plan_at (replay asked file) (bytes ∷ said.text ∷ [])) }
-    ensures no_of_closed { (asked : Asked) (cap : ℕ) (file bytes live : List ℕ) (said : Said) → cap ≤ most_cap
+    ensures no_of_closed { (asked : Asked) (cap : ℕ) (file bytes live : List ℕ) (said : Said) → cap ≤ most_load
         → IsOutput (plan_at (closed asked cap) (bytes ∷ [])) live said → said.outcome ≡ Bad
         → IsAccepted (plan_at (replay asked file) (bytes ∷ said.text ∷ [])) }
-    ensures yes_of_closed { (asked : Asked) (cap : ℕ) (file bytes live : List ℕ) (said : Said) → cap ≤ most_cap
+    ensures yes_of_closed { (asked : Asked) (cap : ℕ) (file bytes live : List ℕ) (said : Said) → cap ≤ most_load
         → IsOutput (plan_at (closed asked cap) (bytes ∷ [])) live said → said.outcome ≡ Good
         → IsAccepted (plan_at (closedcheck asked file) (bytes ∷ said.text ∷ [])) }
 {
@@ -149,7 +149,7 @@ pub fn followed_plans_go_on()
 pub fn followed_refutations_pass()
     ensures { (cap : ℕ) (names : List (List ℕ)) (m : Labelled) (lines : List (List ℕ)) (s t u : Following) (load : ℕ) (text bytes file : List ℕ) (asked : Asked)
         → IsLabelled m → length (lowered m).constraints ≤ most_constraints → AreNamesOf m.base names
-        → ((p : ℕ) → ((x : ℕ) → Observes m.base x p → ⊥) → m.base.reaction p ≡ 1) → cap ≤ most_cap
+        → ((p : ℕ) → ((x : ℕ) → Observes m.base x p → ⊥) → m.base.reaction p ≡ 1) → cap ≤ most_load
         → state_after follow_turn (begun cap names m) 0 lines ≡ Some s → verdict_now s ≡ No load
         → follow_turn s (codes "check") ≡ more (text ++ line (codes "end")) t → follow_turn s (codes "rest") ≡ more bytes u
         → length bytes ≤ most_document → asked.deadline ≡ None → IsAccepted (plan_at (replay asked file) (bytes ∷ text ∷ [])) }

@@ -6,6 +6,7 @@ use Rattle.std.specs.Option.{option_and_then, option_map}
 use Rattle.std.proofs.lemmas.Bool.{ne_eqb}
 use Rattle.std.proofs.lemmas.List.Elements.{All-nil, All-cons, All-head, All-append, All-tail}
 use Rattle.cstn_label.specs.Letters.{letter_of, prop_of}
+use Rattle.cstn_net.specs.Limits.{most_load}
 use Rattle.cstn_text.specs.Names.{AreNames}
 use Rattle.cstn_text.specs.Numbers.{number_within, printed_number}
 use Rattle.cstn_text.specs.PrintedNames.{printed_name}
@@ -162,7 +163,7 @@ shown_back names load tree are is =
     }))
 
 -- the printed text of a load and lines says these lines, where they are the lines of a tree
-pub said_back : (names : List (List ℕ)) (load : ℕ) (lines : List Line) (text : List ℕ) → AreNames names → 1 ≤ load → load ≤ 4194304 →
+pub said_back : (names : List (List ℕ)) (load : ℕ) (lines : List Line) (text : List ℕ) → AreNames names → 1 ≤ load → load ≤ most_load →
     lines ≡ lines_of (the_tree lines) → FitsText (the_tree lines) → All (IsPrintableLine names) lines → text ≡ shown names load lines → told names text ≡ tells lines
 said_back names load lines text are low high whole fits each e =
     ap (told names) (e ∙ ap (shown names load) whole)

@@ -9,6 +9,7 @@ use Rattle.std.proofs.lemmas.Bool.Decides.{leb_tells}
 use Rattle.std.proofs.lemmas.List.{length-set, set_past, drop_all}
 use Rattle.std.proofs.lemmas.List.Folds.{list_all_at}
 use Rattle.cstn_label.specs.declared.nodes.NodeId.{NodeId}
+use Rattle.cstn_net.specs.Limits.{most_deadline}
 use Rattle.cstn_net.specs.Networks.{Network, IsNetwork, Observes, limit, is_prop}
 use Rattle.cstn_exec.proofs.Knowing.{observer_at, at_observer}
 use Rattle.cstn_exec.proofs.Options.{is_some-false, is_some-true}
@@ -132,14 +133,14 @@ placed_next placed t x xs = fun_ext (λ y. go (y == x) (is_named y xs) y)
     go false false y = refl
 
 -- the program's branch after one more time-point is named has a place for each of the n, and no moment above a million
-pub branch_with : (n : ℕ) (b new : ProgramBranch) (x t : ℕ) → IsBranchOf n b → t ≤ 1000000 → new.moments.items ≡ slice_set b.moments.items x (Some t) →
+pub branch_with : (n : ℕ) (b new : ProgramBranch) (x t : ℕ) → IsBranchOf n b → t ≤ most_deadline → new.moments.items ≡ slice_set b.moments.items x (Some t) →
     IsBranchOf n new
 branch_with n b new x t is soon items = record {
   wide = ap length items ∙ length-set b.moments.items x (Some t) ∙ is.wide;
   in_time = λ y m e. at y m (subst (λ l. the_placed l y ≡ Some m) items e);
 }
   where
-    at : (y m : ℕ) → the_placed (slice_set b.moments.items x (Some t)) y ≡ Some m → m ≤ 1000000
+    at : (y m : ℕ) → the_placed (slice_set b.moments.items x (Some t)) y ≡ Some m → m ≤ most_deadline
     at y m e = elim (cases_lt x (length b.moments.items)) [
       | inl inside ↦
           let one : with_one (the_placed b.moments.items) t x y ≡ Some m = ap (λ placed. placed y) (sym (set_one b.moments.items t x inside)) ∙ e in

@@ -6,6 +6,7 @@ use Rattle.std.proofs.lemmas.Bool.{cases_Bool, cond-true}
 use Rattle.std.proofs.lemmas.List.Elements.{All-nil, All-cons, All-append, All-weaker, All-contains_itself}
 use Rattle.cstn_label.specs.Labels.{Scenario}
 use Rattle.cstn_label.specs.Bounds.{Bound}
+use Rattle.cstn_net.specs.Limits.{most_load}
 use Rattle.cstn_net.specs.Networks.{Network, IsWellFormed, count}
 use Rattle.cstn_net.specs.Strategies.{Table, IsLeast}
 use Rattle.cstn_plan.specs.Plans.{IsEarliest}
@@ -204,7 +205,7 @@ module _ (net : Network) (bounds : List Bound) (table : Table) (wf : IsWellForme
       (printable_from texts named (handed r p true) one first (below_ask net b p true) (follows_ask net bounds table wf plan r b f t is p waits true))
       (printable_from texts named (handed r p false) other second (below_ask net b p false) (follows_ask net bounds table wf plan r b f t is p waits false)))
 
-  pub made_written : (texts : List (List ℕ)) (load : ℕ) → length texts ≡ count net → 1 ≤ load → load ≤ 4194304 → (tree : Tree) → IsTreeOf net bounds tree → AreWritten texts load tree
+  pub made_written : (texts : List (List ℕ)) (load : ℕ) → length texts ≡ count net → 1 ≤ load → load ≤ most_load → (tree : Tree) → IsTreeOf net bounds tree → AreWritten texts load tree
   made_written texts load named low high tree made = record {
     load_low = low;
     load_high = high;

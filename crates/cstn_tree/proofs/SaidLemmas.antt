@@ -7,6 +7,7 @@ use Rattle.std.proofs.lemmas.Option.{same_Some}
 use Rattle.std.proofs.lemmas.List.Elements.{All-nil, All-cons}
 use Rattle.std.proofs.lemmas.Slice.Eq.{bytes_eq-Decides}
 use Rattle.cstn_label.specs.Letters.{letter_of, prop_of}
+use Rattle.cstn_net.specs.Limits.{most_load}
 use Rattle.cstn_text.specs.Names.{AreNames}
 use Rattle.cstn_text.specs.Numbers.{number_within, printed_number}
 use Rattle.cstn_text.specs.PrintedNames.{printed_name}
@@ -214,7 +215,7 @@ module _ (names : List (List ℕ)) where
       (lines_said (ahead_after d ahead l) (before ++ l ∷ []) lines rest next (ap ahead_of (append_assoc before (l ∷ []) lines) ∙ over) are))
 
   -- the trees after the first line are one tree
-  one_tree : (load : ℕ) (lines : List Line) (bytes text : List ℕ) → 1 ≤ load → load ≤ 4194304 → bytes ≡ codes "yes " ++ printed_number load ++ 10 ∷ text →
+  one_tree : (load : ℕ) (lines : List Line) (bytes text : List ℕ) → 1 ≤ load → load ≤ most_load → bytes ≡ codes "yes " ++ printed_number load ++ 10 ∷ text →
       AreTrees (1 ∷ []) lines text → IsTextOfTree names lines bytes
   one_tree load lines bytes text low high first are = go are.trees are.within are.whole are.named are.each are.text
     where

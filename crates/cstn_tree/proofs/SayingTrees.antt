@@ -7,6 +7,7 @@ use Rattle.cstn_net.specs.Networks.{Network, count}
 use Rattle.cstn_net.specs.Strategies.{IsLeast}
 use Rattle.cstn_check.specs.Growth.{log_of, load_of, live_bounds}
 use Rattle.cstn_check.specs.declared.verdicts.Verdict.TheVariants.{Yes}
+use Rattle.cstn_tree.specs.Limits.{most_observed}
 use Rattle.cstn_tree.specs.Trees.{Tree, Line, lines_of, table_of}
 use Rattle.cstn_tree.specs.Good.{IsUnbroken}
 use Rattle.cstn_tree.specs.Made.{IsTreeOf}
@@ -37,17 +38,17 @@ tree_said names load bounds net lines text whole is shows back = record {
 }
 
 -- where more propositions are observed than a tree is made for, their number is said
-pub wide_said : {E : Type 0} (cap : ℕ) (names : List (List ℕ)) (net : Network) (r : Result SaidText E) → 10 < observed net → IfOk r (λ said. the_said said ≡ wide net) → IfOk r (λ said. IsUnfolded cap names net (the_said said))
+pub wide_said : {E : Type 0} (cap : ℕ) (names : List (List ℕ)) (net : Network) (r : Result SaidText E) → most_observed < observed net → IfOk r (λ said. the_said said ≡ wide net) → IfOk r (λ said. IsUnfolded cap names net (the_said said))
 wide_said cap names net (Err e) many is = tt
 wide_said cap names net (Ok said) many is = inl (many, is)
 
 -- after yes the tree is said
-pub yes_said : {E : Type 0} (cap : ℕ) (names : List (List ℕ)) (net : Network) (load : ℕ) (r : Result SaidText E) → observed net ≤ 10 → verdict cap net ≡ Yes (load_of net) → load ≡ load_of net → IfOk r (λ said. IsTreeText names load (live_bounds (log_of net)) net (the_said said)) → IfOk r (λ said. IsUnfolded cap names net (the_said said))
+pub yes_said : {E : Type 0} (cap : ℕ) (names : List (List ℕ)) (net : Network) (load : ℕ) (r : Result SaidText E) → observed net ≤ most_observed → verdict cap net ≡ Yes (load_of net) → load ≡ load_of net → IfOk r (λ said. IsTreeText names load (live_bounds (log_of net)) net (the_said said)) → IfOk r (λ said. IsUnfolded cap names net (the_said said))
 yes_said cap names net load (Err e) narrow decided same is = tt
 yes_said cap names net load (Ok said) narrow decided same is =
     let unless : unless_yes cap names net (verdict cap net) ≡ None = ap (unless_yes cap names net) decided in
     inr (narrow, subst (λ (o : Option Said). IsTreeUnless names net o (the_said said)) (sym unless) (subst (λ (n : ℕ). IsTreeText names n (live_bounds (log_of net)) net (the_said said)) same is))
 
 -- after no the refutation is said, and the cap where the log has more entries
-pub other_said : (cap : ℕ) (names : List (List ℕ)) (net : Network) (said : Said) → observed net ≤ 10 → unless_yes cap names net (verdict cap net) ≡ Some said → IsUnfolded cap names net said
+pub other_said : (cap : ℕ) (names : List (List ℕ)) (net : Network) (said : Said) → observed net ≤ most_observed → unless_yes cap names net (verdict cap net) ≡ Some said → IsUnfolded cap names net said
 other_said cap names net said narrow is = inr (narrow, subst (λ (o : Option Said). IsTreeUnless names net o said) (sym is) refl)

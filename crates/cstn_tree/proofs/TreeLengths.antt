@@ -8,8 +8,10 @@ use Rattle.std.proofs.lemmas.List.{get_or_default, length-set}
 use Rattle.std.proofs.lemmas.List.Elements.{All-head, All-tail}
 use Rattle.std.proofs.lemmas.List.Sums.{sum_by-cons}
 use Rattle.cstn_label.specs.Bounds.{Bound}
+use Rattle.cstn_net.specs.Limits.{most_time_points, most_load}
 use Rattle.cstn_net.specs.Networks.{Network, IsWellFormed, count}
 use Rattle.cstn_net.specs.Strategies.{Table}
+use Rattle.cstn_text.specs.Limits.{most_text}
 use Rattle.cstn_plan.specs.Plans.{IsEarliest}
 use Rattle.cstn_text.specs.Names.{AreNames}
 use Rattle.cstn_text.specs.Numbers.{printed_number}
@@ -20,6 +22,7 @@ use Rattle.cstn_exec.specs.Moves.{moved, handed, executed}
 use Rattle.cstn_exec.proofs.Dues.{due_is_due}
 use Rattle.cstn_exec.proofs.Moving.{free_parts}
 use Rattle.cstn_exec.proofs.Naming.{passing, passing_yes, passing_no, from_passing}
+use Rattle.cstn_tree.specs.Limits.{most_observed}
 use Rattle.cstn_tree.specs.Trees.{Tree, Line, lines_of}
 use Rattle.cstn_tree.specs.Trees.Line.{AtLine, AskLine, DoneLine}
 use Rattle.cstn_tree.specs.Texts.{printed_line, printed_lines, shown}
@@ -56,7 +59,7 @@ most_grows a (suc b) n upto = elim (cases_lt b a) [
   | inr before ↦ let more = most_grows a b n before in omega arith
 ]
 
-most_ten : most 10 1024 ≤ 217066490
+most_ten : most most_observed most_time_points ≤ 217066490
 unfolding most
 most_ten = omega arith
 
@@ -268,7 +271,7 @@ module _ (texts : List (List ℕ)) (are : AreNames texts) (net : Network) (bound
       halves (unseen net.observes r.outcomes) (unseen net.observes (handed r p true).outcomes) (unseen net.observes (handed r p false).outcomes) (left r.moments)
       (bytes texts (lines_of one)) (bytes texts (lines_of other)) (bytes texts (AskLine p ∷ (lines_of one ++ lines_of other))) if_true if_false here there (omega (arith, line, both))
 
-  pub made_short : (load : ℕ) → load ≤ 4194304 → observed net ≤ 10 → (tree : Tree) → IsTreeOf net bounds tree → length (shown texts load (lines_of tree)) ≤ 1476395008
+  pub made_short : (load : ℕ) → load ≤ most_load → observed net ≤ most_observed → (tree : Tree) → IsTreeOf net bounds tree → length (shown texts load (lines_of tree)) ≤ most_text
   made_short load low narrow tree made =
       let first = start (count net) in
       let begun = follows_start net bounds table wf plan in
@@ -278,8 +281,8 @@ module _ (texts : List (List ℕ)) (are : AreNames texts) (net : Network) (bound
       let size = begun.right.moments in
       let few = wf.few_points in
       let upto = left_upto first.moments in
-      let wide = most_grows (unseen net.observes first.outcomes) 10 (left first.moments) (omega (arith, asked, narrow)) in
-      let deep = most_named 10 1024 (left first.moments) 0 (omega (arith, size, few, upto)) in
+      let wide = most_grows (unseen net.observes first.outcomes) most_observed (left first.moments) (omega (arith, asked, narrow)) in
+      let deep = most_named most_observed most_time_points (left first.moments) 0 (omega (arith, size, few, upto)) in
       let number : length (printed_number load) ≤ 7 = length-decimal-le 7 load (omega arith) (omega arith) (omega arith) in
       let top = length-append (printed_number load) (10 ∷ printed_lines texts (lines_of tree)) in
       let whole = length-append (codes "yes ") (printed_number load ++ 10 ∷ printed_lines texts (lines_of tree)) in

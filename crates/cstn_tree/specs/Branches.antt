@@ -3,6 +3,7 @@ use Rattle.std.specs.Prelude.{ℕ, ◌≡◌, ◌≤◌, List, ◌∷◌, Option
 use Rattle.std.specs.List.{All}
 use Rattle.cstn_label.specs.Read.{known_value}
 use Rattle.cstn_label.specs.declared.nodes.NodeId.{NodeId}
+use Rattle.cstn_net.specs.Limits.{most_deadline}
 use Rattle.cstn_tree.specs.declared.branches.Branch.{Branch}
 use Rattle.cstn_tree.specs.Good.{Branch as TheBranch}
 use Rattle.cstn_tree.specs.declared.walks.Walk.{Walk}
@@ -25,7 +26,7 @@ the_branch b = record { placed = the_placed b.moments.items; asked = known_value
 -- there is a place for each of the n time-points, and no moment is above a million
 pub record IsBranchOf (n : ℕ) (b : Branch) : Type 0 where
   pub wide : length b.moments.items ≡ n
-  pub in_time : (x m : ℕ) → the_placed b.moments.items x ≡ Some m → m ≤ 1000000
+  pub in_time : (x m : ℕ) → the_placed b.moments.items x ≡ Some m → m ≤ most_deadline
 
 -- the branches of a walk: that of the next line, and those of the trees that follow its tree
 abbrev pub the_branches : Walk → List TheBranch

@@ -1,4 +1,5 @@
--- Trees, and when one is good.
+-- Limits, trees, and when one is good.
+pub mod Limits
 pub mod Trees
 pub mod Good
 pub mod Breaks

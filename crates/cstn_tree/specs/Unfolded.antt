@@ -9,6 +9,7 @@ use Rattle.cstn_check.specs.Growth.{log_of, load_of, live_bounds}
 use Rattle.cstn_check.specs.Decisions.{verdict, unless_yes}
 use Rattle.cstn_reply.specs.Texts.{Said, say}
 use Rattle.cstn_reply.specs.declared.output.Outcome.TheVariants.{Good, Wide}
+use Rattle.cstn_tree.specs.Limits.{most_observed}
 use Rattle.cstn_tree.specs.Trees.{Tree, lines_of as tree_lines, table_of}
 use Rattle.cstn_tree.specs.Good.{IsUnbroken}
 use Rattle.cstn_tree.specs.Made.{IsTreeOf}
@@ -41,5 +42,5 @@ IsTreeUnless names net (Some other) said = said ≡ other
 -- and the tree, the refutation after no, or the cap where the log has more entries
 abbrev pub IsUnfolded : ℕ → List (List ℕ) → Network → Said → Type 0
 IsUnfolded cap names net said =
-    ((10 < observed net) × (said ≡ wide net))
-    ⊎ ((observed net ≤ 10) × IsTreeUnless names net (unless_yes cap names net (verdict cap net)) said)
+    ((most_observed < observed net) × (said ≡ wide net))
+    ⊎ ((observed net ≤ most_observed) × IsTreeUnless names net (unless_yes cap names net (verdict cap net)) said)

@@ -1,6 +1,7 @@
 -- What a text of a tree can say.
 use Rattle.std.specs.Prelude.{ℕ, ◌≡◌, ◌+◌, ◌^◌, ◌<◌, ◌≤◌, max, List, length}
 use Rattle.std.specs.List.{All}
+use Rattle.cstn_net.specs.Limits.{most_load}
 use Rattle.cstn_tree.specs.Trees.{Tree, Line, lines_of}
 use Rattle.cstn_tree.specs.Trees.Tree.{at, ask, done}
 use Rattle.cstn_tree.specs.Trees.Line.{AtLine, AskLine, DoneLine}
@@ -32,7 +33,7 @@ IsPrintableLine names DoneLine = Unit {0}
 -- a load and a tree that a text can say
 pub record AreWritten (names : List (List ℕ)) (load : ℕ) (tree : Tree) : Type 0 where
   pub load_low : 1 ≤ load
-  pub load_high : load ≤ 4194304
+  pub load_high : load ≤ most_load
   pub fits : FitsText tree
   pub each : All (IsPrintableLine names) (lines_of tree)
 

@@ -2,6 +2,7 @@
 ghost use Rattle.std.specs.Prelude.{ℕ, ◌≡◌, ◌<◌, ◌≤◌, ◌&&◌, true, false, Some, length, map, IfOk, IfSome, is_some, is_none};
 ghost use Rattle.std.specs.List.{All, list_all};
 ghost use Rattle.std.specs.Option.{option_map};
+ghost use Rattle.cstn_net.specs.Limits.{most_deadline};
 ghost use Rattle.cstn_net.specs.Networks.{count, limit};
 ghost use Rattle.cstn_net.specs.Read.{the_network, the_constraint, IsInRange};
 ghost use Rattle.cstn_tree.specs.Good.{start, placed_with, are_new, are_in_time, is_within, is_kept, is_met, fits_at, below_at, observed_on, known_from};
@@ -79,7 +80,7 @@ impl Branch {
     fn observed(&self, net: &Network, p: Prop) -> Option<u32>
         requires branch { IsBranchOf (count (the_network net.now)) self.now }
         ensures observed { result ≡ observed_on (the_network net.now) (the_branch self.now) p.index }
-        ensures in_time { IfSome result (λ m. m ≤ 1000000) }
+        ensures in_time { IfSome result (λ m. m ≤ most_deadline) }
     {
         net.count();
         match net.observer(p) {
@@ -230,7 +231,7 @@ impl Branch {
 fn limit(net: &Network, x: NodeId) -> u32
     requires { x.0 < count (the_network net.now) }
     ensures limit { result ≡ limit (the_network net.now) x.0 }
-    ensures in_time { result ≤ 1000000 }
+    ensures in_time { result ≤ most_deadline }
 {
     net.limit(x) as u32
 }

@@ -2,11 +2,14 @@
 ghost use Rattle.std.specs.Prelude.{ℕ, ◌≡◌, ◌<◌, ◌≤◌, ◌↔◌, [], ◌∷◌, List, length, map, None, Some};
 ghost use Rattle.cstn_label.specs.Labels.{Scenario};
 ghost use Rattle.cstn_label.specs.Bounds.{Bound};
+ghost use Rattle.cstn_net.specs.Limits.{most_load};
 ghost use Rattle.cstn_net.specs.Networks.{Network, IsNetwork, IsWellFormed, count};
 ghost use Rattle.cstn_net.specs.Strategies.{Table, IsStrategy, IsConsistent, IsLeast};
 ghost use Rattle.cstn_net.specs.Examples.{branch};
+ghost use Rattle.cstn_text.specs.Limits.{most_text};
 ghost use Rattle.cstn_plan.specs.Plans.{IsEarliest};
 ghost use Rattle.cstn_text.specs.Names.{AreNames};
+ghost use Rattle.cstn_tree.specs.Limits.{most_observed};
 ghost use Rattle.cstn_tree.specs.Trees.{Tree, Line, IsAmong, at, done, lines_of, table_of};
 ghost use Rattle.cstn_tree.specs.Good.{first_broken, IsUnbroken};
 ghost use Rattle.cstn_tree.specs.Breaks.{IsFirstBreak, on_branches};
@@ -37,7 +40,7 @@ pub fn made_trees_are_good()
     ensures fits { (net : Network) (bounds : List Bound) (table : Table) → IsWellFormed net → IsEarliest net bounds table → (tree : Tree)
         → IsTreeOf net bounds tree → FitsText tree }
     ensures written { (names : List (List ℕ)) (load : ℕ) (net : Network) (bounds : List Bound) (table : Table) → IsWellFormed net → IsEarliest net bounds table
-        → length names ≡ count net → 1 ≤ load → load ≤ 4194304 → (tree : Tree) → IsTreeOf net bounds tree → AreWritten names load tree }
+        → length names ≡ count net → 1 ≤ load → load ≤ most_load → (tree : Tree) → IsTreeOf net bounds tree → AreWritten names load tree }
 {}
 
 /// A network has one tree by given bounds at most, and one by bounds that have a strategy with each time-point at the least moment
@@ -57,9 +60,9 @@ pub fn networks_have_one_tree()
 /// may have: each of its branches names each time-point once, and it has a branch for each outcome of these propositions at most.
 pub fn made_texts_are_short()
     ensures short { (names : List (List ℕ)) (load : ℕ) (net : Network) (bounds : List Bound) (table : Table) → AreNames names → length names ≡ count net
-        → load ≤ 4194304
-        → observed net ≤ 10 → IsWellFormed net → IsEarliest net bounds table → (tree : Tree) → IsTreeOf net bounds tree
-        → length (shown names load (lines_of tree)) ≤ 1476395008 }
+        → load ≤ most_load
+        → observed net ≤ most_observed → IsWellFormed net → IsEarliest net bounds table → (tree : Tree) → IsTreeOf net bounds tree
+        → length (shown names load (lines_of tree)) ≤ most_text }
 {}
 
 /// The text of a load and a tree is read back as the tree, where each `at` names a time-point, no branch has more than 2,100

@@ -2,6 +2,7 @@
 ghost use Rattle.std.specs.Prelude.{ℕ, ◌≡◌, ◌<◌, ◌≤◌, IfSome, IfOk, IfNone, None, Some, [], length, map};
 ghost use Rattle.std.specs.List.{All};
 ghost use Rattle.std.specs.Option.{option_map};
+ghost use Rattle.cstn_label.specs.Limits.{most_ids};
 ghost use Rattle.cstn_tree.specs.Trees.{names_on};
 ghost use Rattle.cstn_tree.specs.Texts.{names_read, at_read, ask_read, word_read, line_read};
 ghost use Rattle.cstn_tree.specs.Read.{the_line};
@@ -14,7 +15,7 @@ use std::alloc::{AllocError, Global};
 
 // The time-points of one name or more, with a space between names; none where the text isn't of that form.
 fn read_names(alloc: Global, names: &Names, bytes: &[u8]) -> Result<Option<Named>, AllocError>
-    requires few { length names.now ≤ 65536 }
+    requires few { length names.now ≤ most_ids }
     ensures read { IfOk result (λ named. option_map (λ n. n) named ≡ names_read names.now bytes.now) }
     ensures inside { IfOk result (λ named. IfSome named (λ n. All (λ x. x < length names.now) n)) }
 {
@@ -35,7 +36,7 @@ fn read_names(alloc: Global, names: &Names, bytes: &[u8]) -> Result<Option<Named
 }
 
 fn read_at(alloc: Global, names: &Names, bytes: &[u8]) -> Result<Option<Line>, AllocError>
-    requires few { length names.now ≤ 65536 }
+    requires few { length names.now ≤ most_ids }
     ensures read { IfOk result (λ line. option_map the_line line ≡ at_read names.now bytes.now) }
     ensures inside { IfOk result (λ line. IfSome line (λ l. All (λ x. x < length names.now) (names_on (the_line l)))) }
 {
@@ -70,7 +71,7 @@ fn read_word(
     word: &[u8],
     rest: &[u8],
 ) -> Result<Option<Line>, AllocError>
-    requires few { length names.now ≤ 65536 }
+    requires few { length names.now ≤ most_ids }
     ensures read { IfOk result (λ line. option_map the_line line ≡ word_read names.now word.now rest.now) }
     ensures inside { IfOk result (λ line. IfSome line (λ l. All (λ x. x < length names.now) (names_on (the_line l)))) }
 {
@@ -85,7 +86,7 @@ fn read_word(
 
 /// The line of a tree that a text is, if it is one. Fails for want of memory alone.
 pub fn read_line(alloc: Global, names: &Names, bytes: &[u8]) -> Result<Option<Line>, AllocError>
-    requires few { length names.now ≤ 65536 }
+    requires few { length names.now ≤ most_ids }
     ensures read { IfOk result (λ line. option_map the_line line ≡ line_read names.now bytes.now) }
     ensures inside { IfOk result (λ line. IfSome line (λ l. All (λ x. x < length names.now) (names_on (the_line l)))) }
 {

@@ -1,6 +1,7 @@
 // Trees as texts.
 ghost use Rattle.std.specs.Prelude.{ℕ, ◌≡◌, ◌<◌, ◌≤◌, ◌++◌, ◌∷◌, [], length, map, flat_map, slice_index_or, string_bytes, IfOk, OnOk, codes};
 ghost use Rattle.std.specs.List.{All};
+ghost use Rattle.cstn_net.specs.Limits.{most_load};
 ghost use Rattle.cstn_text.specs.Names.{AreNames};
 ghost use Rattle.cstn_text.specs.Numbers.{printed_number};
 ghost use Rattle.cstn_text.specs.PrintedNames.{printed_name};
@@ -22,7 +23,7 @@ use std::alloc::{AllocError, Global};
 /// Beside the text it takes memory for one name at a time. Fails for want of memory alone.
 pub fn print(alloc: Global, tree: &Tree, load: u32, names: &Names) -> Result<String, AllocError>
     requires named { IsAmong (length names.now) (the_tree tree.now) }
-    requires load { (1 ≤ load) × (load ≤ 4194304) }
+    requires load { (1 ≤ load) × (load ≤ most_load) }
     ensures shown { IfOk result (λ text. string_bytes text ≡ shown names.now load tree.now) }
     ensures back { FitsText (the_tree tree.now) → IfOk result (λ text. told names.now (string_bytes text) ≡ tells tree.now) }
 {

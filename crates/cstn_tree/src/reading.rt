@@ -2,6 +2,7 @@
 ghost use Rattle.std.specs.Prelude.{ℕ, ◌≡◌, ◌<◌, ◌≤◌, ◌+◌, ◌^◌, ◌∷◌, [], List, Some, length, map, reverse, IfOk, IfErr, IfSome, OnOk, OnErr, ◌++◌};
 ghost use Rattle.std.specs.List.{All};
 ghost use Rattle.std.specs.Option.{option_map};
+ghost use Rattle.cstn_label.specs.Limits.{most_ids};
 ghost use Rattle.cstn_tree.specs.Trees.{IsAmong, names_on};
 ghost use Rattle.cstn_text.specs.Parts.{parts_at};
 ghost use Rattle.cstn_listing.specs.Listings.{at_end, told_after};
@@ -24,7 +25,7 @@ const MOST_DEPTH: u16 = 2100;
 /// cut line where the text ends within the tree, with a line after the tree, and with the 2,101st line of a branch. A tree that
 /// was read is printed as a text that is read again.
 pub fn read(alloc: Global, names: &Names, bytes: &[u8]) -> Result<Tree, TreeError>
-    requires few { length names.now ≤ 65536 }
+    requires few { length names.now ≤ most_ids }
     requires short { length bytes.now < 2 ^ 32 }
     ensures accepted { IfOk result (λ t. told names.now bytes.now ≡ tells t) }
     ensures line { IfErr result (IsWrong (told names.now bytes.now)) }
@@ -44,7 +45,7 @@ pub fn read(alloc: Global, names: &Names, bytes: &[u8]) -> Result<Tree, TreeErro
 
 // The tree of the lines that follow the line of the load.
 fn read_lines(alloc: Global, names: &Names, bytes: &[u8]) -> Result<Tree, TreeError>
-    requires few { length names.now ≤ 65536 }
+    requires few { length names.now ≤ most_ids }
     requires short { length bytes.now + 2 < 2 ^ 32 }
     ensures accepted { IfOk result (λ t. (load : ℕ)
         → without_load (told_after (tree_lines names.now) load [] (parts_at 10 bytes.now).0 (parts_at 10 bytes.now).1) ≡ tells t) }
@@ -92,7 +93,7 @@ impl Reader {
 
     // Reads the next line of the tree. Refuses where no tree is still to come, or the line isn't of the form or too deep.
     fn take(&mut self, alloc: Global, names: &Names, text: &[u8]) -> Result<(), TreeError>
-        requires few { length names.now ≤ 65536 }
+        requires few { length names.now ≤ most_ids }
         requires reader { IsReader (length names.now) self.old }
         requires short { length self.old.lines.items + 2 < 2 ^ 32 }
         ensures next { OnOk result ((load : ℕ) (texts : List (List ℕ)) (tail : List ℕ)
@@ -175,7 +176,7 @@ fn read_within(
     depth: u16,
     text: &[u8],
 ) -> Result<Option<Line>, AllocError>
-    requires few { length names.now ≤ 65536 }
+    requires few { length names.now ≤ most_ids }
     ensures read { IfOk result (λ line. option_map the_line line ≡ line_within names.now depth text.now) }
     ensures inside { IfOk result (λ line. IfSome line (λ l. All (λ x. x < length names.now) (names_on (the_line l)))) }
     ensures depth { IfOk result (λ line. IfSome line (λ l. depth ≤ 2100)) }

@@ -1,6 +1,7 @@
 // The constraints that have an end at a time-point.
 ghost use Rattle.std.specs.Prelude.{ℕ, ◌≡◌, ◌<◌, ◌≤◌, ◌+◌, length, slice_index, IfOk};
 ghost use Rattle.std.specs.List.{All};
+ghost use Rattle.cstn_net.specs.Limits.{most_constraints};
 ghost use Rattle.cstn_net.specs.Networks.{count};
 ghost use Rattle.cstn_net.specs.Links.{IsNextPlace};
 ghost use Rattle.cstn_net.specs.Read.{the_network};
@@ -42,7 +43,7 @@ impl Starts {
 
     // Links the constraints, from the last to the first.
     fn link(&mut self, constraints: &[Constraint])
-        requires few { length constraints.now ≤ 16384 }
+        requires few { length constraints.now ≤ most_constraints }
         requires inside { All (λ c. c.from.0 < length self.old.firsts.items) constraints.now }
         requires long { length self.old.nexts.items ≡ length constraints.now }
         requires none { AreLinkedFrom (length constraints.now) (starts constraints.now) self.old.firsts.items self.old.nexts.items }

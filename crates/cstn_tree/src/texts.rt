@@ -1,7 +1,9 @@
 // The check of a tree's text.
 ghost use Rattle.std.specs.Prelude.{◌≡◌, ◌≤◌, ◌<◌, ◌+◌, ◌^◌, ◌++◌, ℕ, List, length, IfOk, codes, decimal};
+ghost use Rattle.cstn_label.specs.Limits.{most_ids};
 ghost use Rattle.cstn_net.specs.Networks.{count};
 ghost use Rattle.cstn_net.specs.Read.{the_network};
+ghost use Rattle.cstn_text.specs.Limits.{most_text};
 ghost use Rattle.cstn_reply.specs.Read.{the_said};
 ghost use Rattle.cstn_reply.specs.Texts.{say};
 ghost use Rattle.cstn_tree.specs.Checked.{told_of_line, tree_checked};
@@ -24,8 +26,8 @@ pub fn treecheck_text(
     text: &[u8],
 ) -> Result<Said, AllocError>
     requires named { length names.now ≡ count (the_network network.now) }
-    requires few { length names.now ≤ 65536 }
-    requires short { length text.now ≤ 1476395008 }
+    requires few { length names.now ≤ most_ids }
+    requires short { length text.now ≤ most_text }
     ensures said { IfOk result (λ said. the_said said ≡ tree_checked text.now names.now (the_network network.now)) }
 {
     match read(alloc, names, text) {

@@ -1,5 +1,6 @@
 // The tree of a yes.
 ghost use Rattle.std.specs.Prelude.{ℕ, ◌≡◌, ◌≤◌, ◌++◌, List, IfOk, Some, length, codes, decimal};
+ghost use Rattle.cstn_net.specs.Limits.{most_load};
 ghost use Rattle.cstn_net.specs.Networks.{IsWellFormed, count};
 ghost use Rattle.cstn_net.specs.Read.{the_network};
 ghost use Rattle.cstn_check.specs.Growth.{log_of, load_of, live_bounds};
@@ -30,7 +31,7 @@ pub fn tree_text(
     cap: u32,
 ) -> Result<Said, AllocError>
     requires some { 1 ≤ cap }
-    requires most { cap ≤ 4194304 }
+    requires most { cap ≤ most_load }
     requires well_formed { IsWellFormed (the_network network) }
     requires named { length names.now ≡ count (the_network network) }
     ensures said { IfOk result (λ said. IsUnfolded cap names.now (the_network network) (the_said said)) }
@@ -73,7 +74,7 @@ fn wide(alloc: Global, observed: u16) -> Result<Said, AllocError>
 fn tell(alloc: Global, load: u32, check: Check, names: &Names) -> Result<Said, AllocError>
     requires yes { (l : ℕ) × (check.verdict ≡ Some (Yes l)) }
     requires low { 1 ≤ load }
-    requires high { load ≤ 4194304 }
+    requires high { load ≤ most_load }
     requires named { length names.now ≡ count (the_network check.net) }
     ensures said { IfOk result (λ said. IsTreeText names.now load (live_bounds (log_of (the_network check.net))) (the_network check.net) (the_said said)) }
 {

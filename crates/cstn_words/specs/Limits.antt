@@ -1,14 +1,6 @@
 -- The limits of what words may ask for.
 use Rattle.std.specs.Prelude.{ℕ}
 
--- the greatest deadline, in ticks
-abbrev pub most_deadline : ℕ
-most_deadline = 1000000
-
--- the greatest cap: how many entries a log may have
-abbrev pub most_cap : ℕ
-most_cap = 4194304
-
 -- the cap that holds where none is named
 abbrev pub usual_cap : ℕ
 usual_cap = 65536

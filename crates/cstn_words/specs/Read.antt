@@ -2,7 +2,7 @@
 use Rattle.std.specs.Prelude.{ℕ, List, Option, map, String, string_bytes}
 use Rattle.cstn_words.specs.Requests.{Asked, Taken, Request, request_of, names_of, check, run, edit, follow, closed, tight, conflict, tree, save, replay, closedcheck, treecheck, drill}
 use Rattle.cstn_words.specs.Requests.{host}
-use Rattle.cstn_words.specs.declared.caps.Cap.{Cap}
+use Rattle.cstn_log.specs.declared.caps.Cap.{Cap}
 use Rattle.cstn_words.specs.declared.words.Asked.{Asked as AskedWords}
 use Rattle.cstn_words.specs.declared.words.Taken.{Taken as TakenWords}
 use Rattle.cstn_words.specs.declared.words.Request.{Request as RequestWords}

@@ -2,8 +2,9 @@
 use Rattle.std.specs.Prelude.{ℕ, Bool, nat_le, nat_eq, ◌&&◌, if◌then◌else◌, List, [], ◌∷◌, length, Option, None, Some, codes}
 use Rattle.std.specs.Option.{option_map, option_and_then, unwrap_or}
 use Rattle.std.specs.Cmp.Lexicographic.{pointwise}
+use Rattle.cstn_net.specs.Limits.{most_deadline, most_load}
 use Rattle.cstn_text.specs.Numbers.{number_read}
-use Rattle.cstn_words.specs.Limits.{most_deadline, most_cap, usual_cap, most_host_cap, most_files}
+use Rattle.cstn_words.specs.Limits.{usual_cap, most_host_cap, most_files}
 
 -- the two texts are the same
 abbrev pub is_same : List ℕ → List ℕ → Bool
@@ -59,7 +60,7 @@ deadline_at words = option_at (codes "--deadline") 0 most_deadline words
 
 -- `[--cap CAP]`, with CAP from 1 to 4,194,304
 abbrev pub cap_at : List (List ℕ) → Option Taken
-cap_at words = option_at (codes "--cap") 1 most_cap words
+cap_at words = option_at (codes "--cap") 1 most_load words
 
 -- the number of an option after which no word is left
 abbrev pub last_value : Taken → Option (Option ℕ)

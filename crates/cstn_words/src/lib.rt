@@ -1,8 +1,8 @@
 //! The words of a request.
 #![tactic(auto)]
 
-mod caps;
+mod files;
 mod words;
 
-pub use caps::{Cap, HostFiles};
+pub use files::HostFiles;
 pub use words::{Asked, Request, parse};

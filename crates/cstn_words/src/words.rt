@@ -1,12 +1,16 @@
 // The words of a request.
 ghost use Rattle.std.specs.Prelude.{◌≡◌, ◌≤◌, IfSome, map, string_bytes};
 ghost use Rattle.std.specs.Option.{option_map, option_and_then, unwrap_or};
+ghost use Rattle.cstn_net.specs.Limits.{most_load};
 ghost use Rattle.cstn_words.specs.Requests.{number_within, value_at, option_at, deadline_at, cap_at, deadline_of, cap_of};
 ghost use Rattle.cstn_words.specs.Requests.{asked_of, capped_of, capped_at, checked_of, drill_of, request_at};
 ghost use Rattle.cstn_words.specs.Requests.{hosted_of, host_of};
+ghost use Rattle.cstn_words.specs.Limits.{usual_cap};
 ghost use Rattle.cstn_words.specs.Read.{the_asked, the_capped, the_taken, the_request, request_in};
 
-use crate::{Cap, HostFiles};
+use crate::HostFiles;
+use cstn_log::Cap;
+use cstn_net::{MAX_DEADLINE, MAX_LOAD};
 use cstn_text::read_number;
 
 /// `FILE [--deadline N]`: the file of a document, and the deadline in ticks that is to hold, if one is named.
@@ -78,12 +82,6 @@ struct Taken<'a> {
     value: Option<u64>,
     rest: &'a [String],
 }
-
-const MAX_DEADLINE: u64 = 1_000_000;
-
-const MAX_CAP: u64 = 4_194_304;
-
-const USUAL_CAP: u32 = 65_536;
 
 const MAX_HOST_CAP: u64 = 65_536;
 
@@ -184,7 +182,7 @@ fn host_of(words: &[String]) -> Option<Request<'_>>
 // The request of a host with the files that stand after its options; none where they aren't 1 to 8.
 fn hosted_of<'a>(deadline: Option<u32>, taken: Taken<'a>) -> Option<Request<'a>>
     requires least { IfSome taken.value (λ n. 1 ≤ n) }
-    requires most { IfSome taken.value (λ n. n ≤ MAX_CAP) }
+    requires most { IfSome taken.value (λ n. n ≤ most_load) }
     ensures request { option_map the_request result ≡ hosted_of deadline (the_taken taken.entry) }
 {
     let names = taken.rest;
@@ -242,7 +240,7 @@ fn deadline_of(words: &[String]) -> Option<Option<u32>>
 fn deadline_at(words: &[String]) -> Option<(Option<u32>, &[String])>
     ensures taken { option_map (λ t. record { value = t.0; rest = map string_bytes t.1.now }) result ≡ deadline_at (map string_bytes words.now) }
 {
-    let taken = option_at(words, "--deadline", 0, MAX_DEADLINE)?;
+    let taken = option_at(words, "--deadline", 0, MAX_DEADLINE as u64)?;
     match taken.value {
         None => Some((None, taken.rest)),
         Some(n) => Some((Some(n as u32), taken.rest)),
@@ -253,7 +251,7 @@ fn deadline_at(words: &[String]) -> Option<(Option<u32>, &[String])>
 fn cap_of(words: &[String]) -> Option<Cap>
     ensures cap { option_map (λ cap. cap.entries) result ≡ cap_of (map string_bytes words.now) }
 {
-    let taken = option_at(words, "--cap", 1, MAX_CAP)?;
+    let taken = option_at(words, "--cap", 1, MAX_LOAD as u64)?;
     if !taken.rest.is_empty() {
         return None;
     }
@@ -263,11 +261,11 @@ fn cap_of(words: &[String]) -> Option<Cap>
 // The cap of an option, and the usual one where none is named.
 fn cap_or_usual(value: Option<u64>) -> Cap
     requires some { IfSome value (λ n. 1 ≤ n) }
-    requires most { IfSome value (λ n. n ≤ MAX_CAP) }
-    ensures cap { result.entries ≡ unwrap_or value USUAL_CAP }
+    requires most { IfSome value (λ n. n ≤ most_load) }
+    ensures cap { result.entries ≡ unwrap_or value usual_cap }
 {
     match value {
-        None => Cap { entries: USUAL_CAP },
+        None => Cap::USUAL,
         Some(n) => Cap { entries: n as u32 },
     }
 }

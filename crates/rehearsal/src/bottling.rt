@@ -1,4 +1,5 @@
 ghost use Rattle.std.specs.Prelude.{◌≡◌, ◌+◌, ◌<◌, length, IfOk, OnOk};
+ghost use Rattle.cstn_net.specs.Limits.{most_time_points};
 
 use cstn_label::{Label, Mark, Prop};
 use cstn_net::{Builder, Network};
@@ -39,7 +40,7 @@ pub fn point(
     name: &str,
     observes: Option<Prop>,
 ) -> anyhow::Result<u32>
-    requires few { length names.old < 1024 }
+    requires few { length names.old < most_time_points }
     requires one_each { length net.old.points ≡ length names.old }
     ensures number { IfOk result (λ x. x ≡ length names.old) }
     ensures more { OnOk result (length names.new ≡ length names.old + 1) }

@@ -2,6 +2,7 @@
 ghost use Rattle.std.specs.Prelude.{ℕ, ◌≡◌, ◌<◌, ◌≤◌, ◌+◌, Some, None, IfSome};
 ghost use Rattle.std.specs.Option.{option_map};
 ghost use Rattle.cstn_label.specs.Read.{known_value};
+ghost use Rattle.cstn_net.specs.Limits.{most_deadline};
 ghost use Rattle.cstn_net.specs.Read.{the_network};
 ghost use Rattle.cstn_exec.specs.Runs.{observed_at, ready_at, is_ready, known, is_awaited, awaited};
 
@@ -12,7 +13,7 @@ impl Executive {
     // The moment at which the observer of p was executed, if it was.
     pub(super) fn observed_at(&self, p: Prop) -> Option<u32>
         ensures observed { result ≡ observed_at (the_network self.now.net) self.now.run p.index }
-        ensures in_time { IfSome result (λ m. m ≤ 1000000) }
+        ensures in_time { IfSome result (λ m. m ≤ most_deadline) }
     {
         self.is_right();
         match self.observer(p) {

@@ -1,6 +1,7 @@
 // Which time-points are executed at a moment.
 ghost use Rattle.std.specs.Prelude.{◌≡◌, ◌<◌, ◌≤◌, ◌&&◌, not, nat_lt, is_none, Some, None, length, map};
 ghost use Rattle.std.specs.List.{All, filter, range_with_len};
+ghost use Rattle.cstn_net.specs.Limits.{most_time_points};
 ghost use Rattle.cstn_net.specs.Read.{the_network};
 ghost use Rattle.cstn_plan.specs.Plans.{the_bounds};
 ghost use Rattle.cstn_exec.specs.Runs.{AreAskedUnlessAwaited, due, is_free_by, called};
@@ -36,7 +37,7 @@ impl Executive {
 
 // Names the time-points that aren't executed and whose moment in `after` is t at most, in ascending number.
 fn collect(named: &mut Names, moments: &[Option<u32>], after: &Moments, t: u32)
-    requires few { length moments.now ≤ 1024 }
+    requires few { length moments.now ≤ most_time_points }
     requires room { length moments.now ≤ named.old.capacity }
     ensures named { map (λ x. x.0) named.new.items ≡ filter (is_free_by moments.now after.now t) (range_with_len 0 (length moments.now)) }
     ensures capacity { named.new.capacity ≡ named.old.capacity }

@@ -1,6 +1,7 @@
 // The search for the due moment.
 ghost use Rattle.std.specs.Prelude.{ℕ, ◌≡◌, ◌<◌, ◌≤◌, ◌+◌, true, false, Some, None, length, is_some, slice_index, slice_index_or};
 ghost use Rattle.std.specs.List.{list_all};
+ghost use Rattle.cstn_net.specs.Limits.{most_time_points, most_deadline};
 ghost use Rattle.cstn_net.specs.Networks.{count};
 ghost use Rattle.cstn_net.specs.Read.{the_network};
 ghost use Rattle.cstn_plan.specs.Plans.{the_bounds};
@@ -29,7 +30,7 @@ impl Executive {
 
     // The first moment after t at which the outcome of an executed observer becomes known or awaited; else u32::MAX.
     fn next_ready(&self, t: u32) -> u32
-        requires { t ≤ 1000000 }
+        requires { t ≤ most_deadline }
         ensures later { t < result }
         ensures same { (w p : ℕ) → t ≤ w → w < result → is_ready (the_network self.now.net) self.now.run (w + 1) p ≡ true
             → is_ready (the_network self.now.net) self.now.run (t + 1) p ≡ true }
@@ -87,7 +88,7 @@ impl Executive {
 
 // The moment, if it is after t, and else u32::MAX, which is past every deadline.
 fn after(t: u32, moment: Option<u32>) -> u32
-    requires { t ≤ 1000000 }
+    requires { t ≤ most_deadline }
     ensures later { t < result }
     ensures same { (w : ℕ) → t ≤ w → w < result → is_before (w + 1) moment ≡ true → is_before (t + 1) moment ≡ true }
 {
@@ -99,7 +100,7 @@ fn after(t: u32, moment: Option<u32>) -> u32
 
 // The least of the moments in `after` of the time-points that aren't executed, each raised to t where it is below.
 fn least_from(moments: &[Option<u32>], after: &Moments, t: u32) -> u32
-    requires few { length moments.now ≤ 1024 }
+    requires few { length moments.now ≤ most_time_points }
     requires waits { list_all is_some moments.now ≡ false }
     ensures from { t ≤ result }
     ensures held { (x u : ℕ) → x < length moments.now → slice_index_or moments.now x None ≡ None → t ≤ u → u < result → u < slice_index after.now x }

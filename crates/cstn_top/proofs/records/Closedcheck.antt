@@ -3,6 +3,7 @@ use Rattle.std.proofs.Common.{ℕ, Bool, true, false, List, length, ap, sym, sub
 use Rattle.std.specs.Prelude.{nat_lt, if◌then◌else◌, get_or, Option, codes}
 use Rattle.cstn_net.specs.Networks.{Network, IsWellFormed}
 use Rattle.cstn_net.specs.Strategies.{IsConsistent}
+use Rattle.cstn_text.specs.Limits.{most_text}
 use Rattle.cstn_words.specs.Requests.{Asked, closedcheck}
 use Rattle.cstn_reply.specs.Texts.{Said, say}
 use Rattle.cstn_top.specs.Plans.{says, IsOutput, MayTalk}
@@ -23,7 +24,6 @@ use Rattle.cstn_graphml.specs.Networks.{labelled_of}
 use Rattle.cstn_top.proofs.Proved.{IsRight, IsProved, no_evidence}
 use Rattle.cstn_top.proofs.Meanings.{text_silent}
 use Rattle.cstn_top.proofs.SomeOutput.{text_some, certified_some, document_some}
-use Rattle.cstn_documents.specs.Limits.{most_text}
 
 -- what the outcome of a check of bounds tells of a network
 abbrev Certifies : ToldBounds → Network → Outcome → Type 0

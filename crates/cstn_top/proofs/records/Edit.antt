@@ -2,6 +2,7 @@
 use Rattle.std.proofs.Common.{◌≡◌, ℕ, ◌<◌, List, length, refl, ap, sym, ◌∙◌, subst, inl, inr, []}
 use Rattle.std.specs.Prelude.{◌⊎◌, get_or, Option, None, Some, IsSomeAnd, IfSome}
 use Rattle.std.proofs.lemmas.Option.{same_Some}
+use Rattle.cstn_net.specs.Limits.{most_constraints}
 use Rattle.cstn_io.specs.Contents.{IsAllOf, with_bytes}
 use Rattle.cstn_net.specs.Networks.{Network, IsWellFormed, count}
 use Rattle.cstn_net.specs.Strategies.{IsConsistent}
@@ -34,7 +35,6 @@ use Rattle.cstn_top.proofs.Dispatched.{IsEnded}
 use Rattle.cstn_top.proofs.Proved.{IsRight, IsProved, no_evidence}
 use Rattle.cstn_top.proofs.Meanings.{network_then, on_network, none_such}
 use Rattle.cstn_top.proofs.SomeOutput.{plain_some}
-use Rattle.cstn_documents.specs.Limits.{most_constraints}
 
 edit_right : (live : Option (List ℕ)) (asked : Asked) (cap : ℕ) (contents : List (List ℕ)) (o : Outcome) → HasNetwork (get_or contents 0 []) asked.deadline (EditTells live cap o) → IsRight live o (edit asked cap) contents
 edit_right live asked cap contents Good has = has

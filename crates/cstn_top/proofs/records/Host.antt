@@ -1,6 +1,7 @@
 -- What is proved of `host`.
 use Rattle.std.proofs.Common.{◌≡◌, ℕ, ◌≤◌, List, refl, sym, subst, arith, []}
 use Rattle.std.specs.Prelude.{Option}
+use Rattle.cstn_net.specs.Limits.{most_load}
 use Rattle.cstn_net.specs.Networks.{Network}
 use Rattle.cstn_reply.specs.Texts.{Said}
 use Rattle.cstn_check.specs.Decisions.{IsNo}
@@ -24,7 +25,6 @@ use Rattle.cstn_top.specs.Questions.{Asks, the_question, kind_at}
 use Rattle.cstn_top.proofs.Preparing.{whole}
 use Rattle.cstn_top.proofs.Proved.{IsRight, IsProved}
 use Rattle.cstn_top.proofs.SomeOutput.{attended_some, documents_some}
-use Rattle.cstn_words.specs.Limits.{most_cap}
 
 host_right : (live : Option (List ℕ)) (files : List (List ℕ)) (deadline : Option ℕ) (cap : ℕ) (contents : List (List ℕ)) (said : Said) (o : Outcome) → HostTells cap deadline contents said o → IsRight live o (host files deadline cap) contents
 host_right live files deadline cap contents said Good tells' = tells'
@@ -36,7 +36,7 @@ host_right live files deadline cap contents said Unfinished tells' = tt
 host_right live files deadline cap contents said Script tells' = tt
 host_right live files deadline cap contents said Wide tells' = tells'
 
-host_stands : NoAccepted → (cap : ℕ) (deadline : Option ℕ) (contents : List (List ℕ)) (said : Said) (o : Outcome) → cap ≤ most_cap → HostTells cap deadline contents said o →
+host_stands : NoAccepted → (cap : ℕ) (deadline : Option ℕ) (contents : List (List ℕ)) (said : Said) (o : Outcome) → cap ≤ most_load → HostTells cap deadline contents said o →
     Stands o (Unit {0}) (FirstHas contents deadline cap (λ names net. IsNoText names net said.text))
 host_stands no_text cap deadline contents said Good capped tells' = tt
 host_stands no_text cap deadline contents said Bad capped tells' =

@@ -3,6 +3,7 @@ use Rattle.std.proofs.Common.{◌≡◌, ℕ, ◌≤◌, ◌<◌, Bool, true, fa
 use Rattle.std.specs.Prelude.{nat_lt, if◌then◌else◌, get_or, Option, codes}
 use Rattle.cstn_net.specs.Networks.{Network, IsWellFormed}
 use Rattle.cstn_net.specs.Strategies.{IsConsistent}
+use Rattle.cstn_text.specs.Limits.{most_text}
 use Rattle.cstn_rules.proofs.Derived.{refuted_inconsistent}
 use Rattle.cstn_refute.specs.Texts.{Told as ToldText, tells, wrong as wrong_text, told as told_by}
 use Rattle.cstn_words.specs.Requests.{Asked, replay}
@@ -25,7 +26,6 @@ use Rattle.cstn_graphml.specs.Networks.{labelled_of}
 use Rattle.cstn_top.proofs.Proved.{IsRight, IsProved, no_evidence}
 use Rattle.cstn_top.proofs.Meanings.{text_silent}
 use Rattle.cstn_top.proofs.SomeOutput.{text_some, replayed_some, document_some}
-use Rattle.cstn_documents.specs.Limits.{most_text}
 
 -- what the outcome of a replay tells of a text and a network
 abbrev Replays : List ℕ → ToldText → Network → Outcome → Type 0

@@ -1,6 +1,7 @@
 -- What is proved of `run`.
 use Rattle.std.proofs.Common.{◌≡◌, ℕ, ◌≤◌, ◌<◌, Bool, true, false, List, ◌∷◌, ◌+◌, map, refl, ap, sym, ◌∙◌, subst, inl, inr, arith, []}
 use Rattle.std.specs.Prelude.{◌⊎◌, if◌then◌else◌, get_or, Option, None, Some, IsSomeAnd, IfSome}
+use Rattle.cstn_net.specs.Limits.{most_load}
 use Rattle.cstn_io.specs.Contents.{IsAllOf, with_bytes}
 use Rattle.cstn_net.specs.Networks.{count}
 use Rattle.cstn_graphml.specs.Document.{Parts, document}
@@ -51,7 +52,6 @@ use Rattle.cstn_top.proofs.Played.{TurnIs, stops_at, Played, all_answered, one_l
 use Rattle.cstn_top.proofs.Proved.{IsRight, IsProved}
 use Rattle.cstn_top.proofs.Accepted.{plan_stands}
 use Rattle.cstn_top.proofs.SomeOutput.{guided_some, document_some}
-use Rattle.cstn_words.specs.Limits.{most_cap}
 
 -- what follows of the labelled network of a document
 fit_then : (bytes : List ℕ) (deadline : Option ℕ) (one other : List (List ℕ) → Labelled → Type 0) → HasLabelled bytes deadline one → ((names : List (List ℕ)) (m : Labelled) → IsLabelled m → IsOfLabelled names m → one names m → other names m) → HasLabelled bytes deadline other
@@ -183,7 +183,7 @@ run_yes cap m Unfinished X consistent told = tt
 run_yes cap m Script X consistent told = tt
 run_yes cap m Wide X consistent told = tt
 
-run_stands : NoAccepted → (cap : ℕ) (names : List (List ℕ)) (m : Labelled) (live : List ℕ) (said : Said) → IsOfLabelled names m → cap ≤ most_cap →
+run_stands : NoAccepted → (cap : ℕ) (names : List (List ℕ)) (m : Labelled) (live : List ℕ) (said : Said) → IsOfLabelled names m → cap ≤ most_load →
     IsOutput (carried_out cap names m) live said → StandsFor (λ text. Unit {0}) (IsNoText names (lowered m)) said
 run_stands no_text cap names m live said of capped output =
     plan_stands no_text (λ text. Unit {0}) cap names (lowered m) after_yes live said of.plain capped

@@ -1,9 +1,11 @@
 -- What is proved of `tree`.
 use Rattle.std.proofs.Common.{ℕ, ◌≤◌, Bool, true, false, List, ◌+◌, refl, ap, sym, subst, inl, inr, ◌++◌, []}
 use Rattle.std.specs.Prelude.{nat_lt, if◌then◌else◌, get_or, Option, codes, decimal}
+use Rattle.cstn_net.specs.Limits.{most_load}
 use Rattle.cstn_net.specs.Networks.{Network}
 use Rattle.cstn_graphml.specs.Document.{document}
 use Rattle.cstn_check.specs.Growth.{log_of, load_of, live_bounds}
+use Rattle.cstn_tree.specs.Limits.{most_observed}
 use Rattle.cstn_words.specs.Requests.{Asked, tree}
 use Rattle.cstn_reply.specs.Texts.{Said, say}
 use Rattle.cstn_top.specs.Plans.{says, IsOutput, Plan, branches}
@@ -23,8 +25,6 @@ use Rattle.cstn_top.proofs.Proved.{IsRight, IsProved}
 use Rattle.cstn_top.proofs.Meanings.{network_then, on_network, none_such, never_talks}
 use Rattle.cstn_top.proofs.Accepted.{plan_stands, network_shown}
 use Rattle.cstn_top.proofs.SomeOutput.{unfolded_some, plain_some}
-use Rattle.cstn_words.specs.Limits.{most_cap}
-use Rattle.cstn_top.specs.Limits.{most_observed}
 
 tree_right : (live : Option (List ℕ)) (asked : Asked) (cap : ℕ) (contents : List (List ℕ)) (o : Outcome) → HasNetwork (get_or contents 0 []) asked.deadline (λ names net. Unfolds cap names net o) → IsRight live o (tree asked cap) contents
 tree_right live asked cap contents Good has = has
@@ -36,7 +36,7 @@ tree_right live asked cap contents Unfinished has = tt
 tree_right live asked cap contents Script has = tt
 tree_right live asked cap contents Wide has = has
 
-tree_stands : NoAccepted → (cap : ℕ) (names : List (List ℕ)) (net : Network) (live : List ℕ) (said : Said) → IsOfDocument names net → cap ≤ most_cap →
+tree_stands : NoAccepted → (cap : ℕ) (names : List (List ℕ)) (net : Network) (live : List ℕ) (said : Said) → IsOfDocument names net → cap ≤ most_load →
     IsOutput (unfolded cap names net) live said → StandsFor (IsTreeProof names net) (IsNoText names net) said
 tree_stands no_text cap names net live said of capped output = by_width (nat_lt most_observed (observed net)) output
   where

@@ -1,5 +1,6 @@
 -- `check FILE [--deadline N] [--cap CAP]`: whether the network has a strategy.
 use Rattle.std.specs.Prelude.{◌≡◌, ◌⊎◌, ◌≤◌, ◌<◌, ℕ, [], ◌∷◌}
+use Rattle.cstn_net.specs.Limits.{most_load}
 use Rattle.cstn_lift.specs.Lowered.{lowered}
 use Rattle.cstn_check.specs.Growth.{load_of}
 use Rattle.cstn_check.specs.Decisions.{verdict}
@@ -15,7 +16,6 @@ use Rattle.cstn_top.specs.Answers.{Answer, of_lowered, on_labelled, on_verdict}
 use Rattle.cstn_top.specs.Accepted.{IsNoText}
 use Rattle.cstn_top.specs.Verdicts.{IsLabelledYes, IsLabelledNo, IsLabelledDecided}
 use Rattle.cstn_top.specs.Command.{Command, a_text, Nothing, file_in, no_lines}
-use Rattle.cstn_words.specs.Limits.{most_cap}
 
 -- what `check` says of a network
 abbrev pub checked : ℕ → Answer
@@ -38,6 +38,6 @@ check_command asked cap = record {
   bad_text = λ text contents. HasLabelled (file_in contents) asked.deadline (λ names m. IsNoText names (lowered m) text);
   refused = λ told contents. AreThere told (asked.file ∷ []);
   lines = no_lines;
-  ranged = cap ≤ most_cap;
+  ranged = cap ≤ most_load;
   held = λ contents. CanBeHeld (file_in contents) asked.deadline;
 }

@@ -1,5 +1,6 @@
 -- `closed FILE [--deadline N] [--cap CAP]`: the bounds that a yes rests on.
 use Rattle.std.specs.Prelude.{◌≡◌, ◌⊎◌, ◌≤◌, ◌<◌, ℕ, List, [], ◌∷◌}
+use Rattle.cstn_net.specs.Limits.{most_load}
 use Rattle.cstn_net.specs.Networks.{Network}
 use Rattle.cstn_lift.specs.Lowered.{lowered}
 use Rattle.cstn_check.specs.Growth.{log_of, load_of, live_bounds}
@@ -17,7 +18,6 @@ use Rattle.cstn_top.specs.Answers.{Answer, of_lowered, on_labelled, on_verdict}
 use Rattle.cstn_top.specs.Accepted.{IsYesText, IsNoText}
 use Rattle.cstn_top.specs.Verdicts.{IsLabelledYes, IsLabelledNo, IsLabelledDecided, IsListed}
 use Rattle.cstn_top.specs.Command.{Command, a_text, file_in, no_lines}
-use Rattle.cstn_words.specs.Limits.{most_cap}
 
 -- the load of a network, and the bounds of the live entries of its log
 abbrev pub bounds_said : List (List ℕ) → Network → Said
@@ -44,6 +44,6 @@ closed_command asked cap = record {
   bad_text = λ text contents. HasLabelled (file_in contents) asked.deadline (λ names m. IsNoText names (lowered m) text);
   refused = λ told contents. AreThere told (asked.file ∷ []);
   lines = no_lines;
-  ranged = cap ≤ most_cap;
+  ranged = cap ≤ most_load;
   held = λ contents. CanBeHeld (file_in contents) asked.deadline;
 }

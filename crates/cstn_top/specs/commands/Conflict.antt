@@ -1,6 +1,7 @@
 -- `conflict FILE [--deadline N] [--cap CAP]`: constraints that can't be met together.
 use Rattle.std.specs.Prelude.{◌≡◌, ◌≤◌, ◌++◌, ℕ, true, List, [], ◌∷◌}
 use Rattle.std.specs.List.{Contains}
+use Rattle.cstn_net.specs.Limits.{most_load}
 use Rattle.cstn_net.specs.Networks.{Network}
 use Rattle.cstn_net.specs.Strategies.{IsConsistent}
 use Rattle.cstn_graphml.specs.Answers.{CanBeHeld}
@@ -15,7 +16,6 @@ use Rattle.cstn_top.specs.Answers.{Answer, on_document}
 use Rattle.cstn_top.specs.Accepted.{IsNoText}
 use Rattle.cstn_top.specs.Verdicts.{IsRefutedByLog}
 use Rattle.cstn_top.specs.Command.{Command, a_text, Nothing, file_in, no_lines}
-use Rattle.cstn_words.specs.Limits.{most_cap}
 
 -- what `conflict` says of a network
 abbrev pub blamed : ℕ → Answer
@@ -50,6 +50,6 @@ conflict_command asked cap = record {
   bad_text = λ text contents. HasNetwork (file_in contents) asked.deadline (λ names net. IsConflictText names net text);
   refused = λ told contents. AreThere told (asked.file ∷ []);
   lines = no_lines;
-  ranged = cap ≤ most_cap;
+  ranged = cap ≤ most_load;
   held = λ contents. CanBeHeld (file_in contents) asked.deadline;
 }

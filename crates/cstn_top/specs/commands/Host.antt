@@ -1,6 +1,7 @@
 -- `host [--deadline N] [--cap CAP] FILE ..`: plans of several networks, carried out at once.
 use Rattle.std.specs.Prelude.{◌⊎◌, ◌≤◌, ◌<◌, ℕ, suc, List, [], ◌∷◌, ◌++◌, map, take, get_or, Option}
 use Rattle.std.specs.List.{All}
+use Rattle.cstn_net.specs.Limits.{most_load}
 use Rattle.cstn_net.specs.Networks.{Network}
 use Rattle.cstn_graphml.specs.Answers.{CanBeHeld}
 use Rattle.cstn_check.specs.Growth.{load_of}
@@ -13,7 +14,6 @@ use Rattle.cstn_top.specs.Plans.{Plan, session}
 use Rattle.cstn_top.specs.Answers.{on_document, on_verdict}
 use Rattle.cstn_top.specs.Accepted.{IsNoText}
 use Rattle.cstn_top.specs.Command.{Command, a_host, Nothing}
-use Rattle.cstn_words.specs.Limits.{most_cap}
 
 -- what is said of files with these contents, whose documents are read one after another: the refusal of the first document that
 -- is refused, or `answer` of all networks
@@ -72,6 +72,6 @@ host_command files deadline cap = record {
     unfinished = λ live old new contents. Nothing;
     ended = λ status live old new contents. Nothing;
   };
-  ranged = cap ≤ most_cap;
+  ranged = cap ≤ most_load;
   held = λ contents. All (λ bytes. CanBeHeld bytes deadline) contents;
 }

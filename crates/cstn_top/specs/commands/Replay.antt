@@ -1,6 +1,7 @@
 -- `replay FILE PROOF [--deadline N]`: whether steps refute the network.
 use Rattle.std.specs.Prelude.{◌≡◌, ◌⊎◌, ◌≤◌, ◌<◌, ℕ, List, [], ◌∷◌, length}
 use Rattle.cstn_net.specs.Networks.{Network}
+use Rattle.cstn_text.specs.Limits.{most_text}
 use Rattle.cstn_lift.specs.Lowered.{lowered}
 use Rattle.cstn_lift.specs.Strategies.{IsLabelledConsistent}
 use Rattle.cstn_rules.specs.Derivations.{IsRefutation}
@@ -15,7 +16,6 @@ use Rattle.cstn_documents.specs.Documents.{HasLabelled, IsNoDocument}
 use Rattle.cstn_top.specs.Plans.{Plan, says, replays}
 use Rattle.cstn_top.specs.Answers.{Answer, of_lowered, on_labelled, by_text}
 use Rattle.cstn_top.specs.Command.{Command, a_text, Nothing, file_in, proof_in, no_lines}
-use Rattle.cstn_documents.specs.Limits.{most_text}
 
 -- the steps of a text are replayed
 abbrev pub replayed_steps : Told → Network → Plan

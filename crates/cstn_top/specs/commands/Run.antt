@@ -1,5 +1,6 @@
 -- `run FILE [--deadline N] [--cap CAP]`: a network is carried out by the lines of the live source.
 use Rattle.std.specs.Prelude.{◌≡◌, ◌⊎◌, ◌≤◌, ◌<◌, ◌++◌, ℕ, Bool, false, List, [], ◌∷◌, map, Option, None, Some, IfSome}
+use Rattle.cstn_net.specs.Limits.{most_load}
 use Rattle.cstn_io.specs.Contents.{with_bytes, IsAllOf}
 use Rattle.cstn_label.specs.Bounds.{Bound}
 use Rattle.cstn_net.specs.Networks.{count}
@@ -29,7 +30,6 @@ use Rattle.cstn_top.specs.Accepted.{IsNoText}
 use Rattle.cstn_top.specs.Verdicts.{IsLabelledYes, IsLabelledNo}
 use Rattle.cstn_top.specs.Lines.{AreAnswered, StopsAtLine}
 use Rattle.cstn_top.specs.Command.{Command, a_run, Nothing, file_in}
-use Rattle.cstn_words.specs.Limits.{most_cap}
 
 -- what `run` says of a labelled network: after yes the answers to the live lines, by the bounds of the live entries of its log
 abbrev pub carried_out : ℕ → LabelledAnswer
@@ -117,6 +117,6 @@ run_command asked cap = record {
         ((status ≡ Document) × IsNoDocument (file_in contents) asked.deadline)
         ⊎ HasLabelled (file_in contents) asked.deadline (λ names m. IsDecidedRun cap live old new status names m);
   };
-  ranged = cap ≤ most_cap;
+  ranged = cap ≤ most_load;
   held = λ contents. CanBeHeld (file_in contents) asked.deadline;
 }

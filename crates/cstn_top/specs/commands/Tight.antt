@@ -1,5 +1,6 @@
 -- `tight FILE [--deadline N] [--cap CAP]`: the least deadline.
 use Rattle.std.specs.Prelude.{◌≡◌, ◌⊎◌, ◌≤◌, ◌-◌, ◌++◌, ℕ, true, List, [], ◌∷◌, codes, decimal}
+use Rattle.cstn_net.specs.Limits.{most_load}
 use Rattle.cstn_net.specs.Networks.{Network}
 use Rattle.cstn_lift.specs.Lowered.{lowered}
 use Rattle.cstn_lift.specs.Strategies.{IsLabelledConsistent}
@@ -16,7 +17,6 @@ use Rattle.cstn_top.specs.Answers.{Answer, of_lowered, on_labelled}
 use Rattle.cstn_top.specs.Accepted.{IsYesText, IsNoText}
 use Rattle.cstn_top.specs.Verdicts.{IsListed, IsRefutedByLog}
 use Rattle.cstn_top.specs.Command.{Command, a_text, Nothing, file_in, no_lines}
-use Rattle.cstn_words.specs.Limits.{most_cap}
 
 -- what `tight` says of a network
 abbrev pub tightened : ℕ → Answer
@@ -55,6 +55,6 @@ tight_command asked cap = record {
   bad_text = λ text contents. HasLabelled (file_in contents) asked.deadline (λ names m. IsNoText names (lowered m) text);
   refused = λ told contents. AreThere told (asked.file ∷ []);
   lines = no_lines;
-  ranged = cap ≤ most_cap;
+  ranged = cap ≤ most_load;
   held = λ contents. CanBeHeld (file_in contents) asked.deadline;
 }

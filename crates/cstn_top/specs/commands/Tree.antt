@@ -1,9 +1,12 @@
 -- `tree FILE [--deadline N] [--cap CAP]`: the strategy as a tree.
 use Rattle.std.specs.Prelude.{◌≡◌, ◌⊎◌, ◌≤◌, ◌<◌, ℕ, nat_lt, if◌then◌else◌, List, [], ◌∷◌, length, codes}
+use Rattle.cstn_net.specs.Limits.{most_load}
 use Rattle.cstn_net.specs.Networks.{Network}
+use Rattle.cstn_text.specs.Limits.{most_text}
 use Rattle.cstn_check.specs.Growth.{log_of, load_of, live_bounds}
 use Rattle.cstn_check.specs.Decisions.{verdict, IsYes, IsNo}
 use Rattle.cstn_graphml.specs.Answers.{CanBeHeld}
+use Rattle.cstn_tree.specs.Limits.{most_observed}
 use Rattle.cstn_tree.specs.Unfolded.{observed, wide as wide_line, IsTreeText}
 use Rattle.cstn_words.specs.Requests.{Asked}
 use Rattle.cstn_reply.specs.Texts.{Said, say}
@@ -18,9 +21,6 @@ use Rattle.cstn_top.specs.Accepted.{IsAccepted, IsNoText}
 use Rattle.cstn_top.specs.Verdicts.{IsDecided}
 use Rattle.cstn_top.specs.Command.{Command, a_text, file_in, no_lines}
 use Rattle.cstn_top.specs.commands.Treecheck.{tree_checked}
-use Rattle.cstn_words.specs.Limits.{most_cap}
-use Rattle.cstn_documents.specs.Limits.{most_text}
-use Rattle.cstn_top.specs.Limits.{most_observed}
 
 -- what `tree` says of a network: how many propositions are observed, where they are more than 10; and else after yes the load,
 -- and the tree of what the executive does by the bounds of the live entries of the log
@@ -64,6 +64,6 @@ tree_command asked cap = record {
   bad_text = λ text contents. HasNetwork (file_in contents) asked.deadline (λ names net. IsNoText names net text);
   refused = λ told contents. AreThere told (asked.file ∷ []);
   lines = no_lines;
-  ranged = cap ≤ most_cap;
+  ranged = cap ≤ most_load;
   held = λ contents. CanBeHeld (file_in contents) asked.deadline;
 }

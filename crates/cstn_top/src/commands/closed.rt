@@ -1,5 +1,6 @@
 // `closed FILE [--deadline N] [--cap CAP]`
 ghost use Rattle.std.specs.Prelude.{ℕ, ◌≡◌, ◌≤◌, Some, length, IfOk};
+ghost use Rattle.cstn_net.specs.Limits.{most_load};
 ghost use Rattle.cstn_net.specs.Networks.{IsWellFormed, count};
 ghost use Rattle.cstn_net.specs.Read.{the_network};
 ghost use Rattle.cstn_check.specs.Growth.{load_of};
@@ -7,7 +8,6 @@ ghost use Rattle.cstn_check.specs.declared.verdicts.Verdict.TheVariants.{Yes};
 ghost use Rattle.cstn_reply.specs.Read.{the_said};
 ghost use Rattle.cstn_top.specs.commands.Closed.{listed, bounds_said};
 ghost use Rattle.cstn_top.specs.Plans.{says};
-ghost use Rattle.cstn_words.specs.Limits.{most_cap};
 
 use cstn_check::{Check, Judged, growth_is_bounded, judge, live_bounds_are_in_range};
 use cstn_closed::Closed;
@@ -40,7 +40,7 @@ pub(crate) fn closed_text(
 fn list(alloc: Global, load: u32, check: Check, names: &Names) -> Result<Said, AllocError>
     requires yes { (l : ℕ) × (check.verdict ≡ Some (Yes l)) }
     requires low { 1 ≤ load }
-    requires high { load ≤ most_cap }
+    requires high { load ≤ most_load }
     requires load { load ≡ load_of (the_network check.net) }
     requires well_formed { IsWellFormed (the_network check.net) }
     requires named { length names.now ≡ count (the_network check.net) }

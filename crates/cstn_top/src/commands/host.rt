@@ -1,19 +1,19 @@
 // `host [--deadline N] [--cap CAP] FILE ..`
 ghost use Rattle.std.specs.Prelude.{ℕ, ◌≡◌, ◌≤◌, ◌++◌, ◌∷◌, [], length, map, IfOk, OnOk};
 ghost use Rattle.std.specs.List.{All};
+ghost use Rattle.cstn_net.specs.Limits.{most_time_points};
 ghost use Rattle.cstn_net.specs.Networks.{count};
 ghost use Rattle.cstn_net.specs.Read.{the_network};
 ghost use Rattle.cstn_text.specs.PrintedNames.{printed_name};
 ghost use Rattle.cstn_reply.specs.Texts.{yes_line};
 ghost use Rattle.cstn_exec.specs.Running.{AreShort};
 ghost use Rattle.cstn_host.specs.SessionRead.{the_names, IsHostSession};
+ghost use Rattle.cstn_words.specs.Limits.{most_files};
 ghost use Rattle.cstn_top.specs.Begun.{the_named, IsSound, IsBegin};
 ghost use Rattle.cstn_top.specs.commands.Host.{attended};
 ghost use Rattle.cstn_top.specs.Plans.{ComesTo};
 ghost use Rattle.cstn_top.specs.Prepared.{the_plan, FitsKind};
 ghost use Rattle.cstn_top.specs.Command.{a_host};
-ghost use Rattle.cstn_words.specs.Limits.{most_files};
-ghost use Rattle.cstn_documents.specs.Limits.{most_time_points};
 
 use super::Prepared;
 use cstn_check::{Judged, judge, yes_line};

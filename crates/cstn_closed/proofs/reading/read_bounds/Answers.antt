@@ -4,6 +4,7 @@ use Rattle.std.proofs.lemmas.Grind.{common_steps}
 use Rattle.std.proofs.lemmas.List.{length-map}
 use Rattle.cstn_label.specs.Bounds.{Bound}
 use Rattle.cstn_label.specs.Read.{the_bound}
+use Rattle.cstn_net.specs.Limits.{most_load}
 use Rattle.cstn_text.specs.Parts.{parts_at}
 use Rattle.cstn_listing.specs.Listings.{told_after, or_wrong}
 use Rattle.cstn_listing.proofs.ListingLemmas.{told_next, told_viewed, told_last}
@@ -32,7 +33,7 @@ loop-line-preserved c =
     let few = c.in-Ok.ensures.few in
     let on = told_viewed kind the_bound c.args.load bounds c.loop-line.left.now c.in-Some.line.now c.in-Some.rest.now bound _
     (sym c.in-Some.ensures.cut) read c.loop-line.invariant.told in
-    subst (λ xs. record { told : told_after kind c.args.load (map the_bound xs) (parts_at 10 c.in-Some.rest.now).0 (parts_at 10 c.in-Some.rest.now).1 ≡ told_after kind c.args.load [] (parts_at 10 c.args.bytes.now).0 (parts_at 10 c.args.bytes.now).1; few : length xs ≤ 4194304 })
+    subst (λ xs. record { told : told_after kind c.args.load (map the_bound xs) (parts_at 10 c.in-Some.rest.now).0 (parts_at 10 c.in-Some.rest.now).1 ≡ told_after kind c.args.load [] (parts_at 10 c.args.bytes.now).0 (parts_at 10 c.args.bytes.now).1; few : length xs ≤ most_load })
     (sym c.in-Ok-push.ensures.items)
     (record { told = on; few = grind (arith, common_steps) })
 

@@ -8,6 +8,6 @@ use Rattle.cstn_conflict.proofs.conflicts.left_over.Given as goal
 abbrev pub invariant-loop-k : goal.invariant-loop-k
 invariant-loop-k l = record {
   end : l.k-end ≡ length l.ids;
-  reached : Reaches l.cap (the_network l.fn.net) (the_network l.net) (drop l.k (ids_of (the_network l.fn.net)));
-  last : IsNoOn l.cap (the_network l.net) l.ids l.last;
+  reached : Reaches l.cap.entries (the_network l.fn.net) (the_network l.net) (drop l.k (ids_of (the_network l.fn.net)));
+  last : IsNoOn l.cap.entries (the_network l.net) l.ids l.last;
 }

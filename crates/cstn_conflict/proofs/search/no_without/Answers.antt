@@ -10,21 +10,21 @@ use Rattle.cstn_conflict.proofs.search.no_without.Goals as goal
 
 pub returns-clause-consistent : goal.returns-clause-consistent
 returns-clause-consistent c load is =
-    subst (λ (n : Network). (load_of n ≤ c.args.cap) × IsConsistent n)
+    subst (λ (n : Network). (load_of n ≤ c.args.cap.entries) × IsConsistent n)
     (taken_out c.args.id c.in_ok-less.less c.take_out.new.self c.take_out.result c.take_out.ensures.none c.take_out.ensures.same c.take_out.ensures.gone
     ∙ ap (without c.args.id) (copied c.args.net.now c.in_ok-less.less c.in_ok-less.ensures.equal))
     (let told = c.no_on.ensures.consistent load is in (told.1, told.2))
 
 pub returns-clause-full : goal.returns-clause-full
 returns-clause-full c is =
-    subst (λ (n : Network). c.args.cap < load_of n)
+    subst (λ (n : Network). c.args.cap.entries < load_of n)
     (taken_out c.args.id c.in_ok-less.less c.take_out.new.self c.take_out.result c.take_out.ensures.none c.take_out.ensures.same c.take_out.ensures.gone
     ∙ ap (without c.args.id) (copied c.args.net.now c.in_ok-less.less c.in_ok-less.ensures.equal))
     (c.no_on.ensures.full is)
 
 pub returns-clause-no : goal.returns-clause-no
 returns-clause-no c =
-    subst (λ (n : Network). IfOk c.no_on.result (IsNoOn c.args.cap n c.args.ids.now))
+    subst (λ (n : Network). IfOk c.no_on.result (IsNoOn c.args.cap.entries n c.args.ids.now))
     (taken_out c.args.id c.in_ok-less.less c.take_out.new.self c.take_out.result c.take_out.ensures.none c.take_out.ensures.same c.take_out.ensures.gone
     ∙ ap (without c.args.id) (copied c.args.net.now c.in_ok-less.less c.in_ok-less.ensures.equal))
     c.no_on.ensures.no

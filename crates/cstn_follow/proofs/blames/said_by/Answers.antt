@@ -1,5 +1,6 @@
 use Rattle.std.proofs.Common.{◌≡◌, ◌<◌, ◌≤◌, length, arith, sym, subst, ap, ◌∙◌}
 use Rattle.std.specs.List.{All}
+use Rattle.cstn_net.specs.Limits.{most_constraints}
 use Rattle.cstn_net.specs.Networks.{Network}
 use Rattle.cstn_net.specs.Read.{the_network}
 use Rattle.cstn_lift.specs.Labelled.{Labelled}
@@ -26,8 +27,8 @@ pub with_base-requires-clause-few : goal.with_base-requires-clause-few
 with_base-requires-clause-few c =
     let m = the_labelled c.args.network.now in
     let short = c.parts_are_labelled.ensures.short m c.requires.part.0 c.base.ensures.labelled in
-    let few = subst (λ (n : Network). length n.constraints ≤ 16384) c.lowered.ensures.lowered c.lowered.ensures.well_formed.few_constraints in
-    subst (λ (n : Network). length (lowered (with_base m n)).constraints ≤ 16384) (sym c.requires.part.1) (omega arith)
+    let few = subst (λ (n : Network). length n.constraints ≤ most_constraints) c.lowered.ensures.lowered c.lowered.ensures.well_formed.few_constraints in
+    subst (λ (n : Network). length (lowered (with_base m n)).constraints ≤ most_constraints) (sym c.requires.part.1) (omega arith)
 
 pub rest-requires-clause-kept : goal.rest-requires-clause-kept
 rest-requires-clause-kept c =

@@ -1,4 +1,5 @@
 use Rattle.std.proofs.Common.{◌≤◌, Some, length, ap, sym, subst, ◌∙◌}
+use Rattle.cstn_net.specs.Limits.{most_constraints}
 use Rattle.cstn_net.specs.Networks.{Network}
 use Rattle.cstn_lift.specs.Lowered.{lowered}
 use Rattle.cstn_lift.specs.Read.{the_labelled}
@@ -13,7 +14,7 @@ pub returns-in-Ok : goal.returns-in-Ok
 returns-in-Ok c =
     let m = the_labelled c.args.network.now in
     let h = the_history c.args.history.now in
-    let few = subst (λ (net : Network). length net.constraints ≤ 16384) c.lowered.ensures.lowered c.lowered.ensures.well_formed.few_constraints in
+    let few = subst (λ (net : Network). length net.constraints ≤ most_constraints) c.lowered.ensures.lowered c.lowered.ensures.well_formed.few_constraints in
     record {
       verdict = ap (λ (v : Verdict). Some v) (c.run.ensures.again (verdict c.args.cap (lowered (rest m h c.args.fresh))) c.in-Ok.ensures.verdict).0
           ∙ sym (left_fits m h c.args.fresh c.args.cap few c.in-Ok.ensures.few);

@@ -1,5 +1,6 @@
 use Rattle.std.proofs.Common.{◌≡◌, ◌+◌, ◌<◌, arith, sym, subst, ap, ◌∙◌}
 use Rattle.std.specs.List.{All}
+use Rattle.cstn_net.specs.Limits.{most_constraints}
 use Rattle.cstn_net.specs.Networks.{Network, Constraint as TheConstraint, IsConstraint, count}
 use Rattle.cstn_net.specs.declared.constraints.Constraint.{Constraint}
 use Rattle.cstn_net.specs.Read.{NetworkParts, the_network}
@@ -8,7 +9,7 @@ use Rattle.cstn_follow.proofs.waits.base_until.Goals as goal
 
 pub insert-requires-clause-above : goal.insert-requires-clause-above
 insert-requires-clause-above c k d inside =
-    let bound = c.args.fresh + 16384 in
+    let bound = c.args.fresh + most_constraints in
     let old = c.args.net.now.constraints in
     let constraints_of : NetworkParts → _ = λ n. n.constraints in
     let same = ap constraints_of c.reserve.ensures.same ∙ ap constraints_of c.in_ok-base.ensures.equal in

@@ -1,5 +1,6 @@
 use Rattle.std.proofs.Common.{ℕ, ◌≡◌, ◌<◌, length, arith, rules, sym, subst, ap, ◌∙◌}
 use Rattle.std.specs.Prelude.{slice_index_or}
+use Rattle.cstn_net.specs.Limits.{most_constraints}
 use Rattle.cstn_net.specs.Read.{NetworkParts}
 use Rattle.cstn_lift.specs.Labelled.{Labelled}
 use Rattle.cstn_lift.specs.Lowered.{lowered}
@@ -17,8 +18,8 @@ returns-then-not-has_room-clause-many c is room =
     let n = the_labelled c.in-Ok.remaining in
     let rest_is = c.in-Ok.ensures.rest in
     no_room_said n c.has_room.result c.has_room.ensures c.if-not-has_room.true
-    (subst (λ (l : Labelled). length l.base.constraints < 16384) (sym rest_is) room.base)
-    (subst (λ (l : Labelled). length (lowered l).constraints < 16384) (sym rest_is) room.lowered)
+    (subst (λ (l : Labelled). length l.base.constraints < most_constraints) (sym rest_is) room.base)
+    (subst (λ (l : Labelled). length (lowered l).constraints < most_constraints) (sym rest_is) room.lowered)
 
 pub index-requires-2 : goal.index-requires-2
 index-requires-2 c =
@@ -40,8 +41,8 @@ halve-requires-clause-takes c =
     let good = c.base.ensures.labelled in
     let timely : IsTimelyHistory m h = record { history = c.requires.kept.history; in_time = c.requires.kept.in_time } in
     let said = room_said n c.has_room.result c.has_room.ensures c.if-not-has_room.false in
-    let low = subst (λ (l : Labelled). length (lowered l).constraints < 16384) rest_is said.1 in
-    let room : HasRoomToWait m h fresh = record { base = subst (λ (l : Labelled). length l.base.constraints < 16384) rest_is said.0; lowered = low } in
+    let low = subst (λ (l : Labelled). length (lowered l).constraints < most_constraints) rest_is said.1 in
+    let room : HasRoomToWait m h fresh = record { base = subst (λ (l : Labelled). length l.base.constraints < most_constraints) rest_is said.0; lowered = low } in
     let d = c.index-2.result.now in
     let number_is : d ≡ number_of m h x = c.index-2.ensures ∙ ap (λ (i : ℕ). slice_index_or c.in-Ok-numbers_left.numbers.items i d) c.index.ensures.index
     ∙ number_at m h c.in-Ok-numbers_left.numbers.items c.in-Ok-numbers_left.ensures.numbers x d c.requires.inside in
@@ -63,8 +64,8 @@ returns-in-Ok-Some c =
     let n = the_labelled c.in-Ok.remaining in
     let rest_is = c.in-Ok.ensures.rest in
     let said = room_said n c.has_room.result c.has_room.ensures c.if-not-has_room.false in
-    let low = subst (λ (l : Labelled). length (lowered l).constraints < 16384) rest_is said.1 in
-    let room : HasRoomToWait m h fresh = record { base = subst (λ (l : Labelled). length l.base.constraints < 16384) rest_is said.0; lowered = low } in
+    let low = subst (λ (l : Labelled). length (lowered l).constraints < most_constraints) rest_is said.1 in
+    let room : HasRoomToWait m h fresh = record { base = subst (λ (l : Labelled). length l.base.constraints < most_constraints) rest_is said.0; lowered = low } in
     let d = c.index-2.result.now in
     let number_is : d ≡ number_of m h x = c.index-2.ensures ∙ ap (λ (i : ℕ). slice_index_or c.in-Ok-numbers_left.numbers.items i d) c.index.ensures.index
     ∙ number_at m h c.in-Ok-numbers_left.numbers.items c.in-Ok-numbers_left.ensures.numbers x d c.requires.inside in
@@ -85,8 +86,8 @@ returns-in-Ok-None-clause-full c is =
     let n = the_labelled c.in-Ok.remaining in
     let rest_is = c.in-Ok.ensures.rest in
     let said = room_said n c.has_room.result c.has_room.ensures c.if-not-has_room.false in
-    let low = subst (λ (l : Labelled). length (lowered l).constraints < 16384) rest_is said.1 in
-    let room : HasRoomToWait m h fresh = record { base = subst (λ (l : Labelled). length l.base.constraints < 16384) rest_is said.0; lowered = low } in
+    let low = subst (λ (l : Labelled). length (lowered l).constraints < most_constraints) rest_is said.1 in
+    let room : HasRoomToWait m h fresh = record { base = subst (λ (l : Labelled). length l.base.constraints < most_constraints) rest_is said.0; lowered = low } in
     let d = c.index-2.result.now in
     let number_is : d ≡ number_of m h x = c.index-2.ensures ∙ ap (λ (i : ℕ). slice_index_or c.in-Ok-numbers_left.numbers.items i d) c.index.ensures.index
     ∙ number_at m h c.in-Ok-numbers_left.numbers.items c.in-Ok-numbers_left.ensures.numbers x d c.requires.inside in

@@ -1,5 +1,6 @@
 use Rattle.std.proofs.Common.{◌≡◌, ◌≤◌, ◌++◌, ◌∷◌, [], length, arith, sym, subst, ap, ◌∙◌}
 use Rattle.std.specs.Prelude.{IfOk}
+use Rattle.cstn_net.specs.Limits.{most_constraints}
 use Rattle.cstn_net.specs.Networks.{Network, IsWellFormed}
 use Rattle.cstn_net.specs.Read.{NetworkParts, the_network}
 use Rattle.cstn_lift.specs.Lowered.{lowered}
@@ -28,7 +29,7 @@ with_base-requires-clause-few c =
     ∙ ap (λ (n : NetworkParts). record (the_network n) { constraints = (the_network n).constraints ++ one ∷ [] }) c.base.ensures.base in
     let long = c.waiting_is_found.ensures.long m c.args.fresh c.args.number c.args.moment c.requires.takes.labelled c.requires.takes.inside in
     let few = c.requires.takes.lowered in
-    subst (λ (n : Network). length (lowered (with_base m n)).constraints ≤ 16384) (sym is) (omega arith)
+    subst (λ (n : Network). length (lowered (with_base m n)).constraints ≤ most_constraints) (sym is) (omega arith)
 
 pub returns : goal.returns
 returns c =

@@ -2,6 +2,7 @@ use Rattle.std.proofs.Common.{◌≡◌, ◌≤◌, List, length, subst, ap, ◌
 use Rattle.std.specs.Prelude.{map}
 use Rattle.cstn_label.specs.Labels.{Label}
 use Rattle.cstn_label.specs.Read.{marks}
+use Rattle.cstn_net.specs.Limits.{most_constraints}
 use Rattle.cstn_lift.specs.Labelled.{Labelled}
 use Rattle.cstn_lift.specs.Faults.{IsLiftRefusal}
 use Rattle.cstn_lift.specs.Read.{the_labelled, with_labels}
@@ -24,7 +25,7 @@ returns-clause-refused c =
     let same : with_labels base labels ≡ R =
     ap (λ (n : Network). record { base = n; labels = map marks labels }) base_is
     ∙ ap (λ (ls : List Label). record R { labels = ls }) c.in-Ok-labels_left.ensures in
-    let few : length R.base.constraints ≤ 16384 = subst (λ (n : Network). length n.constraints ≤ 16384) base_is c.network_is_well_formed.ensures.few_constraints in
+    let few : length R.base.constraints ≤ most_constraints = subst (λ (n : Network). length n.constraints ≤ most_constraints) base_is c.network_is_well_formed.ensures.few_constraints in
     lift_refused R (rest_labelled m h c.args.fresh c.left_of.ensures.labelled c.requires.kept.history c.requires.kept.in_time c.requires.above few)
     c.labelled_networks_have_no_fault.ensures.few c.in-Err-lift.fault c.refusal_of.result
     (subst (λ (n : Labelled). IsLiftRefusal n c.in-Err-lift.fault) same c.in-Err-lift.ensures.refused)

@@ -1,5 +1,6 @@
 use Rattle.std.proofs.Common.{ℕ, ◌≡◌, ◌<◌, ◌≤◌, drop, length}
 use Rattle.std.specs.Prelude.{slice_index}
+use Rattle.cstn_net.specs.Limits.{most_time_points}
 use Rattle.cstn_plan.specs.Plans.{the_bounds}
 use Rattle.cstn_next.specs.Next.{latest}
 use Rattle.cstn_next.proofs.ready.latest.Given as goal
@@ -7,7 +8,7 @@ use Rattle.cstn_next.proofs.ready.latest.Given as goal
 abbrev pub invariant-loop-k : goal.invariant-loop-k
 invariant-loop-k l = record {
   upto : l.k ≤ length l.fn.plan.bounds;
-  moments : (x : ℕ) → x < 1024 → slice_index l.after x ≡ latest (the_bounds (drop l.k l.fn.plan.bounds)) x;
+  moments : (x : ℕ) → x < most_time_points → slice_index l.after x ≡ latest (the_bounds (drop l.k l.fn.plan.bounds)) x;
 }
 
 abbrev pub decreases-loop-k : goal.decreases-loop-k

@@ -4,6 +4,7 @@ use Rattle.std.specs.List.{All}
 use Rattle.std.proofs.lemmas.Grind.{common_steps}
 use Rattle.std.proofs.lemmas.List.{length-map}
 use Rattle.std.proofs.lemmas.List.Elements.{All-push}
+use Rattle.cstn_net.specs.Limits.{most_load}
 use Rattle.cstn_rules.specs.Derivations.{Entry as TheEntry}
 use Rattle.cstn_rules.specs.Read.{the_entry}
 use Rattle.cstn_text.specs.Parts.{parts_at}
@@ -35,7 +36,7 @@ loop-line-preserved c =
     let few = c.in-Ok.ensures.few in
     let on = told_viewed kind the_entry c.args.load steps c.loop-line.left.now c.in-Some.line.now c.in-Some.rest.now step _
     (sym c.in-Some.ensures.cut) read c.loop-line.invariant.told in
-    subst (λ xs. record { told : told_after kind c.args.load (map the_entry xs) (parts_at 10 c.in-Some.rest.now).0 (parts_at 10 c.in-Some.rest.now).1 ≡ told_after kind c.args.load [] (parts_at 10 c.args.bytes.now).0 (parts_at 10 c.args.bytes.now).1; few : length xs ≤ 4194304; each : All IsStep xs })
+    subst (λ xs. record { told : told_after kind c.args.load (map the_entry xs) (parts_at 10 c.in-Some.rest.now).0 (parts_at 10 c.in-Some.rest.now).1 ≡ told_after kind c.args.load [] (parts_at 10 c.args.bytes.now).0 (parts_at 10 c.args.bytes.now).1; few : length xs ≤ most_load; each : All IsStep xs })
     (sym c.in-Ok-push.ensures.items)
     (record { told = on; few = grind (arith, common_steps); each = All-push IsStep steps step c.loop-line.invariant.each c.in-Ok.ensures.form })
 

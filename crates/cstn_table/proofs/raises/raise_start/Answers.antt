@@ -4,6 +4,7 @@ use Rattle.std.proofs.lemmas.Int.{ints}
 use Rattle.std.proofs.lemmas.List.Elements.{All-contains}
 use Rattle.cstn_label.specs.Labels.{Holds}
 use Rattle.cstn_label.specs.Read.{marks, the_scenario}
+use Rattle.cstn_net.specs.Limits.{most_deadline}
 use Rattle.cstn_net.specs.Networks.{IsConstraint, count}
 use Rattle.cstn_net.specs.Read.{the_network, the_constraint}
 use Rattle.cstn_table.specs.Tables.{observed_props, scenario_of, row_at}
@@ -35,7 +36,7 @@ earliest_start-requires-clause-end c =
     let net = the_network c.args.net.now in
     let at : c.place.result ≡ c.args.row * count net + c.args.c.now.to.0 =
     c.place.ensures ∙ ap (λ n. c.args.row * n + c.args.c.now.to.0) c.count-points.ensures.count in
-    subst (λ k. get_or c.args.moments.now k 0 ≤ 1000000) (sym at)
+    subst (λ k. get_or c.args.moments.now k 0 ≤ most_deadline) (sym at)
     (row_small net c.count-points.ensures.well_formed c.args.moments.now c.requires.low c.args.row c.args.c.now.to.0 c.requires.row
     c.requires.range.to)
 

@@ -1,6 +1,7 @@
 use Rattle.std.proofs.Common.{ℕ, ℤ, w32, List, ◌++◌, refl, ap, ◌∙◌, codes, decimal}
 use Rattle.std.proofs.lemmas.Int.{to_z-of_z}
 use Rattle.cstn_label.specs.Read.{marks}
+use Rattle.cstn_net.specs.Limits.{most_constraints}
 use Rattle.cstn_edit.specs.Sessions.{SessionParts, next_id}
 use Rattle.cstn_edit.specs.Edits.{Session, add_refusal, with_added, the_session, the_refusal}
 use Rattle.cstn_reply.specs.Texts.{line}
@@ -18,7 +19,7 @@ returns c =
     elim c.match-add.branch [
       | in-Ok w ↦
           accepted c.args.self.now s c.add.new.self c.self.inside.names c.self.inside.verdict c.self.view_is
-          (λ (x : Session). add_refusal 16384 x c.args.most a) (λ (x : SessionParts). codes "added " ++ decimal (next_id x.highest))
+          (λ (x : Session). add_refusal most_constraints x c.args.most a) (λ (x : SessionParts). codes "added " ++ decimal (next_id x.highest))
           (λ (x : Session). with_added x c.args.from.0 c.args.to.0 c.args.most a) c.match-add.text
           (w.in-Ok.ensures.refusal ∙ refusal)
           (w.text-is ∙ w.put_number.ensures
@@ -29,7 +30,7 @@ returns c =
           (ap (λ (x : SessionParts). x.cap) w.in-Ok.ensures.added)
       | in-Err w ↦
           refused c.args.self.now s c.add.new.self c.self.inside.names c.self.inside.verdict c.self.view_is
-          (λ (x : Session). add_refusal 16384 x c.args.most a) (the_refusal w.in-Err.error)
+          (λ (x : Session). add_refusal most_constraints x c.args.most a) (the_refusal w.in-Err.error)
           (λ (x : SessionParts). codes "added " ++ decimal (next_id x.highest))
           (λ (x : Session). with_added x c.args.from.0 c.args.to.0 c.args.most a) c.match-add.text
           (w.in-Err.ensures.refusal ∙ refusal) (w.text-is ∙ w.put_refusal.ensures)

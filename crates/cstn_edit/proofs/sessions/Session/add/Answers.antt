@@ -3,6 +3,7 @@ use Rattle.std.proofs.lemmas.Bool.{cases_lt, false≢true}
 use Rattle.std.proofs.lemmas.Int.{to_z-of_z}
 use Rattle.cstn_label.specs.declared.props.Prop.{Prop}
 use Rattle.cstn_label.specs.Read.{marks}
+use Rattle.cstn_net.specs.Limits.{most_edits}
 use Rattle.cstn_net.specs.Networks.{IsValue, IsOnObserved, IsLeastUnobserved}
 use Rattle.cstn_net.specs.Read.{the_network}
 use Rattle.cstn_edit.specs.declared.errors.EditError.TheVariants.{EditLimit, NotObserved}
@@ -21,8 +22,8 @@ use Rattle.cstn_edit.proofs.sessions.Session.add.Goals as goal
 pub returns-in_err-check_limit-clause-refusal : goal.returns-in_err-check_limit-clause-refusal
 returns-in_err-check_limit-clause-refusal c =
     let v = c.args.self.now in
-    let upto : v.edits ≤ 1000000 = subst (λ (s : SessionParts). s.edits ≤ 1000000) c.self.view_is c.self.invariant.0.few_edits in
-    let many : v.edits ≡ 1000000 = elim (cases_lt v.edits 1000000) [
+    let upto : v.edits ≤ most_edits = subst (λ (s : SessionParts). s.edits ≤ most_edits) c.self.view_is c.self.invariant.0.few_edits in
+    let many : v.edits ≡ most_edits = elim (cases_lt v.edits most_edits) [
       | inl few ↦ absurd (false≢true (c.in_err-check_limit.ensures.below.1 few))
       | inr above ↦ omega arith
     ] in
@@ -101,7 +102,7 @@ returns-in-Some-clause-observed c p =
 
 pub invariant_of-self : goal.invariant_of-self
 invariant_of-self c =
-    let few = subst (λ (s : SessionParts). s.edits < 1000000) (sym c.self.view_is) (c.in_ok-check_limit.ensures.below.0 refl) in
+    let few = subst (λ (s : SessionParts). s.edits < most_edits) (sym c.self.view_is) (c.in_ok-check_limit.ensures.below.0 refl) in
     let short = subst (λ cs. length cs < c.self.inside.room) c.constraints.ensures.constraints c.if-constraints-self.false in
     let pushed = rw c.unwrap.ensures at c.push.ensures.items in
     let above : next_id c.self.inside.highest ≤ c.match-self.id = omega (arith, new_id c) in (

@@ -3,6 +3,7 @@ use Rattle.std.proofs.lemmas.List.{length-map}
 use Rattle.std.specs.List.{All}
 use Rattle.std.proofs.lemmas.Bool.{false≢true}
 use Rattle.std.proofs.lemmas.Int.{to_z-of_z}
+use Rattle.cstn_net.specs.Limits.{most_edits}
 use Rattle.cstn_net.specs.Networks.{IsValue, count}
 use Rattle.cstn_net.specs.Read.{NetworkParts, the_network, with_most}
 use Rattle.cstn_log.specs.Cuts.{dropped}
@@ -40,7 +41,7 @@ invariant_of-self c =
     let made = rw c.set_most.ensures.set at c.freshen.ensures.fresh in
     subst (λ (n : NetworkParts). IsSession n c.retract-gone.new.self inside.room (inside.edits + 1) inside.highest None × IsFreshened n c.retract-gone.new.self inside.room c.freshen.new.fresh.items c.stays_settled-self-inside.result (vec_capacity c.freshen.new.fresh) (vec_capacity c.freshen.new.list)) (sym c.set_most.ensures.set) (
       cut_session inside.net new inside.log c.retract-gone.new.self inside.room inside.edits c.args.id inside.highest inside.last old
-          (subst (λ (v : SessionParts). v.edits < 1000000) (sym c.self.view_is) (c.in_ok-check_limit.ensures.below.0 refl))
+          (subst (λ (v : SessionParts). v.edits < most_edits) (sym c.self.view_is) (c.in_ok-check_limit.ensures.below.0 refl))
           (omega (arith, c.len-at_most.ensures.len, c.len-at_most.ensures.at_most)) refl
           (others_with c.args.id (to_z w32 (of_z w32 c.args.most)) cs) (omega (arith, long)) (omega (arith, long, old.spare))
           (with_below c.args.id (next_id inside.highest) (to_z w32 (of_z w32 c.args.most)) cs old.below)

@@ -1,6 +1,7 @@
 use Rattle.std.proofs.Common.{◌≡◌, ◌<◌, ◌+◌, ◌∙◌, ◌↔◌, length, true, map, None, not, refl, sym, subst, ap, arith}
 use Rattle.std.proofs.lemmas.Bool.{false≢true}
 use Rattle.std.proofs.lemmas.List.Elements.{All-filter}
+use Rattle.cstn_net.specs.Limits.{most_edits}
 use Rattle.cstn_net.specs.Networks.{count}
 use Rattle.cstn_net.specs.Read.{NetworkParts, the_network, has_id, without_id}
 use Rattle.cstn_log.specs.Cuts.{dropped}
@@ -31,7 +32,7 @@ invariant_of-self-2 c =
     let size = without_few c.args.id cs in
     subst (λ (n : NetworkParts). IsSession n c.retract-gone.new.self inside.room (inside.edits + 1) inside.highest None × IsFreshened n c.retract-gone.new.self inside.room c.freshen.new.fresh.items c.stays_settled-self-inside.result (vec_capacity c.freshen.new.fresh) (vec_capacity c.freshen.new.list)) (sym (gone c)) (
       cut_session inside.net left inside.log c.retract-gone.new.self inside.room inside.edits c.args.id inside.highest inside.last old
-          (subst (λ (v : SessionParts). v.edits < 1000000) (sym c.self.view_is) (c.in_ok-check_limit.ensures.below.0 refl))
+          (subst (λ (v : SessionParts). v.edits < most_edits) (sym c.self.view_is) (c.in_ok-check_limit.ensures.below.0 refl))
           (omega (arith, c.len-at_most.ensures.len, c.len-at_most.ensures.at_most)) refl
           (others_left c.args.id cs) size
           (omega (arith, old.spare, without_many inside.net c.args.id c.network_is_well_formed.ensures))

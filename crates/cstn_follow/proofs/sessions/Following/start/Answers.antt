@@ -1,5 +1,6 @@
 use Rattle.std.proofs.Common.{ℕ, ◌<◌, ◌≤◌, length, arith, sym, subst, ap, ◌∙◌}
 use Rattle.std.specs.List.{All}
+use Rattle.cstn_net.specs.Limits.{most_constraints}
 use Rattle.cstn_net.specs.Networks.{Network}
 use Rattle.cstn_net.specs.Read.{NetworkParts, the_network}
 use Rattle.cstn_lift.specs.Read.{the_labelled}
@@ -18,7 +19,7 @@ pub unreachable-requires : goal.unreachable-requires
 unreachable-requires c =
     let m = the_labelled c.args.network in
     let fresh = c.id_above-fresh.result in
-    let few = subst (λ (net : Network). length net.constraints ≤ 16384) c.lowered.ensures.lowered c.lowered.ensures.well_formed.few_constraints in
+    let few = subst (λ (net : Network). length net.constraints ≤ most_constraints) c.lowered.ensures.lowered c.lowered.ensures.well_formed.few_constraints in
     starts m fresh c.args.cap c.base.ensures.labelled few
     (ap (λ (h : History). verdict_left m h fresh c.args.cap) (sym c.in_ok-history.ensures.nothing) ∙ sym c.in_ok-left.ensures.verdict ∙ c.in_default.is)
 

@@ -7,18 +7,18 @@ use Rattle.cstn_log.proofs.log.Log.empty.Goals as goal
 pub invariant_of-result : goal.invariant_of-result
 invariant_of-result c =
     rw (c.in_ok-minimal.ensures.empty, c.in_ok-list.ensures) (record {
-      kept = kept_empty c.args.cap 0 c.args.nodes;
+      kept = kept_empty c.args.cap.entries 0 c.args.nodes;
       room = record {
-        size = omega (arith, length-replicate c.args.cap no_slot);
-        for_marks = omega (arith, c.in_ok-marks.ensures.capacity, length-replicate c.args.cap no_slot);
-        few = omega (arith, c.requires, length-replicate c.args.cap no_slot);
+        size = omega (arith, length-replicate c.args.cap.entries no_slot);
+        for_marks = omega (arith, c.in_ok-marks.ensures.capacity, length-replicate c.args.cap.entries no_slot);
+        few = omega (arith, c.args.cap.most, length-replicate c.args.cap.entries no_slot);
       };
       indexed = record {
         marked = none_marked c.in_ok-marking.marking;
         stand = none_standing c.args.watched.items c.in_ok-standing.standing;
         room = record {
-          for_marks = rw (length-replicate c.args.cap no_slot) c.in_ok-marking.ensures.room;
-          for_nodes = rw (length-replicate c.args.cap no_slot) c.in_ok-standing.ensures.room;
+          for_marks = rw (length-replicate c.args.cap.entries no_slot) c.in_ok-marking.ensures.room;
+          for_nodes = rw (length-replicate c.args.cap.entries no_slot) c.in_ok-standing.ensures.room;
         };
       };
     })

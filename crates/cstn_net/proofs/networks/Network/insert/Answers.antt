@@ -1,6 +1,7 @@
 use Rattle.std.proofs.Common.{◌<◌, ◌∷◌, [], length, refl, sym, subst, ◌∙◌, ap, arith}
 use Rattle.std.specs.List.{All}
 use Rattle.std.proofs.lemmas.List.{map-append}
+use Rattle.cstn_net.specs.Limits.{most_constraints}
 use Rattle.cstn_net.specs.Networks.{IsWellFormed, IsConstraint}
 use Rattle.cstn_net.specs.Links.{AreLinked, ends}
 use Rattle.cstn_net.specs.Read.{the_network, the_constraint}
@@ -15,7 +16,7 @@ invariant_of-self c =
     let old = c.self.invariant.0 in
     let now_is = sym c.self.view_is in
     let kept = kept_push net cs c.args.c (kept_in net cs refl old.well_formed)
-    (subst (λ v. length v.constraints < 16384) now_is c.requires.few)
+    (subst (λ v. length v.constraints < most_constraints) now_is c.requires.few)
     (subst (λ v. All (λ d. d.id < c.args.c.id) v.constraints) now_is c.requires.above)
     (subst (λ v. IsConstraint (the_network v) (the_constraint c.args.c)) now_is c.requires.constraint) c.requires.value in
     let room = c.self.invariant.1 in (

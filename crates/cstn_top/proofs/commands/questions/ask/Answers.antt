@@ -1,5 +1,7 @@
 use Rattle.std.proofs.Common.{◌≡◌, ◌≤◌, ℕ, List, length, map, string_bytes, refl, ap, sym, subst}
 use Rattle.std.specs.Prelude.{Option, Err, IsErrAnd}
+use Rattle.cstn_text.specs.Limits.{most_text}
+use Rattle.cstn_words.specs.Limits.{most_files}
 use Rattle.cstn_words.specs.Requests.{check, run, edit, follow, closed, tight, conflict, tree, save, replay, closedcheck, treecheck}
 use Rattle.cstn_words.specs.Read.{the_asked, the_request}
 use Rattle.cstn_words.specs.declared.words.Request.{Request}
@@ -27,8 +29,6 @@ use Rattle.cstn_top.proofs.FollowedDocuments.{labelled_ids}
 use Rattle.cstn_top.proofs.Drills.{drill_asked}
 use Rattle.cstn_top.proofs.Hosted.{host_asked}
 use Rattle.cstn_top.proofs.Hosts.{host_told}
-use Rattle.cstn_words.specs.Limits.{most_files}
-use Rattle.cstn_documents.specs.Limits.{most_text}
 use Rattle.cstn_top.proofs.commands.questions.ask.Goals as goal
 
 pub returns-in_ok-document-in-Check-clause-asks : goal.returns-in_ok-document-in-Check-clause-asks
