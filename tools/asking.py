@@ -5,6 +5,7 @@ import os
 import re
 import stat
 import subprocess
+import sys
 import tempfile
 
 from documents import MOST_BYTES
@@ -62,18 +63,28 @@ def read_once(path):
         yield text, copy
 
 
+def program():
+    """The program: the one that CSTN names, else the one that `./cstn` takes, or builds. The script says why there is
+    none."""
+    if "CSTN" in os.environ:
+        return os.environ["CSTN"]
+    found = subprocess.run([os.path.join(TOP, "cstn"), "--program"], stdout=subprocess.PIPE, check=False)
+    if found.returncode:
+        sys.exit(found.returncode)
+    return os.fsdecode(found.stdout.removesuffix(b"\n"))
+
+
 class Asked:
     """The program, a document, and its network once that was read."""
 
     def __init__(self, path, option):
-        self.program, self.path, self.option = os.environ.get("CSTN", os.path.join(TOP, "cstn")), path, option
+        self.program, self.path, self.option = program(), path, option
         self.source, self.saved, self.net = b"", "", None
 
     def answer(self, *words, live=""):
         """The status of a call of the program, and what it writes."""
         try:
-            done = subprocess.run([self.program, *words], input=live.encode(), stdout=subprocess.PIPE,
-                                  env={**os.environ, "CSTN_EXPLAINED": "yes"}, check=False)
+            done = subprocess.run([self.program, *words], input=live.encode(), stdout=subprocess.PIPE, check=False)
         except OSError as error:
             raise Stopped(2, f"the program cannot be started: {error}") from error
         return done.returncode, done.stdout.decode(errors="replace")

@@ -202,9 +202,8 @@ labels_of() {
   esac
 }
 
-# Why a document is refused: for its labels, or for another fault. To tools/explain, which says it itself, nothing.
+# Why a document is refused: for its labels, or for another fault.
 tell_document() {
-  [ -z "${CSTN_EXPLAINED-}" ] || return 0
   said=
   deadline=$(deadline_of "$@")
   case $1 in

@@ -1,6 +1,5 @@
 """A session of `follow` told again, to try which other value of a limit, or which earlier moment of an outcome, would
 do."""
-import os
 import re
 import subprocess
 
@@ -12,8 +11,7 @@ class Live:
     """A session that was told the lines of another, and can be told more."""
 
     def __init__(self, words, lines, now):
-        self.child = subprocess.Popen(words, stdin=subprocess.PIPE, stdout=subprocess.PIPE, stderr=subprocess.DEVNULL,
-                                      env={**os.environ, "CSTN_EXPLAINED": "yes"})
+        self.child = subprocess.Popen(words, stdin=subprocess.PIPE, stdout=subprocess.PIPE, stderr=subprocess.DEVNULL)
         self.now = now
         self.read()
         self.read()
