@@ -51,6 +51,9 @@ def dear_trees(folder):
 
 def dear_documents(folder):
     timed("a document of 3 kB with 6,950 bounds", ["check", folder.put("f", dear(5, 3))], GOOD, "yes 6950\n")
+    late = "0 base W 0 -\n" + "".join(f"{k} chain 48 {k - 1} W {k} -\n" for k in range(1, 62))
+    timed("the one to blame of a document of 3 kB", ["conflict", folder.put("f", dear(3, 3, unmet=True))], BAD,
+          f"conflict 48\nno 89\n{late}")
     alike = folder.put("alike", compact(["Z", "X"], ["X->Z -5"] * 2000))
     timed("the one to blame of 2,000 constraints of which each is enough", ["conflict", alike, "--deadline", "4"], BAD,
           "conflict 1999\nno 3\n0 base Z 0 -\n1 chain 1999 0 X 5 -\n")
