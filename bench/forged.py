@@ -1,7 +1,7 @@
-"""Texts of evidence that are made to take long, which bench/hostile and bench/run hand to the commands that check them.
+"""Texts of evidence that are made to take long, which checks/hostile and bench/run hand to the program.
 
-In the documents that they speak of, Z is the origin, the time-point P with a letter observes that letter, of each of the 52,
-and X observes nothing.
+In the documents that they speak of, Z is the origin, the time-point P with a letter observes that letter, of each of the
+52, and X observes nothing.
 """
 import random
 
@@ -21,8 +21,8 @@ def bounds_of_one(moments):
 
 
 def apart_bounds(count):
-    """A closed list of which no bound dominates another of its time-point: each of `count` bounds at an observer waits with each
-    of as many that mark what it observes, and what follows is covered by one of as many others alone."""
+    """A closed list of which no bound dominates another of its time-point: each of `count` bounds at an observer waits
+    with each of as many that mark what it observes, and what follows is covered by one of as many others alone."""
     draw = random.Random(1)
 
     def labels():
@@ -39,11 +39,13 @@ def apart_bounds(count):
 
 def scattered_steps(count):
     """A refutation by so many steps after the first, each of another of 16,384 constraints that ask X to be 5 ticks late."""
-    return "no 1\n0 base Z 0 -\n" + "".join(f"{k} chain {k * 7919 % 16384} 0 X 5 -\n" for k in range(1, count + 1))
+    steps = (f"{k} chain {k * 7919 % 16384} 0 X 5 -\n" for k in range(1, count + 1))
+    return "no 1\n0 base Z 0 -\n" + "".join(steps)
 
 
 def crowded_tree(asks):
-    """A good tree that names X, at which there may be many constraints, on a branch for each outcome of so many asks."""
+    """A good tree that names X, at which there may be many constraints, on a branch for each outcome of so many
+    asks."""
     leaves = "at 1 X\ndone\n"
     for letter in LETTERS[:asks]:
         leaves = f"ask {letter}\n" + leaves * 2

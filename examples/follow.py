@@ -1,10 +1,11 @@
 #!/usr/bin/env python3
 """Follows a plan whose events come late and early, is killed halfway, and goes on from its journal.
 
-    examples/follow.py PROGRAM          PROGRAM is crates/cstn/out/cstn
+    examples/follow.py PROGRAM          PROGRAM is what `./cstn --program` writes
 
-What happens is told line by line. Each fact and edit that is accepted is put into the journal before anything rests on it:
-said again, the journal brings the session back, also with a larger cap. Its first line says to what it belongs, and is not told.
+What happens is told line by line. Each fact and edit that is accepted is put into the journal before anything rests on
+it: said again, the journal brings the session back, also with a larger cap. Its first line says to what it belongs, and
+is not told.
 """
 import contextlib
 import fcntl
@@ -14,31 +15,34 @@ import subprocess
 import sys
 import tempfile
 
-DOCUMENT = os.path.join(os.path.dirname(os.path.abspath(__file__)), "clinical-pathway.graphml")
+DOCUMENT = os.path.join(os.path.dirname(os.path.realpath(__file__)), "clinical-pathway.graphml")
 
 # How a fact or an edit begins, and the answer to one that was accepted; and where an answer of several lines ends.
 FACTS = ("did ", "saw ", "now ", "await ", "add ", "remove ", "change ", "deadline ")
 ACCEPTED = ("yes ", "no ", "full ", "added ", "removed ", "changed ", "deadline ")
 LAST = {"check": "end", "rest": "</graphml>"}
 
-# What happens at the bedside: the sample is in time, its result is late at first and then earlier than was said, the antibiotic
-# is late too, and the rest is done when it is named.
-EVENTS = ["did 5 Sample", "now 65", "await 90 i", "saw 80 i true", "did 91 Antibiotic", "did 211 Review", "did 221 Discharge"]
+# What happens at the bedside: the sample is in time, its result is late at first and then earlier than was said, the
+# antibiotic is late too, and the rest is done when it is named.
+EVENTS = ["did 5 Sample", "now 65", "await 90 i", "saw 80 i true",
+          "did 91 Antibiotic", "did 211 Review", "did 221 Discharge"]
 
 
 class Gone(Exception):
     """Why a session ended, with the status of its program."""
 
 
+class Taken(Gone):
+    """Another client has the journal, and nothing was started."""
+
+
 class Followed:
-    """A session over a document, with the journal of the lines that it accepted, which no second client may have meanwhile."""
+    """A session over a document, with the journal of the lines that it accepted, which no second client may have."""
 
     def __init__(self, program, document, deadline, cap, journal):
-        self.journal = open(journal, "ab+", buffering=0)
-        fcntl.flock(self.journal, fcntl.LOCK_EX | fcntl.LOCK_NB)
-        os.fsync(folder := os.open(os.path.dirname(os.path.abspath(journal)), os.O_RDONLY))
-        os.close(folder)
-        self.child = subprocess.Popen([program, "follow", document, *deadline, *cap], stdin=subprocess.PIPE, stdout=subprocess.PIPE, encoding="utf-8")
+        self.journal = opened(journal)
+        self.child = subprocess.Popen([program, "follow", document, *deadline, *cap],
+                                      stdin=subprocess.PIPE, stdout=subprocess.PIPE, encoding="utf-8")
         version = self.read("the start")
         if version != "follow 1":
             self.end(f"no session: {version}")
@@ -56,7 +60,8 @@ class Followed:
 
     def read(self, line):
         """A line of the answer to a line. Where the program is gone, what it wrote last has the reason."""
-        if not (answer := self.child.stdout.readline()).endswith("\n") or answer.startswith(("memory", "script ", "read fault")):
+        answer = self.child.stdout.readline()
+        if not answer.endswith("\n") or answer.startswith(("memory", "script ", "read fault")):
             self.end(f"no answer to {line}: {answer.strip()}")
         return answer.rstrip("\n")
 
@@ -67,7 +72,7 @@ class Followed:
         raise Gone(f"{reason}, status {self.child.returncode}")
 
     def ask(self, line):
-        """The answer to a line: of `check` after a no, and of `rest`, all of its lines. An edit alone says no verdict."""
+        """The answer to a line: of `check` after a no, and of `rest`, all of its lines. An edit alone has no verdict."""
         [line] = line.split("\n")  # A ValueError where it is more than one line.
         with contextlib.suppress(BrokenPipeError):
             os.write(self.child.stdin.fileno(), f"{line}\n".encode())
@@ -77,7 +82,8 @@ class Followed:
         return "\n".join(answer)
 
     def keep(self, line):
-        """Puts a line into the journal. Where that fails the journal is as before, and the program, which knows more, is ended."""
+        """Puts a line into the journal. Where that fails the journal is as before, and the program, which knows more, is
+        ended."""
         data, before = line.encode() + b"\n", os.fstat(self.journal.fileno()).st_size
         try:
             if self.journal.write(data) != len(data):
@@ -92,6 +98,19 @@ class Followed:
         if line.startswith(FACTS) and answer.startswith(ACCEPTED):
             self.keep(line)
         return answer
+
+
+def opened(journal):
+    """A journal that this client alone has, in a folder in which it stays."""
+    file = open(journal, "ab+", buffering=0)
+    try:
+        fcntl.flock(file, fcntl.LOCK_EX | fcntl.LOCK_NB)
+    except BlockingIOError:
+        file.close()
+        raise Taken(f"{journal}: another client has it") from None
+    os.fsync(folder := os.open(os.path.dirname(os.path.abspath(journal)), os.O_RDONLY))
+    os.close(folder)
+    return file
 
 
 def follow(program, journal, events):

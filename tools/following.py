@@ -1,22 +1,28 @@
-"""Answers of `follow` in words, with the lines of the document: what is next, until when a step can wait, and what is to blame."""
+"""Answers of `follow` in words, with the lines of the document: what is next, until when a step can wait, what is to
+blame."""
+import bisect
 import re
 
-from networks import constraint, counts_where, network_data, printed, ticks
+from names import printed, shown
+from networks import constraint, counts_where, ticks
 
 # The answers that are put into words.
-ANSWER = re.compile(r"next (?P<next>\d+)(?: do (?P<do>\S+(?: \S+)*?))?(?: wait (?P<wait>[A-Za-z]+))?|by (?P<by>\d+) (?P<name>\S+)|blame(?P<blame>(?: \d+)*)")
+ANSWER = re.compile(r"next (?P<next>[0-9]{1,10})(?: do (?P<do>[^ ]+(?: [^ ]+)*?))?(?: wait (?P<wait>[A-Za-z]+))?|"
+                    r"by (?P<by>[0-9]{1,10}) (?P<name>[^ ]+)|blame(?P<blame>(?: [0-9]{1,10})*)")
 
 # Lines that are typed, alone or behind `> `, those that an answer may be too, and answers of one line.
-TYPED = re.compile(r"> .*|(did|saw|now|await|add|remove|change) .*|by (?!\d+ \S).*|next|check|rest")
+TYPED = re.compile(r"> .*|(did|saw|now|await|add|remove|change) .*|by (?!\d+ [^ ]).*|next|check|rest")
 EITHER = re.compile(r"blame|deadline \d+")
-ANSWERED = re.compile(r"(yes|no|full|added|removed|changed|deadline) \d+|refused .*|(next|by) \d+ .*|blame( \d+)*|done")
-FACT = re.compile(r"(?P<kind>did|saw|now|await) (?P<moment>\d+)(?: (?P<rest>\S+(?: \S+)*))?")
-EDIT = re.compile(r"change (?P<number>\d+) (?P<value>-?\d+)|add \S+ \S+ (?P<added>-?\d+) .*|deadline (?P<deadline>\d+)")
+ANSWERED = re.compile(r"(yes|no|full|added|removed|changed|deadline) [0-9]{1,10}|refused .*|(next|by) [0-9]{1,10} .*|"
+                      r"blame( [0-9]{1,10})*|done")
+FACT = re.compile(r"(?P<kind>did|saw|now|await) (?P<moment>[0-9]{1,10})(?: (?P<rest>[^ ]+(?: [^ ]+)*))?")
+EDIT = re.compile(r"change (?P<number>[0-9]{1,10}) (?P<value>-?[0-9]{1,10})|deadline (?P<deadline>[0-9]{1,10})|"
+                  r"add [^ ]+ [^ ]+ (?P<added>-?[0-9]{1,10}) .*")
 UNPAIRED = "The typed lines do not stand each before its answer, and are not used."
 
-# What `check` writes after a no, and what `rest` writes.
-STEPS = re.compile(r"^no \d+\n(?:\d+ (?:base|chain|wait) .*\n)+", re.M)
-REST = re.compile(r"^<\?xml .*?^</graphml>\n", re.M | re.S)
+# What `check` writes after a no, and how what `rest` writes begins and ends.
+STEPS = re.compile(r"^no [0-9]{1,10}\n(?:\d+ (?:base|chain|wait) .*\n)+", re.M)
+REST, LAST = re.compile(r"^<\?xml ", re.M), "\n</graphml>\n"
 
 
 def is_answer(text):
@@ -31,30 +37,43 @@ def is_followed(text):
 
 def is_typed(text):
     """Whether a text begins with a line that is typed into a session, or with the call behind `$ `."""
-    return bool(re.match(r"\$ |(?:> )?(?:(?:did|saw|now|await) \d+\b|(?:add|remove|change|deadline|by) \S|(?:next|check|rest)$)", text.split("\n")[0]))
+    line = text.split("\n")[0]
+    return bool(re.match(r"\$ |(?:> )?(?:(?:did|saw|now|await) \d+\b|(?:add|remove|change|deadline|by) [^ ]|"
+                         r"(?:next|check|rest)$)", line))
+
+
+def rests(text):
+    """Where the documents stand that `rest` wrote, each with its first place and its last."""
+    found, at = [], 0
+    while begun := REST.search(text, at):
+        end = text.find(LAST, begun.end())
+        if end < 0:
+            break
+        at = end + len(LAST)
+        found.append((begun.start(), at))
+    return found
 
 
 def lacking(net, answer):
     """What an answer names that the document lacks, in words."""
-    names = [printed(name) for name in (answer["do"] or answer["name"] or "").split()]
-    lacks = [f"no time-point {name}" for name in names if name not in net.names]
-    return lacks + [f"nobody who observes {letter}" for letter in answer["wait"] or "" if letter not in net.observed.values()]
+    names = [printed(name) for name in (answer["do"] or answer["name"] or "").split(" ") if name]
+    lacks = [f"no time-point {shown(name)}" for name in names if name not in net.places]
+    return lacks + [f"nobody who observes {letter}" for letter in answer["wait"] or "" if letter not in net.observers]
 
 
 def placed(net, name):
     """A time-point with its line in the document, as data and in words."""
     line = net.lines.get((name, "id"))
-    return {"name": name, "line": line}, f"{name} (line {line})" if line else name
+    return {"name": name, "line": line}, f"{shown(name)} (line {line})" if line else shown(name)
 
 
 class Heard:
-    """What typed lines tell: what was done when, at what moment each outcome was last awaited, what is known, how late it is, and the edits. Refused lines tell nothing."""
+    """What typed lines tell so far: what was done when, at what moment each outcome was last awaited, what is known,
+    how late it is, and the edits. Refused lines tell nothing."""
 
-    def __init__(self, turns):
+    def __init__(self):
         self.typed, self.done, self.awaited, self.known, self.now = False, {}, {}, {}, 0
         self.values, self.changed, self.deadline, self.journal = {}, set(), None, []
-        for _, line, answer in turns:
-            self.take(line, answer)
 
     def take(self, line, answer):
         """Hears a typed line, or none, with its answer."""
@@ -67,7 +86,7 @@ class Heard:
         if re.match("(did|saw|now|await|add|remove|change|deadline) ", line):
             self.journal.append(line)
         if fact:
-            self.take_fact(fact["kind"], int(fact["moment"]), (fact["rest"] or "").split())
+            self.take_fact(fact["kind"], int(fact["moment"]), (fact["rest"] or "").split(" "))
         if edit and edit["deadline"]:
             self.deadline = int(edit["deadline"])
         elif edit and to:
@@ -75,7 +94,7 @@ class Heard:
 
     def take_fact(self, kind, moment, words):
         if kind == "await":
-            self.awaited.update(dict.fromkeys(words, moment))
+            self.awaited.update(dict.fromkeys(filter(None, words), moment))
             return
         self.now = max(self.now, moment)
         if kind == "did":
@@ -85,58 +104,77 @@ class Heard:
 
 
 def told_of(net, name, heard):
-    """Since when the outcome that a time-point observes is awaited, in words, and what to do where it should have come."""
+    """Since when the outcome that a time-point observes is awaited, in words, and what to do if it should be here."""
     letter, reaction = net.observed[name], net.reaction(name)
     moment = heard.awaited.get(letter, heard.done[name] + reaction if name in heard.done else None)
-    says = f"; it was last awaited at {moment} (`await {moment} {letter}`)" if letter in heard.awaited else f", and its reaction is {ticks(reaction)}"
+    says = f", and its reaction is {ticks(reaction)}"
+    if letter in heard.awaited:
+        says = f"; it was last awaited at {moment} (`await {moment} {letter}`)"
     if not heard.typed:
         return says + ", unless `await` told another moment"
-    return says + (", so it should be here now: say `saw`, or `await` a later moment" if moment is not None and heard.now >= moment else "")
+    is_late = moment is not None and heard.now >= moment
+    return says + (", so it should be here now: say `saw`, or `await` a later moment" if is_late else "")
 
 
 def tell_next(net, answer, heard):
     """What is to be executed at the next moment and what is awaited at it, as data and in words."""
     moment, says, awaited = answer["next"], [], []
-    points = [placed(net, printed(name)) for name in (answer["do"] or "").split()]
+    points = [placed(net, printed(name)) for name in (answer["do"] or "").split(" ") if name]
     if points:
-        says.append(f"At {moment} {' and '.join(words for _, words in points)} {'is' if len(points) == 1 else 'are'} to be executed.")
+        names = " and ".join(words for _, words in points)
+        says.append(f"At {moment} {names} {'is' if len(points) == 1 else 'are'} to be executed.")
     for letter in answer["wait"] or "":
-        point, words = placed(net, next(name for name, observed in net.observed.items() if observed == letter))
-        says.append(f"At {moment} the outcome of {letter} is awaited: {words} observes it{told_of(net, point['name'], heard)}.")
+        point, words = placed(net, net.observers[letter])
+        told = told_of(net, point["name"], heard)
+        says.append(f"At {moment} the outcome of {letter} is awaited: {words} observes it{told}.")
         awaited.append({"letter": letter, "observer": point["name"], "line": point["line"]})
-    return {"answer": "next", "moment": int(moment), "do": [point for point, _ in points], "wait": awaited, "says": says}
+    do = [point for point, _ in points]
+    return {"answer": "next", "moment": int(moment), "do": do, "wait": awaited, "says": says}
 
 
 def tell_by(net, answer):
     """Until when a time-point can wait, as data and in words."""
     point, words = placed(net, printed(answer["name"]))
-    return {"answer": "by", "moment": int(answer["by"]), **point, "says": [f"{words} can wait until {answer['by']}, and no longer."]}
+    says = [f"{words} can wait until {int(answer['by'])}, and no longer."]
+    return {"answer": "by", "moment": int(answer["by"]), **point, "says": says}
+
+
+def blamed(net, number, heard):
+    """A constraint that is to blame, in words."""
+    if number >= len(net.constraints):
+        return f"{number}: a constraint that FILE lacks, so an edit has added it"
+    now = f"it is {heard.values[number]} now" if number in heard.values else "an edit has changed it"
+    edited = f", as FILE has it; {now}" if number in heard.changed else ""
+    return f"{net.called(number)}: {constraint(*net.constraints[number])}{counts_where(net, number)}{edited}"
+
+
+def untold(net, numbers, heard):
+    """The steps of constraints of which nothing was told, and whose labels hold by what was told, in words; where it
+    is known what was done."""
+    ends = {name for number in numbers if number < len(net.constraints) for name in net.constraints[number][:2]}
+    left = sorted(ends - heard.done.keys(), key=net.places.get) if heard.done else []
+    names = ", ".join(shown(name) for name in left if net.is_executed(name, heard.known))
+    says = f"Of their steps nothing was told of {names}: where one was done, tell it, with its moment, by `did`."
+    return [says] if names else []
 
 
 def tell_blame(net, answer, heard, tried):
-    """The constraints that are to blame, by the lines of the document, as data and in words; some were changed by edits.
+    """The constraints that are to blame, by the lines of the document, as data and in words; some were changed by
+    edits.
 
-    Where it is known what was done, the steps of these constraints are named of which nothing was told and whose labels hold by what was told. `tried` says
-    how far a limit would have to give way, as data and in words.
+    `tried` says how far a limit would have to give way, as data and in words.
     """
-    numbers, known = [int(number) for number in answer["blame"].split()], network_data(net)["constraints"]
-    says = ["No constraint is to blame: what has happened leaves nothing even without them, as after the deadline, or where a label cannot be known by then."]
-    if numbers:
-        says = ["After what has happened this cannot be met:" if len(numbers) == 1 else "After what has happened these cannot be met together; with any one of them less the others can:"]
-    for number in numbers:
-        if number < len(known):
-            now = f"it is {heard.values[number]} now" if number in heard.values else "an edit has changed it"
-            edited = f", as FILE has it; {now}" if number in heard.changed else ""
-            says.append(f"{net.called(number)}: {constraint(*net.constraints[number])}{counts_where(net, number)}{edited}")
-        else:
-            says.append(f"{number}: a constraint that FILE lacks, so an edit has added it")
+    numbers, known = [int(number) for number in answer["blame"].split()], net.data["constraints"]
+    head = "After what has happened these cannot be met together; with any one of them less the others can:"
+    if not numbers:
+        head = ("No constraint is to blame: what has happened leaves nothing even without them, as after the "
+                "deadline, or where a label cannot be known by then.")
+    elif len(numbers) == 1:
+        head = "After what has happened this cannot be met:"
     limits, more = tried(heard, numbers)
-    ends = {name for number in numbers if number < len(known) for name in net.constraints[number][:2]}
-    open_ = [name for name in net.names if name in ends - heard.done.keys() and net.is_executed(name, heard.known)] if heard.done else []
-    if open_:
-        more.append(f"Of their steps nothing was told of {', '.join(open_)}: where one was done, tell it, with its moment, by `did`.")
+    says = [head, *(blamed(net, number, heard) for number in numbers), *more, *untold(net, numbers, heard)]
     named = [known[it] if it < len(known) else {"id": it, "line": None} for it in numbers]
-    return {"answer": "blame", "constraints": named, **limits, "says": says + more}
+    return {"answer": "blame", "constraints": named, **limits, "says": says}
 
 
 def tell_answer(net, answer, heard, tried):
@@ -147,29 +185,50 @@ def tell_answer(net, answer, heard, tried):
 
 
 def stuck(text):
-    """Each refutation that `check` wrote, the document that `rest` wrote behind it, or none, and what was done before."""
+    """Each refutation that `check` wrote, the document that `rest` wrote behind it, or none, and what was done."""
+    documents, (turns, _), heard = rests(text), turns_of(text), Heard()
+    breaks, begun = [it.start() for it in re.finditer("\n", text)], [it for it, _ in documents]
+    left = iter([*turns, (len(breaks) + 1, "", "")])
+    at, line, answer = next(left)
     for found in STEPS.finditer(text):
-        rest = REST.search(text, found.end())
-        yield found[0], rest[0] if rest else "", Heard(turns_of(text[: found.start()])[0]).done.keys()
+        while at < bisect.bisect_left(breaks, found.start()):
+            heard.take(line, answer)
+            at, line, answer = next(left)
+        place = bisect.bisect_left(begun, found.end())
+        rest = text[slice(*documents[place])] if place < len(documents) else ""
+        yield found[0], rest, set(heard.done)
 
 
 def awaited(net, own, done):
-    """For each observer that was done before `rest` wrote a document, the moment until which it has the outcome awaited.
+    """For each observer that was done before `rest` wrote a document, the moment until which it has the outcome
+    awaited.
 
-    Where the lines that were typed are not at hand, an observer was done where `rest` gave it another reaction, or its moment.
+    Where the lines that were typed are not at hand, an observer was done where `rest` gave it another reaction, or its
+    moment.
     """
     found = {}
     for name in net.observed:
-        moment = net.pinned(name)
-        if moment is not None and (name in done or net.reaction(name) != own.reaction(name) or own.pinned(name) is None):
+        moment, is_other = net.pins.get(name), net.reaction(name) != own.reaction(name) or name not in own.pins
+        if moment is not None and (name in done or is_other):
             found[name] = moment + net.reaction(name)
     return found
 
 
+def answers_alone(text):
+    """A session without the steps and the documents in it, which leave as many empty lines, by its lines."""
+    parts, at = [], 0
+    for first, last in rests(text):
+        parts += [text[at:first], "\n" * text.count("\n", first, last)]
+        at = last
+    bare = "".join([*parts, text[at:]])
+    bare = STEPS.sub(lambda it: it[0].split("\n")[0] + "\n" * it[0].count("\n"), bare)
+    return [line.rstrip(" \t\r") for line in bare.split("\n")]
+
+
 def turns_of(text):
-    """Each answer of a session with its place and the typed line before it, or none, and whether all typed lines stand so; where not, none of them is taken."""
-    bare = REST.sub(lambda it: "\n" * it[0].count("\n"), STEPS.sub(lambda it: it[0].split("\n")[0] + "\n" * it[0].count("\n"), text))
-    lines = [line.rstrip() for line in bare.split("\n")]
+    """Each answer of a session with its place and the typed line before it, or none, and whether all typed lines stand
+    so; where not, none of them is taken."""
+    lines, has_rest = answers_alone(text), bool(rests(text))
     if not any(TYPED.fullmatch(line) for line in lines):
         return [(at, "", line) for at, line in enumerate(lines) if ANSWERED.fullmatch(line)], True
     turns, asked, paired = [], None, True
@@ -182,23 +241,25 @@ def turns_of(text):
             paired = paired and (asked is not None or at < begun or line == "done")
             turns.append((at, asked or "", line))
             asked = None
-        elif asked == "rest" and line == "" and REST.search(text):
+        elif asked == "rest" and line == "" and has_rest:
             asked = None
     return turns if paired else [(at, "", line) for at, _, line in turns if line != "blame"], paired
 
 
 def tell_followed(net, text, tried):
     """The answers of a text that `follow` wrote: the status, data and lines."""
-    told, says, lacks = [], [], []
+    told, says, lacks, heard = [], [], [], Heard()
     turns, paired = turns_of(text)
-    for place, (at, _, line) in enumerate(turns):
+    for at, typed, line in turns:
         answer = ANSWER.fullmatch(line)
         if answer:
             lacks += lacking(net, answer)
         if answer and not lacks:
-            told.append(tell_answer(net, answer, Heard(turns[:place]), lambda heard, numbers, at=at: tried(heard, numbers, at)))
+            told.append(tell_answer(net, answer, heard, lambda heard, numbers, at=at: tried(heard, numbers, at)))
             says += [f"{line}: {told[-1]['says'][0]}", *told[-1]["says"][1:]]
+        heard.take(typed, line)
     if lacks:
         says = [f"These answers are of another document: FILE has {' and '.join(sorted(set(lacks)))}."]
         return 1, {"answer": "rejected", "says": says}, says
-    return 0, {"answer": "follow", "answers": told, **({} if paired else {"says": [UNPAIRED]})}, says if paired else [UNPAIRED, *says]
+    unpaired = {} if paired else {"says": [UNPAIRED]}
+    return 0, {"answer": "follow", "answers": told, **unpaired}, [*unpaired.get("says", []), *says]

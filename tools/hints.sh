@@ -1,85 +1,106 @@
 # What the script `cstn` says beside the program's answers: the commands, and in words what a status means. It is read by `cstn`
 # alone, and says all but the list of commands on standard error. `$top` is the root of the repository, `$program` the program.
 
-# The commands, as the first table of docs/commands.md lists them, by a replacement of sed for their words and what they write.
-commands() {
-  sed -n '/^| Words /,/^$/s/^| `\([^`]*\)` | \(.*\) |$/'"$1"'/p' "$top/docs/commands.md"
+# Calls $1 with the form of each command, and with what it writes.
+each_command() {
+  while IFS='|' read -r form writes; do
+    "$1" "${form% }" "${writes# }"
+  done <"$top/tools/commands.txt"
+}
+
+tell_command() {
+  printf '  %s\n      %s\n' "$1" "$2"
 }
 
 tell_commands() {
   echo "./cstn COMMAND ..: exact forms, answers and statuses are in docs/commands.md"
-  commands '  \1\n      \2'
-  echo "./cstn --version says which kit is needed, the sum of the sources and the version of the lines"
+  each_command tell_command
+  echo "./cstn --version says more: which program is taken, and what it was made from; ./cstn --program writes where it is"
   echo "tools/explain FILE [PROOF] says a document, a no, a tree or what follow answers in words, what of FILE was passed over, and why it is refused"
   echo "What \`refused ..\` means in run, edit, follow and host, and what to do: docs/guide.md, under \"Every refusal\""
-  echo "The one file to install is crates/cstn/out/cstn; CSTN_NO_BUILD=1 ./cstn COMMAND .. never begins a build"
+  echo "That one file is what to install; CSTN_NO_BUILD=1 ./cstn COMMAND .. never begins a build"
 }
 
-# The words that name files: FILE, and PROOF where the command takes one; of `host` all behind its options.
-files() (
-  command=$1
-  shift
-  case $command in
-    drill) ;;
-    host)
+# Sets `form` to that of the command $1, or to nothing if there is none.
+find_form() {
+  while IFS='|' read -r form _; do
+    form=${form% }
+    [ "${form%% *}" != "$1" ] || return 0
+  done <"$top/tools/commands.txt"
+  form=
+}
+
+# Calls $1 with each word that names a file, among a command and its words: FILE, and PROOF if the command takes it, or all behind
+# the options. It ends with the first call that fails.
+each_file() {
+  call=$1
+  find_form "$2"
+  shift 2
+  case $form in
+    *'FILE PROOF'*) "$call" "${1-}" && "$call" "${2-}" ;;
+    *'FILE ..')
       [ "${1-}" != --deadline ] || shift "$(($# < 2 ? $# : 2))"
       [ "${1-}" != --cap ] || shift "$(($# < 2 ? $# : 2))"
-      [ $# -eq 0 ] || printf '%s\n' "$@"
+      for word in "$@"; do "$call" "$word" || break; done
       ;;
-    replay | closedcheck | treecheck) printf '%s\n' "${1-}" "${2-}" ;;
-    *) printf '%s\n' "${1-}" ;;
+    *FILE*) "$call" "${1-}" ;;
   esac
-)
-
-# Why a file cannot be read, or nothing where it can.
-tell_unreadable() {
-  if [ -d "$1" ]; then
-    echo "cstn: $1 is a folder, and a file is wanted"
-  elif [ ! -e "$1" ]; then
-    echo "cstn: there is no file $1"
-  elif [ ! -f "$1" ] || [ ! -r "$1" ]; then
-    echo "cstn: $1 cannot be read"
-  fi
 }
 
-# The files that cannot be read, or the standard input where all can.
-tell_unread() (
-  told=$(files "$@" | while IFS= read -r file; do tell_unreadable "$file"; done)
-  echo "${told:-cstn: the standard input could not be read}" >&2
-)
+# A file's name, with ? for each control character.
+shown() {
+  printf %s "$1" | LC_ALL=C tr '\001-\037\177' '?'
+}
 
-# A word, and what is left of it without one of its letters, sorted.
-shortened() {
-  printf '%s\n' "$1" | awk '{ print; for (at = 1; at <= length($0); at++) print substr($0, 1, at - 1) substr($0, at + 1) }' | LC_ALL=C sort -u
+# Says of a file why it cannot be read, if it cannot.
+tell_unreadable() {
+  if [ -d "$1" ]; then
+    told="$(shown "$1") is a folder, and a file is wanted"
+  elif [ ! -e "$1" ]; then
+    told="there is no file $(shown "$1")"
+  elif [ ! -f "$1" ] || [ ! -r "$1" ]; then
+    told="$(shown "$1") cannot be read"
+  else
+    return 0
+  fi
+  say "$told"
+}
+
+# Says which files cannot be read, or that the standard input could not be, if all can.
+tell_unread() {
+  told=
+  each_file tell_unreadable "$@"
+  [ -n "$told" ] || say "the standard input could not be read"
 }
 
 # The command that a word stands for, but for one letter or two that are exchanged.
-meant() (
-  word=$(printf '%.20s' "$1" | tr '[:upper:]' '[:lower:]')
-  commands '\1' | cut -d ' ' -f 1 | while read -r command; do
-    { shortened "$command" && shortened "$word"; } | LC_ALL=C sort | uniq -d | grep -q . || continue
-    echo "$command"
-    break
-  done
-)
+meant() {
+  word=$(printf '%.20s' "$1" | tr '[:upper:]' '[:lower:]') awk '
+    function without(word, at) { return substr(word, 1, at - 1) substr(word, at + 1) }
+    function is_near(one, other, at, found) {
+      for (at = 0; at <= length(one); at++) found[without(one, at)]
+      for (at = 0; at <= length(other); at++) if (without(other, at) in found) return 1
+    }
+    is_near($1, ENVIRON["word"]) { print $1; exit }' "$top/tools/commands.txt"
+}
 
 # The form of a command, for words that are no request.
-tell_form() (
-  form=$(commands '\1' | grep "^$(printf '%s' "$1" | tr -cd 'a-z') ")
+tell_form() {
+  find_form "$1"
   if [ "$1" = explain ]; then
-    echo "cstn: that is tools/explain FILE [PROOF]"
+    say "that is tools/explain FILE [PROOF]"
   elif [ -n "$form" ]; then
-    echo "cstn: these words are no request; the form is: $form"
-    case $1 in
-      drill) echo "cstn: (NUMBER from 0 to 18446744073709551615, without a leading zero)" ;;
-      host) echo "cstn: (options in this order; N from 0 to 1000000, CAP from 1 to 65536, without a leading zero; 1 to 8 files)" ;;
-      *) echo "cstn: (options in this order; N from 0 to 1000000, CAP from 1 to 4194304, without a leading zero)" ;;
+    say "these words are no request; the form is: $form"
+    case $form in
+      *NUMBER) say "(NUMBER from 0 to 18446744073709551615, without a leading zero)" ;;
+      *'FILE ..') say "(options in this order; N from 0 to 1000000, CAP from 1 to 65536, without a leading zero; 1 to 8 files)" ;;
+      *) say "(options in this order; N from 0 to 1000000, CAP from 1 to 4194304, without a leading zero)" ;;
     esac
   else
     near=$(meant "$1")
-    echo "cstn: these words are no request${near:+; did you mean $near?}; --help lists the commands"
+    say "these words are no request${near:+; did you mean $near?}; --help lists the commands"
   fi
-) >&2
+}
 
 # The lines that a command takes.
 lines_of() {
@@ -103,11 +124,17 @@ refusals_of() {
 tell_live() {
   [ -t 0 ] || return 0
   meanings=$(refusals_of "$1")
-  echo "cstn: $1 takes the lines $(lines_of "$1")" >&2
-  echo "cstn: an answer \`refused ..\` changes nothing${meanings:+: $meanings} (what to do: docs/guide.md, \"Every refusal\")" >&2
+  say "$1 takes the lines $(lines_of "$1")"
+  say "an answer \`refused ..\` changes nothing${meanings:+: $meanings} (what to do: docs/guide.md, \"Every refusal\")"
 }
 
-# Of each file that tools/explain --plain wrote: that it is none to be carried out, and, at a terminal, what not to edit in it.
+# Says of a copy that tools/explain --plain wrote `warning`.
+tell_copy() {
+  [ -f "$1" ] && head -n 5 -- "$1" | grep -qF '<!-- A copy without labels on time-points' || return 0
+  say "$(shown "$1") is a copy without labels, and $warning"
+}
+
+# Of such copies that they are none to be carried out, and, at a terminal, what not to edit in them.
 tell_copies() {
   case $1 in
     edit)
@@ -116,59 +143,53 @@ tell_copies() {
       ;;
     *) warning="names time-points also where their labels do not hold. Do not carry it out: run or follow the document itself" ;;
   esac
-  files "$@" | while IFS= read -r file; do
-    [ -f "$file" ] && head -n 5 "$file" 2>/dev/null | grep -qF '<!-- A copy without labels on time-points' || continue
-    echo "cstn: $file is a copy without labels, and $warning" >&2
-  done
-  return 0
+  each_file tell_copy "$@"
 }
 
 # What a line, or PROOF, is not.
 tell_lines() {
   case $1 in
     run | edit | host)
-      echo "cstn: that line is none of: $(lines_of "$1"). Words are lower case, and an empty line, or one with a CR at its end, is none"
-      echo "cstn: everything ended at that line; N counts the lines from 1. Begin again, say the lines that were accepted, and go on"
+      say "that line is none of: $(lines_of "$1"). Words are lower case, and an empty line, or one with a CR at its end, is none"
+      say "everything ended at that line; N counts the lines from 1. Begin again, say the lines that were accepted, and go on"
       ;;
-    follow) echo "cstn: a line has 4096 bytes at most, and a session 16777216 lines. Begin again, say the lines that were accepted, and go on" ;;
-    replay) echo "cstn: PROOF is no text of a no of FILE, from its line no LOAD to its last step, or has a name that FILE lacks. Of what conflict wrote leave out the first line, of what tight wrote all lines above no" ;;
-    closedcheck) echo "cstn: PROOF is no text that closed wrote after a yes: of what tight wrote take the lines from yes up to no" ;;
-    treecheck) echo "cstn: PROOF is no text that tree wrote after a yes" ;;
-  esac >&2
+    follow) say "a line has 4096 bytes at most, and a session 16777216 lines. Begin again, say the lines that were accepted, and go on" ;;
+    replay) say "PROOF is no text of a no of FILE, from its line no LOAD to its last step, or has a name that FILE lacks. Of what conflict wrote leave out the first line, of what tight wrote all lines above no" ;;
+    closedcheck) say "PROOF is no text that closed wrote after a yes: of what tight wrote take the lines from yes up to no" ;;
+    treecheck) say "PROOF is no text that tree wrote after a yes" ;;
+  esac
 }
 
 # After a yes of `check`, at a terminal: what was understood is not told by it.
 tell_accepted() {
-  [ ! -t 0 ] || [ "$1" != check ] || echo "cstn: a misspelt key is passed over without a word; tools/explain FILE says what was understood" >&2
+  [ ! -t 0 ] || [ "$1" != check ] || say "a misspelt key is passed over without a word; tools/explain FILE says what was understood"
 }
 
 # What a check of PROOF that says no means, at a terminal.
 tell_rejected() {
   [ -t 0 ] || return 0
   case $1 in
-    replay | closedcheck | treecheck) echo "cstn: PROOF does not hold of FILE there. Was it written with another --deadline, or of another document?" >&2 ;;
+    replay | closedcheck | treecheck) say "PROOF does not hold of FILE there. Was it written with another --deadline, or of another document?" ;;
   esac
 }
 
 # The number behind --deadline among the words, or nothing.
 deadline_of() {
   while [ $# -gt 1 ]; do
-    [ "$1" != --deadline ] || { echo "$2" && return; }
+    [ "$1" != --deadline ] || { printf '%s\n' "$2" && return; }
     shift
   done
 }
 
-# What `save`, which takes labels on time-points, says of the files among the words, one of which is refused: the first that it refuses
-# itself, `refused`, or that has labels, `labels`.
-save_says() (
-  deadline=$(deadline_of "$@")
-  files "$@" | while IFS= read -r file; do
-    [ -f "$file" ] || break
-    saved=$("$program" save "$file" ${deadline:+--deadline "$deadline"} 2>/dev/null </dev/null)
-    [ $? -ne 3 ] || { echo refused && break; }
-    case $saved in *'<data key="Label">'*) echo labels && break ;; esac
-  done
-)
+# Sets `said` to what `save`, which takes labels on time-points, says of a file: `refused`, or `labels`; it fails then. An earlier
+# file may have been neither.
+ask_save() {
+  [ -f "$1" ] || return 1
+  saved=$("$program" save "$1" ${deadline:+--deadline "$deadline"} 2>/dev/null </dev/null)
+  [ $? -ne 3 ] || said=refused
+  case $saved in *'<data key="Label">'*) said=labels ;; esac
+  [ -z "$said" ]
+}
 
 # What a command says that takes no labels on time-points.
 labels_of() {
@@ -181,22 +202,22 @@ labels_of() {
   esac
 }
 
-# Why a document is refused: for its labels, or for another fault. To tools/explain, which says it itself, nothing.
+# Why a document is refused: for its labels, or for another fault.
 tell_document() {
-  [ -z "${CSTN_EXPLAINED-}" ] || return 0
-  why="the document is refused; tools/explain FILE says why, and shows the line"
+  said=
+  deadline=$(deadline_of "$@")
   case $1 in
     check | run | follow | save | replay | closed | closedcheck | tight) said=refused ;;
-    *) said=$(save_says "$@") ;;
+    *) each_file ask_save "$@" ;;
   esac
   case $said in
-    labels) echo "cstn: $(labels_of "$1")" ;;
-    refused) echo "cstn: $why" ;;
-    *) echo "cstn: \`document labels\` means: $(labels_of "$1"). Any other refusal: tools/explain FILE says why" ;;
-  esac >&2
+    labels) say "$(labels_of "$1")" ;;
+    refused) say "the document is refused; tools/explain FILE says why, and shows the line" ;;
+    *) say "\`document labels\` means: $(labels_of "$1"). Any other refusal: tools/explain FILE says why" ;;
+  esac
 }
 
-# What a status means, in words, on standard error. The answer itself is the program's alone.
+# What a status means, in words. The answer itself is the program's alone.
 tell_status() {
   ended=$1
   shift
@@ -205,12 +226,12 @@ tell_status() {
     1) tell_rejected "${1-}" ;;
     2) tell_form "${1-}" ;;
     3) tell_document "$@" ;;
-    4) echo "cstn: the check was stopped: more bounds were derived than --cap allows. Say a larger one, or take a coarser tick" >&2 ;;
+    4) say "the check was stopped: more bounds were derived than --cap allows. Say a larger one, or take a coarser tick" ;;
     5) tell_unread "$@" ;;
-    6) echo "cstn: the output could not be written" >&2 ;;
-    7) echo "cstn: memory was refused; a smaller --cap takes less" >&2 ;;
-    8) echo "cstn: the lines ended before everything was executed. Begin again, say the lines that were accepted, and go on" >&2 ;;
+    6) say "the output could not be written" ;;
+    7) say "memory was refused; a smaller --cap takes less" ;;
+    8) say "the lines ended before everything was executed. Begin again, say the lines that were accepted, and go on" ;;
     9) tell_lines "$1" ;;
-    10) echo "cstn: too many propositions are observed for a tree; closed and run take the document" >&2 ;;
+    10) say "too many propositions are observed for a tree; closed and run take the document" ;;
   esac
 }

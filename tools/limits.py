@@ -1,75 +1,159 @@
-"""What a document leaves open, or says twice: steps without an upper limit, ranges that a plan takes at their shortest,
-reactions that are written again by hand, and constraints that are never in force."""
+"""What a document leaves open, or says twice: steps without an upper limit, ranges that a plan takes at their
+shortest, reactions that are written again by hand, and constraints that are never in force."""
+import collections
+
+from names import shown
 from networks import constraint, literals, ticks, where, written
 
-
 MOST_CASES = 16
+MOST_CHANGES = 32
 
 
-def uncovered(net, own, covers):
-    """The cases within a case that none of these labels covers: each as wide as can be, with what has to hold for its letters to be asked."""
-    cases = [own]
-    for cover in covers:
-        grown = []
-        for case in cases:
-            denied = any(case.get(letter, value) != value for letter, value in cover.items())
-            near = [case] if denied else [net.completed(written({**case, letter: not value})) for letter, value in cover.items() if letter not in case]
-            grown += [it for it in near if None not in it.values() and it not in grown]
-        cases = [it for it in grown if not any(other.items() < it.items() for other in grown)]
-        if len(cases) > MOST_CASES:
+def is_within(case, other):
+    """Whether a case is a part of another, which asks for less."""
+    return other.items() <= case.items()
+
+
+def without(case, letter):
+    return {it: value for it, value in case.items() if it != letter}
+
+
+def widened(case, other):
+    """A case without a letter that another one has with the other sign, where that asks for nothing more; or none."""
+    for letter, value in case.items():
+        if other.get(letter, value) != value and is_within(case, without(other, letter)):
+            return without(case, letter)
+    return None
+
+
+class Cover:
+    """The cases in which a time-point is limited: few wide ones, since two that differ in one sign of a letter are
+    one.
+
+    It is given up where it has too many, or is changed too often; then what it does not cover is not known.
+    """
+
+    def __init__(self):
+        self.cases, self.changes, self.is_given_up = [], 0, False
+
+    def add(self, case):
+        """Takes in a case; it answers the wider ones that are new by it."""
+        if self.is_given_up and case or any(is_within(case, it) for it in self.cases):
             return []
-    return cases
+        left, new = [case], []
+        while left:
+            case = left.pop()
+            while wider := next(filter(None, (widened(case, it) for it in self.cases)), None):
+                case = wider
+            if any(is_within(case, it) for it in self.cases):
+                continue
+            left += [wider for it in self.cases if (wider := widened(it, case)) is not None]
+            self.cases = [it for it in self.cases if not is_within(it, case)] + [case]
+            new.append(case)
+        self.changes += len(new)
+        self.is_given_up = {} not in self.cases and (len(self.cases) > MOST_CASES or self.changes > MOST_CHANGES)
+        return new
+
+    def lacks(self, net, own):
+        """The cases within a case that are not covered, each as wide as can be, with what has to hold for its letters
+        to be asked; or none where that is not known."""
+        cases = [own]
+        for cover in self.cases:
+            cases = uncovered(net, cases, cover)
+            if len(cases) > MOST_CASES:
+                return None
+        return None if cases and self.is_given_up else cases
 
 
-def limited_from_start(edges):
-    """For each time-point the cases in which constraints, one after another, limit it from the origin on."""
-    limits, grown = {}, {"Z": [{}]}
-    while grown != limits:
-        limits, grown = grown, {name: list(cases) for name, cases in grown.items()}
-        for source, target, _, marks in edges:
-            for case in limits.get(source, []):
-                both = {**case, **marks}
-                fits = all(both[letter] == value for letter, value in case.items())
-                if fits and not any(it.items() <= both.items() for it in grown.setdefault(target, [])):
-                    grown[target] = [it for it in grown[target] if not both.items() <= it.items()] + [both]
-    return limits
+def uncovered(net, cases, cover):
+    """What a label leaves of some cases."""
+    grown = []
+    for case in cases:
+        near = [case]
+        if all(case.get(letter, value) == value for letter, value in cover.items()):
+            near = [net.completed({**case, letter: not value})
+                    for letter, value in cover.items() if letter not in case]
+        grown += [it for it in near if None not in it.values() and it not in grown]
+    return [it for it in grown if not any(other.items() < it.items() for other in grown)]
+
+
+def limited_from_start(net):
+    """For each time-point its cover by constraints that limit it, one after another, from the origin on."""
+    covers, edges = {name: Cover() for name in net.names}, {}
+    for _, source, target, _, label in net.lowered:
+        if source != target:
+            edges.setdefault(source, {})[target, label] = literals(label)
+    left = collections.deque(("Z", case) for case in covers["Z"].add({}))
+    while left:
+        name, case = left.popleft()
+        if covers[name].is_given_up or case not in covers[name].cases:
+            continue
+        for (target, _), marks in edges.get(name, {}).items():
+            if all(marks.get(letter, value) == value for letter, value in case.items()):
+                left += [(target, it) for it in covers[target].add({**case, **marks})]
+    give_up_behind(covers, edges)
+    return covers
+
+
+def give_up_behind(covers, edges):
+    """Where a cover was given up, those that come of it are not known either."""
+    left = [name for name, cover in covers.items() if cover.is_given_up]
+    while left:
+        for target, _ in edges.get(left.pop(), {}):
+            if {} not in covers[target].cases and not covers[target].is_given_up:
+                covers[target].is_given_up = True
+                left.append(target)
 
 
 def unlimited(net):
-    """Each time-point but the origin with the cases in which no constraint and no label limits it from above.
+    """Each time-point but the origin with the cases in which no constraint and no label limits it from above; and
+    those of which that is not known.
 
     What is at most some ticks after a step is not listed, nor what comes before a step that is limited itself.
     """
-    edges = [(source, target, most, literals(label)) for _, source, target, most, label in net.lowered() if source != target]
-    limits = limited_from_start(edges)
-    for _, target, most, marks in edges:
-        if most >= 0:
-            limits.setdefault(target, []).append(marks)
-    found = []
+    covers = limited_from_start(net)
+    for _, source, target, most, label in net.lowered:
+        if most >= 0 and source != target:
+            covers[target].add(literals(label))
+    found, unknown = [], []
     for name in net.names:
-        own = net.completed(net.labels.get(name, ""))
-        if name != "Z" and None not in own.values():
-            found += [(name, case, case == own) for case in uncovered(net, own, limits.get(name, []))]
-    return found
+        own = net.executed[name]
+        lacks = covers[name].lacks(net, own) if name != "Z" and None not in own.values() else []
+        if lacks is None:
+            unknown.append(name)
+        else:
+            found += [(name, case, case == own) for case in lacks]
+    return found, unknown
 
 
 def tell_unlimited(net, tried):
-    """The steps without an upper limit, as data and in words; `tried` says of each whether it can come after the deadline, or nothing where that is too much to try."""
-    found = unlimited(net)
-    beyond = tried([(name, case) for name, case, _ in found])
-    if beyond is not None:
-        found = [it for it, can in zip(found, beyond) if can]
+    """The steps without an upper limit, as data and in words; `tried` says of each whether it can come after the
+    deadline, yes, no or not known, or nothing where that is too much to try."""
+    found, unknown = unlimited(net)
+    beyond = tried([(name, case) for name, case, _ in found]) or [None] * len(found)
+    lines = in_words("No upper limit but the deadline", [it for it, can in zip(found, beyond) if can])
+    lines += in_words("No upper limit written on these steps but the deadline",
+                      [it for it, can in zip(found, beyond) if can is None])
+    if unknown:
+        names = ", ".join(shown(name) for name in unknown)
+        lines.append("Whether these have an upper limit is not told, since it takes more than "
+                     f"{MOST_CASES} cases: {names}.")
+    data = [{"time_point": name, "where": written(case)}
+            for (name, case, _), can in zip(found, beyond) if can is not False]
+    return data, lines
+
+
+def in_words(head, found):
+    """Steps with the cases in which they have no limit, in words."""
     cases = {}
     for name, case, whole in found:
         cases.setdefault(name, []).extend([] if whole else [where(written(case))[2:]])
-    names = [name + (f" ({', or '.join(each)})" if each else "") for name, each in cases.items()]
-    data = [{"time_point": name, "where": written(case)} for name, case, _ in found]
-    head = "No upper limit but the deadline" if beyond is not None else "No upper limit written on these steps but the deadline"
-    return data, [f"{head}: {'; '.join(names)}."] if names else []
+    names = [shown(name) + (f" ({', or '.join(each)})" if each else "") for name, each in cases.items()]
+    return [f"{head}: {'; '.join(names)}."] if names else []
 
 
 def ranges(net):
-    """Each two constraints with one label that say a range: the ids of the least and of the most, and what they say."""
+    """Each two constraints with one label that say a range: the ids of the least and the most, and what they say."""
     most = {}
     for number, (source, target, value, label) in enumerate(net.constraints):
         if value >= 0 and source != target:
@@ -83,13 +167,14 @@ def ranges(net):
 
 
 def leaves(items, known, moments):
-    """For each way through a tree the outcomes that were asked, and the moments of the time-points that are executed."""
+    """For each way through a tree the outcomes that were asked, and the moments of what is executed."""
+    moments = dict(moments)
     for item in items:
         if "ask" in item:
             for value in ("true", "false"):
                 yield from leaves(item[value], {**known, item["ask"]: value == "true"}, moments)
             return
-        moments = {**moments, **{name: item["at"] for name in item["names"]}}
+        moments.update(dict.fromkeys(item["names"], item["at"]))
     yield known, moments
 
 
@@ -97,9 +182,10 @@ def shortest(net, tree):
     """The ranges that a plan takes at their shortest, each with whether it does so in every case where it counts."""
     ways, found = list(leaves(tree, {}, {})), []
     for least, most, first, then, low, high in ranges(net):
-        marks = net.in_force(least)
+        marks = net.forces[least]
         taken = [moments[then] - moments[first] == low for known, moments in ways
-                 if {first, then} <= moments.keys() and all(known.get(letter, value) == value for letter, value in marks.items())]
+                 if first in moments and then in moments
+                 and all(known.get(letter, value) == value for letter, value in marks.items())]
         if any(taken):
             found.append((least, most, first, then, low, high, all(taken)))
     return found
@@ -107,23 +193,34 @@ def shortest(net, tree):
 
 def tell_shortest(net, tree):
     """The ranges that a plan takes at their shortest, as data and in words."""
-    found = shortest(net, tree)
-    lines = [f"{' and '.join(net.called(it) for it in sorted((least, most)))}: {then} {low} to {ticks(high)} after {first}{where(net.constraints[least][3])}: "
-             f"the plan takes {low}{'' if every else ' in some cases'}" for least, most, first, then, low, high, every in found]
+    found, lines = shortest(net, tree), []
+    for least, most, first, then, low, high, every in found:
+        ids = " and ".join(net.called(it) for it in sorted((least, most)))
+        says = f"{shown(then)} {low} to {ticks(high)} after {shown(first)}{where(net.constraints[least][3])}"
+        lines.append(f"{ids}: {says}: the plan takes {low}{'' if every else ' in some cases'}")
     if lines:
-        lines.insert(0, "Ranges that the plan takes at their shortest. Where the length is not its choice, the yes says nothing of a longer one: "
-                        "write the longest as the least, or as the reaction of an observation.")
-    data = [{"constraints": [least, most], "from": first, "to": then, "least": low, "most": high, "in_every_case": every}
+        lines.insert(0, "Ranges that the plan takes at their shortest. Where the length is not its choice, the yes "
+                        "says nothing of a longer one: write the longest as the least, or as the reaction of an "
+                        "observation.")
+    data = [{"constraints": [least, most], "from": first, "to": then, "least": low, "most": high,
+             "in_every_case": every}
             for least, most, first, then, low, high, every in found]
     return data, lines
 
 
+def bits(marks):
+    """A label as a number, of which another is a part where all of its bits are."""
+    return sum(1 << (2 * ord(letter) + value) for letter, value in marks.items())
+
+
 def waits(net, observer):
-    """The constraints by which a time-point comes at least some ticks after an observer, without a label of its own for what that tells."""
+    """The constraints by which a time-point comes at least some ticks after an observer, without a label of its own
+    for what that tells."""
     letter = net.observed[observer]
-    for number, (source, target, most, _) in enumerate(net.constraints):
-        asks = letter in net.completed(net.labels.get(source, ""))
-        if target == observer and most < 0 and source != observer and not asks and None not in net.in_force(number).values():
+    for number in net.ties[observer]:
+        source, target, most, _ = net.constraints[number]
+        is_wait = target == observer and most < 0 and source != observer and number not in net.never
+        if is_wait and letter not in net.executed[source]:
             yield number, source, -most
 
 
@@ -137,10 +234,14 @@ def disagreeing(net):
         reaction, all_waits = net.reaction(observer), list(waits(net, observer))
         if reaction < 2:
             continue
+        counts, longer = collections.Counter(least for _, _, least in all_waits), {}
         for number, source, least in all_waits:
-            longer = [it for it, other, more in all_waits if other == source and more >= reaction and net.in_force(it).items() <= net.in_force(number).items()]
-            same = [it for it, _, more in all_waits if more == least]
-            if least < reaction and not longer or least > reaction and len(same) > 1 and all(more != reaction for _, _, more in all_waits):
+            if least >= reaction:
+                longer.setdefault(source, set()).add(bits(net.forces[number]))
+        for number, source, least in all_waits:
+            own = bits(net.forces[number]) if least < reaction else 0
+            is_short = least < reaction and not any(it & own == it for it in longer.get(source, ()))
+            if is_short or least > reaction and counts[least] > 1 and not counts[reaction]:
                 found.append((number, observer, least))
     return found
 
@@ -149,18 +250,22 @@ def tell_disagreeing(net):
     """The constraints that seem to repeat a reaction and do not agree with it, as data and in words."""
     found, lines = disagreeing(net), []
     for number, observer, least in found:
-        reaction, letter, name = net.reaction(observer), net.observed[observer], net.constraints[number][0]
-        fault = f"so {name} does not wait for {letter}" if least < reaction else "where others say the same: is it the reaction of an earlier day?"
-        lines.append(f"{net.called(number)}: {name} at least {ticks(least)} after {observer}, but {letter} is known {ticks(reaction)} after it, {fault}")
+        reaction, letter, name = net.reaction(observer), net.observed[observer], shown(net.constraints[number][0])
+        fault = "where others say the same: is it the reaction of an earlier day?"
+        if least < reaction:
+            fault = f"so {name} does not wait for {letter}"
+        lines.append(f"{net.called(number)}: {name} at least {ticks(least)} after {shown(observer)}, but {letter} is "
+                     f"known {ticks(reaction)} after it, {fault}")
     if lines:
         lines.insert(0, "Reactions that seem to be written again on an edge, and do not agree:")
-    data = [{"constraint": number, "observer": observer, "reaction": net.reaction(observer), "at_least": least} for number, observer, least in found]
+    data = [{"constraint": number, "observer": observer, "reaction": net.reaction(observer), "at_least": least}
+            for number, observer, least in found]
     return data, lines
 
 
 def tell_never(net):
     """The constraints that are never in force, since their labels exclude each other, as data and in words."""
-    found = [number for number in range(len(net.constraints)) if None in net.in_force(number).values()]
+    found = sorted(net.never)
     lines = [f"{net.called(number)}: {constraint(*net.constraints[number])}" for number in found]
     if lines:
         lines.insert(0, "Never in force, since the label of each and those of its time-points exclude each other:")
@@ -168,17 +273,20 @@ def tell_never(net):
 
 
 def repeating(net):
-    """The constraints by which a time-point waits for an outcome for which its label makes it wait anyhow, and as long."""
+    """The constraints by which a time-point waits for an outcome for which its label makes it wait anyhow, as long."""
     for number, (source, target, most, _) in enumerate(net.constraints):
         letter = net.observed.get(target)
-        if letter and letter in net.completed(net.labels.get(source, "")) and most == -net.reaction(target) and None not in net.in_force(number).values():
+        repeats = letter and letter in net.executed[source] and most == -net.reaction(target)
+        if repeats and number not in net.never:
             yield number, source, target
 
 
 def tell_repeating(net):
     """The constraints that only repeat what a label asks for, as data and in words."""
     found = list(repeating(net))
-    lines = [f"{net.called(number)}: the label of {source} makes it wait until {net.observed[target]} is known" for number, source, target in found]
+    lines = [f"{net.called(number)}: the label of {shown(source)} makes it wait until {net.observed[target]} is known"
+             for number, source, target in found]
     if lines:
-        lines.insert(0, "Edges that only repeat what a label asks for. In `follow` they count also where the outcome comes early: leave them out where that is not meant.")
+        lines.insert(0, "Edges that only repeat what a label asks for. In `follow` they count also where the outcome "
+                        "comes early: leave them out where that is not meant.")
     return [{"constraint": number, "observer": target} for number, _, target in found], lines

@@ -1,90 +1,124 @@
-"""A session of `follow` told again, to try which other value of a limit, or which earlier moment of an outcome, would do."""
-import os
+"""What `follow` wrote, in words: its answers by the lines of the document, and what is left by the document that
+`rest` wrote."""
 import re
-import subprocess
 
-MOST_LIMITS = 12
+from asking import MOST_TRIED, Asked, kept
+from conflicts import tell_giving_way
+from following import awaited, rests, stuck, tell_followed
+from networks import Network, ticks
+from refutations import Refutation, accepted_no
+from tries import CHECKS_OF_A_LIMIT, MOST_LIMITS, awaiting, giving_way
 
-
-class Live:
-    """A session that was told the lines of another, and can be told more."""
-
-    def __init__(self, words, lines, now):
-        self.child = subprocess.Popen(words, stdin=subprocess.PIPE, stdout=subprocess.PIPE, stderr=subprocess.DEVNULL, env={**os.environ, "CSTN_EXPLAINED": "yes"})
-        self.now = now
-        self.read()
-        self.read()
-        for line in lines:
-            self.say(line)
-
-    def __enter__(self):
-        return self
-
-    def __exit__(self, *_):
-        self.child.communicate()
-
-    def read(self):
-        return self.child.stdout.readline().decode().rstrip("\n")
-
-    def say(self, line):
-        """What is answered to a line that has one line as its answer; nothing where the session is over."""
-        try:
-            self.child.stdin.write(f"{line}\n".encode())
-            self.child.stdin.flush()
-        except BrokenPipeError:
-            return ""
-        return self.read()
-
-    def is_met(self, line):
-        """Whether a yes stands after a line, or none where that is not known."""
-        said = self.say(line)
-        if re.match(r"changed \d", said):
-            said = self.say(f"now {self.now}")
-        return {"yes": True, "no": False}.get(said.split(" ")[0])
+MOST_STUCK = 12
+NO_REST = ("The steps after `{}` are of what was left then. Ask `rest` right after that `check`, before anything else "
+           "is told, and give the session with what it writes; or keep that document, from `<?xml` on, in a file "
+           "REST, these steps from `{}` on in a file STEPS, and call tools/explain REST STEPS.")
+TOO_MUCH = ("By how much is not tried, since that is much in so large a plan or session: ask `tools/explain "
+            "--conflict` of what `rest` writes.")
+ANOTHER = ("This session is not of FILE with the deadline {}: it begins with `{}`, and `check` says {}. Its ids and "
+           "moments are of the document that was followed: name that one, not what `rest` wrote, and the "
+           "`--deadline N` that it had.")
+NO_ANSWER = "There is no answer to `next`, `by` or `blame`, and no step of `check`."
+MAY_BE_REST = ("FILE may be what `rest` wrote. Then these are other constraints: ids of `blame` are of the document "
+               "that was followed, so name that one.")
 
 
-def nearest(met, fails, holds):
-    """Between a value that does not do and one that does, the nearest to the first that does, or none where an answer is missing."""
-    while abs(holds - fails) > 1:
-        middle = (fails + holds) // 2
-        said = met(middle)
+def tell_stuck(own, steps, rest, done):
+    """The steps of a `check` of `follow`, over what `rest` wrote behind it, as data and in words; or what is missing
+    for that."""
+    head = steps.split("\n")[0]
+    with kept(rest) as path:
+        asked = Asked(path, [])
+        asked.net = Network(rest) if rest else None
+        if not rest or asked.replayed(steps):
+            return {"answer": "none", "says": [NO_REST.format(head, head)]}, [NO_REST.format(head, head)]
+        asked.net.awaited = awaited(asked.net, own, done)
+        refutation = Refutation(asked.net, steps)
+        data, lines = accepted_no(refutation, steps, asked.missing(refutation))
+    return data, [f"{head}: what is left cannot be carried out. These ids are of the document that `rest` wrote "
+                  "behind it, and not of FILE.", *lines]
+
+
+def tell_told_again(asked, heard, numbers):
+    """How far each limit that is to blame would have to give way, and each wait be shorter, by a session that is told
+    the same lines, as data and in words."""
+    known, deadline = asked.net.constraints, heard.deadline if heard.deadline is not None else asked.net.deadline
+    values = {it: heard.values.get(it, known[it][2] if it < len(known) else 0) for it in numbers}
+    with asked.live(asked.path, heard.journal, heard.now) as live:
+        said = live.is_met(f"now {heard.now}")
         if said is None:
-            return None
-        fails, holds = (fails, middle) if said else (middle, holds)
-    return holds
+            return {}, [TOO_MUCH]
+        if said:
+            return {}, []
+        limits, lines = giving_way(live, values, deadline)
+        waits, more = awaiting(live, heard)
+    return {"limits": limits, "waits": waits}, lines + more
 
 
-def giving_way(live, values, deadline):
-    """For each limit of a value above 0, twelve at most, the least value with which a yes stands if all else stays, as data and in words."""
-    found, lines = [], []
-    for number, value in [it for it in values.items() if it[1] > 0][:MOST_LIMITS]:
-        def met(tried, number=number):
-            return live.is_met(f"change {number} {tried}")
+def tell_left(rest):
+    """How far the limits of what `rest` wrote behind a blame would have to give way, in its own ids, as data and in
+    words."""
+    with kept(rest) as path:
+        asked = Asked(path, [])
+        asked.saved, asked.net = rest, Network(rest)
+        status, text = asked.answer_plain("conflict", *asked.cap(len(asked.net.constraints) + 2))
+        refutation = Refutation(asked.net, text) if status == 1 and not asked.replayed(text) else None
+        if not refutation:
+            return {}, []
+        refutation.in_words(None)
+        limits, lines, _ = tell_giving_way(asked, refutation.uses(), [])
+        missed = [f"A limit was missed by {ticks(-it['at_most'])}."
+                  for it in refutation.uses() if it["from"] == it["to"] and it["at_most"] < 0]
+    if lines:
+        lines.insert(0, "By how much, in the ids and values of what `rest` wrote behind it; raise W of FILE's by the "
+                        "difference:")
+    return {"limits_left": limits}, missed + lines
 
-        said = met(deadline) if deadline > value else False
-        least = nearest(met, value, deadline) if said else None
-        live.say(f"change {number} {value}")
-        found.append({"constraint": number, "at_most": value, "least": least})
-        lines.append(f"{number}: {least} in place of {value}, if all else stays" if least is not None
-                     else f"{number}: no value up to the deadline, {deadline}: without this limit there is still a no, for another reason" if said is False
-                     else f"{number}: how far is not known, since a check could not be ended")
-    return found, lines
+
+def documents_by_line(text):
+    """The documents that `rest` wrote, by the lines at which they begin."""
+    found, line, at = {}, 0, 0
+    for first, last in rests(text):
+        line += text.count("\n", at, first)
+        found[line], at = text[first:last], first
+    return found
 
 
-def awaiting(live, heard):
-    """For each outcome that is awaited later than now, the latest moment before that with which a yes stands, as data and in words."""
-    found, lines = [], []
-    for letter, moment in heard.awaited.items():
-        if letter in heard.known or moment <= heard.now:
-            continue
+class HowFar:
+    """By how much what is to blame was missed, as long as that is not much for the whole session."""
 
-        def met(tried, letter=letter):
-            return live.is_met(f"await {tried} {letter}")
+    def __init__(self, asked, text):
+        self.asked, self.rows, self.spent = asked, text.split("\n"), 0
+        self.documents = documents_by_line(text)
 
-        first = next((it for it in (heard.now, heard.now + 1) if it < moment and met(it)), None)
-        latest = nearest(met, moment, first) if first is not None else None
-        live.say(f"await {moment} {letter}")
-        if latest is not None:
-            found.append({"letter": letter, "awaited": moment, "latest": latest})
-            lines.append(f"or `await {latest} {letter}` in place of `await {moment} {letter}`, if {letter} will be known by then")
-    return found, lines
+    def tell(self, heard, numbers, at):
+        """By the typed lines, or else by what `rest` wrote right behind the answer on this line, as data and words."""
+        rest = None if heard.typed else self.documents.get(at + 1)
+        if not numbers or not heard.typed and not rest:
+            return {}, []
+        checks = CHECKS_OF_A_LIMIT * min(len(numbers), MOST_LIMITS) + len(heard.journal)
+        self.spent += checks * len(self.asked.net.constraints)
+        if self.spent > MOST_TRIED:
+            return {}, [TOO_MUCH]
+        return tell_left(rest) if rest else tell_told_again(self.asked, heard, numbers)
+
+
+def tell_session(asked, text):
+    """What `follow` answered: its answers by the lines of the document, and the steps of each `check` over what was
+    left then."""
+    begun = re.match(r"follow \d+\n((?:yes|no) \d+)\n", text)
+    verdict = asked.answer_at("check")[1].split("\n")[0] if begun else ""
+    if begun and verdict != begun[1] and not verdict.startswith("full"):
+        lines = [ANOTHER.format(asked.net.deadline, begun[1], verdict)]
+        return 1, {"answer": "rejected", "says": lines}, lines
+    status, data, lines = tell_followed(asked.net, text, HowFar(asked, text).tell)
+    if not status:
+        all_stuck = list(stuck(text))
+        found = [tell_stuck(asked.net, *it) for it in all_stuck[-MOST_STUCK:]]
+        data["steps"] = [it for it, _ in found]
+        if len(all_stuck) > MOST_STUCK:
+            lines.append(f"Of {len(all_stuck)} refutations the last {MOST_STUCK} are told.")
+        lines = sum((more for _, more in found), lines) or [NO_ANSWER]
+    if not begun and asked.is_canonical() and re.search(r"^blame \d", text, re.M):
+        lines.append(MAY_BE_REST)
+    return status, data, lines

@@ -1,7 +1,7 @@
-"""Sessions that follow a plan, which bench/hostile holds: what is typed, what is answered, and how they end.
+"""Sessions that follow a plan, which checks/hostile holds: what is typed, what is answered, and how they end.
 
 A session is said as it is typed, stopped at each of its lines and begun again, and torn in the middle of each. What is left after
-each line is written as a document, and checked. Sessions over drawn plans are in continuations.py.
+each line is written as a document, and checked. Sessions over drawn plans are in deciders/continuations.py.
 """
 import os
 import subprocess
@@ -245,7 +245,7 @@ done 0
 # another deadline.
 ASKING = """import os, resource, sys
 sys.path.insert(0, sys.argv[1])
-from follow import DOCUMENT, Followed, Gone
+from follow import DOCUMENT, Followed, Gone, Taken
 def verdict(session):
     return session.ask("check").partition("\\n")[0]
 def stop(session):
@@ -257,8 +257,8 @@ for line in "did 5 Sample", "saw 45 i true", "did 112 Antibiotic":
 print(verdict(session), session.ask("check"), session.ask("rest").count("\\n"), session.ask("blame"), session.tell("remove 2"), verdict(session), sep="\\n")
 try:
     Followed(sys.argv[2], DOCUMENT, [], [], sys.argv[3])
-except BlockingIOError:
-    print("held")
+except Taken as taken:
+    print(str(taken).partition(": ")[2])
 try:
     session.tell("now 120\\nnow 121")
 except ValueError:
@@ -294,7 +294,7 @@ end
 blame 2
 removed 2
 yes 6
-held
+another client has it
 two lines
 full 5
 full 5

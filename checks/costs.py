@@ -1,0 +1,56 @@
+"""What is made to take long, which checks/hostile calls: each is to be answered in ten seconds.
+
+A check that looked at each pair of repeated bounds with each bound, or at all constraints for each step, would take
+minutes.
+"""
+import time
+
+from dear import dear
+from forged import LETTERS, apart_bounds, bounds_of_one, crowded_tree, repeated_bounds, scattered_steps
+from runs import BAD, GOOD, case, check, compact
+
+OBSERVERS = [f"P{letter}:{letter}" for letter in LETTERS]
+
+
+def timed(name, words, status, wrote):
+    begun = time.monotonic()
+    case(name, words, status, wrote)
+    check(f"{name}, in ten seconds", time.monotonic() - begun < 10, True)
+
+
+def dear_bounds(folder):
+    free = folder.put("free", compact(["Z", *OBSERVERS, "X"], []))
+    repeated = repeated_bounds(20000)
+    for name, text, status, wrote in (
+        ("60,000 repeated bounds", repeated, GOOD, "accepted"),
+        ("60,000 repeated bounds, a wait missing", repeated[:-4] + "0 -\n", BAD, "rejected wait 52 20052"),
+        ("60,000 bounds of one time-point, the greatest last", bounds_of_one(range(60000)), GOOD, "accepted"),
+        ("60,000 bounds of one time-point, the greatest first", bounds_of_one(range(59999, -1, -1)), GOOD, "accepted"),
+        ("2,000 bounds of which none dominates another", apart_bounds(650), GOOD, "accepted"),
+    ):
+        timed(name, ["closedcheck", free, folder.put("p", text), "--deadline", "1000000"], status, wrote + "\n")
+
+
+def dear_steps(folder):
+    many, steps = folder.put("many", compact(["Z", "X"], ["X->Z -5"] * 16384)), scattered_steps(100000)
+    for name, text, status, wrote in (
+        ("100,001 steps over 16,384 constraints", steps, GOOD, "accepted"),
+        ("100,001 steps, the last forged", steps[:-4] + "4 -\n", BAD, "rejected 100000"),
+    ):
+        timed(name, ["replay", many, folder.put("p", text), "--deadline", "4"], status, wrote + "\n")
+
+
+def dear_trees(folder):
+    crowded, tree = folder.put("crowded", compact(["Z", *OBSERVERS, "X"], ["Z->X 9"] * 16384)), crowded_tree(12)
+    for name, text, status, wrote in (
+        ("4,096 branches with 16,384 constraints each", tree, GOOD, "accepted"),
+        ("4,096 branches, the last forged", tree[: tree.rindex("at")] + "at 10 X\ndone\n", BAD, "rejected 12288"),
+    ):
+        timed(name, ["treecheck", crowded, folder.put("p", text), "--deadline", "10"], status, wrote + "\n")
+
+
+def dear_documents(folder):
+    timed("a document of 3 kB with 6,950 bounds", ["check", folder.put("f", dear(5, 3))], GOOD, "yes 6950\n")
+    alike = folder.put("alike", compact(["Z", "X"], ["X->Z -5"] * 2000))
+    timed("the one to blame of 2,000 constraints of which each is enough", ["conflict", alike, "--deadline", "4"], BAD,
+          "conflict 1999\nno 3\n0 base Z 0 -\n1 chain 1999 0 X 5 -\n")

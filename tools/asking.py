@@ -1,0 +1,177 @@
+"""What is asked of the program of a document, and how much: what helps beside the answer is asked only as far as it is
+cheap."""
+import contextlib
+import os
+import re
+import stat
+import subprocess
+import sys
+import tempfile
+
+from documents import MOST_BYTES
+from names import typed
+from networks import plain_copy, written
+from refutations import missing_ticks, steps_of
+from tries import CHECKS_OF_A_LIMIT, MOST_LIMITS, Live
+from trees import tree_of
+
+TOP = os.path.dirname(os.path.dirname(os.path.realpath(__file__)))
+GREATEST_DEADLINE = 1000000
+GREATEST_VALUE = 1000000000
+GREATEST_CAP = 65536
+MOST_TRIED = 50000
+
+# A second of checks at worst: their number times the cube of the bounds that each derives, and times these bounds and
+# the constraints that end at one time-point.
+CUBES, CHAINS = 4 * 10**11, 10**7
+
+
+class Stopped(Exception):
+    """Why there is no answer, with the status."""
+
+    def __init__(self, status, why):
+        super().__init__(why)
+        self.status = status
+
+
+@contextlib.contextmanager
+def kept(text):
+    """The path of a file with this text, which is removed afterwards."""
+    with contextlib.ExitStack() as stack:
+        try:
+            file = stack.enter_context(tempfile.NamedTemporaryFile("wb"))
+            file.write(text if isinstance(text, bytes) else text.encode())
+            file.flush()
+        except OSError as error:
+            raise Stopped(2, f"no temporary file can be written: {error}") from error
+        yield file.name
+
+
+@contextlib.contextmanager
+def read_once(path):
+    """What FILE has, and a path by which the program reads the same: of a pipe that of a copy. Nothing where it cannot
+    be read; what is longer than any document is cut."""
+    try:
+        with open(path, "rb") as file:
+            text, is_file = file.read(MOST_BYTES + 1), stat.S_ISREG(os.fstat(file.fileno()).st_mode)
+    except OSError:
+        text, is_file = b"", True
+    if is_file:
+        yield text, path
+        return
+    with kept(text) as copy:
+        yield text, copy
+
+
+def program():
+    """The program: the one that CSTN names, else the one that `./cstn` takes, or builds. The script says why there is
+    none."""
+    if "CSTN" in os.environ:
+        return os.environ["CSTN"]
+    found = subprocess.run([os.path.join(TOP, "cstn"), "--program"], stdout=subprocess.PIPE, check=False)
+    if found.returncode:
+        sys.exit(found.returncode)
+    return os.fsdecode(found.stdout.removesuffix(b"\n"))
+
+
+class Asked:
+    """The program, a document, and its network once that was read."""
+
+    def __init__(self, path, option):
+        self.program, self.path, self.option = program(), path, option
+        self.source, self.saved, self.net = b"", "", None
+
+    def answer(self, *words, live=""):
+        """The status of a call of the program, and what it writes."""
+        try:
+            done = subprocess.run([self.program, *words], input=live.encode(), stdout=subprocess.PIPE, check=False)
+        except OSError as error:
+            raise Stopped(2, f"the program cannot be started: {error}") from error
+        return done.returncode, done.stdout.decode(errors="replace")
+
+    def answer_at(self, command, *more, live=""):
+        """What a command says of the document with the deadline of its network."""
+        return self.answer(command, self.path, *more, "--deadline", str(self.net.deadline), live=live)
+
+    def answer_plain(self, command, *more):
+        """What a command says of the document; where it has labels on time-points and the command takes none, of its
+        plain copy."""
+        if not self.net.labels:
+            return self.answer_at(command, *more)
+        with kept(plain_copy(self.net)) as copy:
+            return self.answer(command, copy, *more)
+
+    def cap(self, checks):
+        """How many bounds each of some checks may derive, so that all of them take a second or two at worst."""
+        ends = {}
+        for _, _, target, *_ in self.net.lowered:
+            ends[target] = ends.get(target, 0) + (target != "Z")
+        widest = max(1, *ends.values(), 1)
+        most = min(int((CUBES / checks) ** (1 / 3)), CHAINS // (checks * widest), GREATEST_CAP)
+        return ["--cap", str(max(1, most))]
+
+    def replayed(self, text):
+        """What `replay` says of the steps of a text, unless it accepts them, or has none."""
+        steps = steps_of(text)
+        with kept("".join(f"{line}\n" for line in [f"no {len(steps)}", *steps])) as proof:
+            said = self.answer_at("replay", proof)[1].strip() if steps else ""
+        return "" if said == "accepted" else said
+
+    def later(self):
+        """A deadline of four times the one at hand."""
+        return min(GREATEST_DEADLINE, max(1000, 4 * self.net.deadline))
+
+    def missing(self, refutation):
+        """How many ticks are missing for a yes, by `tight` with that later deadline, as data and in words."""
+        later = self.later()
+        said = self.answer("tight", self.path, "--deadline", str(later), *self.cap(1))[1]
+        return missing_ticks(self.net.deadline, said, later, refutation.advice())
+
+    def beyond(self, found):
+        """Whether each of these time-points can come after the deadline, each in its case, if only the deadline were
+        later: by `follow`, yes, no or not known; or none where that is much to try."""
+        deadline, first = self.net.deadline, len(self.net.constraints)
+        if len(found) * first > MOST_TRIED or self.later() <= deadline:
+            return None
+        lines = [f"deadline {self.later()}"]
+        for at, (name, case) in enumerate(found):
+            label = written(case).replace("¬", "!") or "-"
+            lines += [f"add {typed(name)} Z -{deadline + 1} {label}", "now 0", f"remove {first + at}"]
+        live = "".join(f"{line}\n" for line in lines)
+        said = self.answer_at("follow", *self.cap(len(found) + 2), live=live)[1].split("\n")[3:]
+        told = [said[3 * at + 1].split(" ")[0] if said[3 * at : 3 * at + 1] == [f"added {first + at}"] else ""
+                for at in range(len(found))]
+        return [{"yes": True, "no": False}.get(it) for it in told]
+
+    def live(self, text, lines, now):
+        """A session over a document that was told these lines, to be asked for as many limits as are tried."""
+        words = [self.program, "follow", text, "--deadline", str(self.net.deadline)]
+        return Live([*words, *self.cap(CHECKS_OF_A_LIMIT * MOST_LIMITS + len(lines))], lines, now)
+
+    def is_canonical(self):
+        """Whether the document stands as `save` and `rest` write one."""
+        return self.source == self.saved.encode()
+
+    def tree(self):
+        """The tree of a plan as data, or none where there is none."""
+        status, text = self.answer_plain("tree")
+        return None if status else tree_of(self.net, text.split("\n")[1:-1])
+
+
+def with_values(text, values):
+    """A canonical document with other values of some constraints, by their ids, which all stay."""
+    rows = text.split("\n")
+    places = [at for at, row in enumerate(rows) if row.startswith("<edge ")]
+    for number, value in values.items():
+        rows[places[number]] = re.sub(r"\{\(-?\d+, ", f"{{({value}, ", rows[places[number]])
+    return "\n".join(rows)
+
+
+def ids_of(constraints):
+    """The ids of constraints of the document that a refutation uses, as data; those for a label have none."""
+    return {it["constraint"] for it in constraints} - {None}
+
+
+def without(text, numbers):
+    """A canonical document in which these constraints limit nothing; all ids stay."""
+    return with_values(text, dict.fromkeys(numbers, GREATEST_VALUE))

@@ -1,0 +1,111 @@
+"""A session of `follow` told again, to try which other value of a limit, or which earlier moment of an outcome, would
+do."""
+import re
+import subprocess
+
+MOST_LIMITS = 12
+CHECKS_OF_A_LIMIT = 21
+
+
+class Live:
+    """A session that was told the lines of another, and can be told more."""
+
+    def __init__(self, words, lines, now):
+        self.child = subprocess.Popen(words, stdin=subprocess.PIPE, stdout=subprocess.PIPE, stderr=subprocess.DEVNULL)
+        self.now = now
+        self.read()
+        self.read()
+        for line in lines:
+            self.say(line)
+
+    def __enter__(self):
+        return self
+
+    def __exit__(self, *_):
+        self.child.communicate()
+
+    def read(self):
+        return self.child.stdout.readline().decode().rstrip("\n")
+
+    def say(self, line):
+        """What is answered to a line that has one line as its answer; nothing where the session is over."""
+        try:
+            self.child.stdin.write(f"{line}\n".encode())
+            self.child.stdin.flush()
+        except BrokenPipeError:
+            return ""
+        return self.read()
+
+    def is_met(self, line):
+        """Whether a yes stands after a line, or none where that is not known."""
+        said = self.say(line)
+        if re.match(r"changed \d", said):
+            said = self.say(f"now {self.now}")
+        return {"yes": True, "no": False}.get(said.split(" ")[0])
+
+
+def nearest(met, fails, holds):
+    """Between a value that does not do and one that does, the nearest to the first that does, or none where an answer
+    is missing."""
+    while abs(holds - fails) > 1:
+        middle = (fails + holds) // 2
+        said = met(middle)
+        if said is None:
+            return None
+        fails, holds = (fails, middle) if said else (middle, holds)
+    return holds
+
+
+def least_values(live, values, deadline):
+    """For each limit of a value above 0, twelve at most, with that value: the least one with which a yes stands if all
+    else stays, or none, and whether a yes stands with the deadline as its value."""
+    for number, value in [it for it in values.items() if it[1] > 0][:MOST_LIMITS]:
+        def met(tried, number=number):
+            return live.is_met(f"change {number} {tried}")
+
+        said = met(deadline) if deadline > value else False
+        least = nearest(met, value, deadline) if said else None
+        live.say(f"change {number} {value}")
+        yield number, value, least, said
+
+
+def instead(value, least, said, deadline):
+    """The least value of a limit that would do, in words."""
+    if least is not None:
+        return f"{least} in place of {value}"
+    if value >= deadline:
+        return f"not tried, since the deadline, {deadline}, limits as much: say a later one by `--deadline N`"
+    if said is False:
+        return f"none up to the deadline, {deadline}: without this limit there is still a no, for another reason"
+    return "not known, since a check could not be ended"
+
+
+def giving_way(live, values, deadline):
+    """How far each limit would have to give way, as data and in words."""
+    found, lines = [], []
+    for number, value, least, said in least_values(live, values, deadline):
+        found.append({"constraint": number, "at_most": value, "least": least})
+        stays = ", if all else stays" if least is not None else ""
+        lines.append(f"{number}: {instead(value, least, said, deadline)}{stays}")
+    return found, lines
+
+
+def awaiting(live, heard):
+    """For each outcome that is awaited later than now, the latest moment before that with which a yes stands, as data
+    and in words."""
+    found, lines = [], []
+    for letter, moment in heard.awaited.items():
+        if letter in heard.known or moment <= heard.now:
+            continue
+
+        def met(tried, letter=letter):
+            return live.is_met(f"await {tried} {letter}")
+
+        first = next((it for it in (heard.now, heard.now + 1) if it < moment and met(it)), None)
+        latest = nearest(met, moment, first) if first is not None else None
+        live.say(f"await {moment} {letter}")
+        if latest is not None:
+            found.append({"letter": letter, "awaited": moment, "latest": latest})
+            lines.append(f"or `await {latest} {letter}` in place of `await {moment} {letter}`, if {letter} will be "
+                         "known by then")
+    return found, lines
