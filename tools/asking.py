@@ -1,5 +1,6 @@
 """What is asked of the program of a document, and how much: what helps beside the answer is asked only as far as it is
 cheap."""
+import collections
 import contextlib
 import os
 import re
@@ -10,7 +11,7 @@ import tempfile
 
 from documents import MOST_BYTES
 from names import typed
-from networks import plain_copy, written
+from networks import literals, plain_copy, written
 from refutations import missing_ticks, steps_of
 from tries import CHECKS_OF_A_LIMIT, MOST_LIMITS, Live
 from trees import tree_of
@@ -21,9 +22,9 @@ GREATEST_VALUE = 1000000000
 GREATEST_CAP = 65536
 MOST_TRIED = 50000
 
-# A second of checks at worst: their number times the cube of the bounds that each derives, and times these bounds and
-# the constraints that end at one time-point.
-CUBES, CHAINS = 4 * 10**11, 10**7
+# A second of checks at worst: their number times the bounds that each derives, times the constraints that end at one
+# time-point; or times the pairs of bounds that are looked at for each, which are no more than labels of the letters can be.
+CHAINS, PAIRS = 10**7, 4 * 10**11
 
 
 class Stopped(Exception):
@@ -89,25 +90,27 @@ class Asked:
             raise Stopped(2, f"the program cannot be started: {error}") from error
         return done.returncode, done.stdout.decode(errors="replace")
 
-    def answer_at(self, command, *more, live=""):
+    def answer_at(self, command, *more, cap=(), live=""):
         """What a command says of the document with the deadline of its network."""
-        return self.answer(command, self.path, *more, "--deadline", str(self.net.deadline), live=live)
+        return self.answer(command, self.path, *more, "--deadline", str(self.net.deadline), *cap, live=live)
 
-    def answer_plain(self, command, *more):
+    def answer_plain(self, command, *more, cap=()):
         """What a command says of the document; where it has labels on time-points and the command takes none, of its
         plain copy."""
         if not self.net.labels:
-            return self.answer_at(command, *more)
+            return self.answer_at(command, *more, cap=cap)
         with kept(plain_copy(self.net)) as copy:
-            return self.answer(command, copy, *more)
+            return self.answer(command, copy, *more, *cap)
 
     def cap(self, checks):
         """How many bounds each of some checks may derive, so that all of them take a second or two at worst."""
-        ends = {}
-        for _, _, target, *_ in self.net.lowered:
-            ends[target] = ends.get(target, 0) + (target != "Z")
-        widest = max(1, *ends.values(), 1)
-        most = min(int((CUBES / checks) ** (1 / 3)), CHAINS // (checks * widest), GREATEST_CAP)
+        ends, letters = collections.Counter(), set()
+        for _, _, target, _, label in self.net.lowered:
+            ends[target] += target != "Z"
+            letters |= literals(label).keys()
+        by_labels = PAIRS // (checks * max(1, len(letters)) * 16 ** len(letters))
+        by_pairs = max(by_labels, int((PAIRS / checks) ** (1 / 3)))
+        most = min(by_pairs, CHAINS // (checks * max(1, *ends.values(), 1)), GREATEST_CAP)
         return ["--cap", str(max(1, most))]
 
     def replayed(self, text):
@@ -138,7 +141,7 @@ class Asked:
             label = written(case).replace("¬", "!") or "-"
             lines += [f"add {typed(name)} Z -{deadline + 1} {label}", "now 0", f"remove {first + at}"]
         live = "".join(f"{line}\n" for line in lines)
-        said = self.answer_at("follow", *self.cap(len(found) + 2), live=live)[1].split("\n")[3:]
+        said = self.answer_at("follow", cap=self.cap(len(found) + 2), live=live)[1].split("\n")[3:]
         told = [said[3 * at + 1].split(" ")[0] if said[3 * at : 3 * at + 1] == [f"added {first + at}"] else ""
                 for at in range(len(found))]
         return [{"yes": True, "no": False}.get(it) for it in told]

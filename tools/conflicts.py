@@ -28,9 +28,12 @@ def tell_giving_way(asked, constraints, others):
     return found, lines, vain
 
 
+UNTOLD = ["Whether there is another set is not told, since that takes too many bounds: mend this one, and ask again."]
+
+
 def refuted_set(asked, text, deadline):
-    """What refutes the conflict set of a document with a deadline; or none where there is no such set, or where
-    `replay` does not take it of FILE."""
+    """What refutes the conflict set of a document with a deadline, and nothing; or none where there is no such set, or
+    where `replay` does not take it of FILE, and perhaps that this is not known, in words."""
     net, own = Network(text), asked.net.deadline
     net.deadline = asked.net.deadline = deadline
     with kept(plain_copy(net)) as copy:
@@ -39,7 +42,7 @@ def refuted_set(asked, text, deadline):
     asked.net.deadline = own
     if refutation:
         refutation.in_words(None)
-    return refutation
+    return refutation, UNTOLD if status > 1 else []
 
 
 def tell_second_set(asked, first, none_up_to):
@@ -52,18 +55,18 @@ def tell_second_set(asked, first, none_up_to):
         head = f"A second set, for which no deadline up to {none_up_to} would do{less}"
         tries.insert(0, (asked.saved, none_up_to, head))
     for text, deadline, head in tries:
-        refutation = refuted_set(asked, text, deadline or asked.net.deadline)
+        refutation, untold = refuted_set(asked, text, deadline or asked.net.deadline)
         if refutation and refutation.uses() != first:
             data = {"constraints": refutation.uses(), "reactions": refutation.reactions(), "none_up_to": deadline}
             return data, [head, *refutation.uses_in_words()]
-    return None, []
+    return None, untold
 
 
 def tell_set_without(asked, limit, text):
     """The conflict set of a document without a limit, as data and in words, or none."""
-    refutation = refuted_set(asked, text, asked.net.deadline)
+    refutation, untold = refuted_set(asked, text, asked.net.deadline)
     if not refutation:
-        return None, []
+        return None, untold
     head = (f"Another set, without constraint {asked.net.called(limit)}, cannot be met together either; with any one "
             "of them less the others can be met:")
     data = {"without": limit, "constraints": refutation.uses(), "reactions": refutation.reactions()}

@@ -61,7 +61,7 @@ def tell_left(rest):
     with kept(rest) as path:
         asked = Asked(path, [])
         asked.saved, asked.net = rest, Network(rest)
-        status, text = asked.answer_plain("conflict", *asked.cap(len(asked.net.constraints) + 2))
+        status, text = asked.answer_plain("conflict", cap=asked.cap(len(asked.net.constraints) + 2))
         refutation = Refutation(asked.net, text) if status == 1 and not asked.replayed(text) else None
         if not refutation:
             return {}, []
