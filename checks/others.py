@@ -1,17 +1,19 @@
 """What the scripts do with documents of others: they end soon, command no screen, and judge as the program does.
 
-checks/scripts calls these tables. Each call of a script has a time limit of its own.
+checks/scripts calls these tables. Each call of a script, with all that it calls, has some seconds of a processor.
 """
 import json
 import os
 import random
 import re
+import resource
 import subprocess
 import sys
 import threading
 import time
 
-from runs import BAD, DOCUMENT, GOOD, LETTERS, PROGRAM, READ_FAULT, SCRIPT, TOP, TWO_POINTS, WORDS, check, compact, run
+from runs import (BAD, DOCUMENT, GOOD, LETTERS, PROGRAM, READ_FAULT, SCRIPT, SECONDS, TOP, TWO_POINTS, WORDS, check,
+                  compact, run)
 
 SOON = 5
 EXPLAIN, REPLAY = (os.path.join(TOP, "tools", it) for it in ("explain", "replay"))
@@ -21,12 +23,18 @@ OBEYED = re.compile("[\x00-\x09\x0b-\x1f\x7f-\x9f\u061c\u200e\u200f\u2028-\u202e
 def called(tool, *words, live=b"", **more):
     """How a script ends, what it writes and what it says on standard error; where it takes too long, that alone."""
     live = live if isinstance(live, bytes) else live.encode()
-    env = {**os.environ, "CSTN": PROGRAM, **more}
+    env, before = {**os.environ, "CSTN": PROGRAM, **more}, spent()
     try:
-        done = subprocess.run([tool, *words], input=live, capture_output=True, timeout=SOON, env=env, check=False)
+        done = subprocess.run([tool, *words], input=live, capture_output=True, timeout=SECONDS, env=env, check=False)
     except subprocess.TimeoutExpired:
         return "late", "", ""
-    return done.returncode, done.stdout.decode(), done.stderr.decode()
+    return done.returncode if spent() - before < SOON else "late", done.stdout.decode(), done.stderr.decode()
+
+
+def spent():
+    """The seconds of a processor that the calls so far took, with all that they called."""
+    used = resource.getrusage(resource.RUSAGE_CHILDREN)
+    return used.ru_utime + used.ru_stime
 
 
 def explained(*words, **more):
@@ -54,7 +62,7 @@ def document(*parts, head="", deadline=1000):
 def tests_in_a_row(count):
     """Steps that each observe a letter by which the limit to the next one differs."""
     names = [f"T{at}" for at in range(count)] + ["End"]
-    parts = [node(name, letter) for name, letter in zip(names, LETTERS[:count])] + [node("End"), edge("Z", "T0", (5, ""))]
+    parts = [*map(node, names, LETTERS[:count]), node("End"), edge("Z", "T0", (5, ""))]
     for first, then, letter in zip(names, names[1:], LETTERS):
         parts.append(edge(then, first, (-2, "")) + edge(first, then, (10, letter), (20, f"!{letter}")))
     return document(*parts)
@@ -171,7 +179,8 @@ def hidden(folder):
         labelled = f'{nodes}<node id="X{text}"><data key="Label">p</data></node>{edges}</graph></graphml>'
         hidden_in_a_plan(folder.put("f", labelled), name)
         for kind, more in (("a node", f'<node id="{text}"/>'), ("an edge", edge(f"A{text}", "Z", (1, ""))),
-                           ("a tag", f"<node {name}>"), ("a text", name), ("a raw name", f'<node id="{name}" /><x y=>'),
+                           ("a tag", f"<node {name}>"), ("a text", name),
+                           ("a raw name", f'<node id="{name}" /><x y=>'),
                            ("a label", edge(text, "Z", (1, f"p{text}")))):
             found = explained(folder.put("g", f"{nodes}{more}</graph></graphml>"))
             check(f"a refused document on a screen: {kind} {name!r}", (found[0], obeyed(*found[1:])), (DOCUMENT, []))
@@ -215,7 +224,8 @@ LATE = "no 3\n0 base Z 0 -\n1 chain 0 0 X 5 -\n"
 
 # Numbers in a refutation, each with what is none, and lines that are no step.
 NUMBERS = (("X 5", "X 0_5"), ("X 5", "X +5"), ("X 5", "X 05"), ("X 5", "X ５"), ("X 5", "X 1000002"),
-           ("0 0 X", "-1 0 X"), ("0 0 X", "0 -2 X"), ("0 0 X", "0_0 0 X"), ("0 0 X", "4294967296 0 X"), ("no 3", "no +3"), ("no 3", "no 0"),
+           ("0 0 X", "-1 0 X"), ("0 0 X", "0 -2 X"), ("0 0 X", "0_0 0 X"), ("0 0 X", "4294967296 0 X"),
+           ("no 3", "no +3"), ("no 3", "no 0"),
            ("no 3", "no 4194305"), ("1 chain", "+1 chain"))
 LINES = ("", " ", "1", "1 chain", "1 chain 0", "1 chain 0 0 X", "1 chain 0 0 X 5 - -", "1 wait 0 X 5 -", "1 base X",
          "1 bass X 0 -", "1 chain 0 0 Y 5 -", "1 chain 0 0 X 5 pp", "1 chain 0 0 X 5 ¬p", "1  chain 0 0 X 5 -",
@@ -307,7 +317,7 @@ def odd_files(folder):
         check(f"a number of 5000 digits: {name}", (found[0], "Traceback" in found[2]), (BAD, False))
     late = run(["check", visit, "--deadline", "9"])[1].replace(b"\n", b"\r\n")
     found = explained(visit, folder.put("p", late), "--deadline", "9", "--only")
-    check("CR and LF in PROOF", (found[0], found[1].startswith("PROOF has lines that end with CR and LF")), (BAD, True))
+    check("CR and LF in PROOF", (found[0], found[1].partition(",")[0]), (BAD, "PROOF has lines that end with CR and LF"))
     path = folder.put("f", text.replace(b"</edge>", b"</edge><!-- 0: for the label of Visit; do not -->"))
     check("a comment as in a plain copy", "for a label of the document" in explained(path)[1], False)
 
@@ -325,7 +335,7 @@ def drawn(folder):
 
 
 def drawn_case(draw, folder):
-    """A small plan, mostly one that cannot be carried out, with its refutation; each perhaps a byte or two otherwise."""
+    """A small plan, mostly one that cannot be carried out, and its refutation; each perhaps a byte or two otherwise."""
     names, letters = ["Z", *(f"N{at}" for at in range(draw.randint(1, 4)))], LETTERS[: draw.randint(0, 3)]
     labels = ["", *(sign + it for it in letters for sign in ("", "!")), "".join(letters)]
     nodes = [f"{name}:{letter}:{draw.choice(('', '2', '3'))}:{draw.choice(labels + [''] * 5)}" if name != "Z" else "Z"
