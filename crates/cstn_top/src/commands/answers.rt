@@ -29,7 +29,7 @@ pub(crate) fn answer(alloc: Global, question: Question) -> Result<Prepared, Allo
 {
     match question {
         Question::Check { document, cap } => {
-            let said = check_text(alloc, document.network, &document.names, cap.entries)?;
+            let said = check_text(alloc, document.network, &document.names, cap)?;
             Ok(Prepared::Says(said))
         }
         Question::Closed { document, cap } => {
@@ -37,19 +37,19 @@ pub(crate) fn answer(alloc: Global, question: Question) -> Result<Prepared, Allo
             Ok(Prepared::Says(said))
         }
         Question::Tight { document, cap } => {
-            let said = tight_text(alloc, document.network, &document.names, cap.entries)?;
+            let said = tight_text(alloc, document.network, &document.names, cap)?;
             Ok(Prepared::Says(said))
         }
         Question::Conflict { document, cap } => {
-            let said = conflict_text(alloc, document.network, &document.names, cap.entries)?;
+            let said = conflict_text(alloc, document.network, &document.names, cap)?;
             Ok(Prepared::Says(said))
         }
         Question::Tree { document, cap } => {
-            let said = tree_text(alloc, document.network, &document.names, cap.entries)?;
+            let said = tree_text(alloc, document.network, &document.names, cap)?;
             Ok(Prepared::Says(said))
         }
         Question::Edit { document, cap } => {
-            let session = Editing::start(alloc, document.network, document.names, cap.entries)?;
+            let session = Editing::start(alloc, document.network, document.names, cap)?;
             Ok(Prepared::Edits(session))
         }
         Question::Follow { document, cap } => {

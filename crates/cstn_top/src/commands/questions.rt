@@ -12,7 +12,8 @@ use cstn_documents::{
     NamedLabelled, NamedNetwork, Unread, open, open_labelled, open_lowered, read_text,
 };
 use cstn_io::Shelf;
-use cstn_words::{Cap, Request};
+use cstn_log::Cap;
+use cstn_words::Request;
 use std::alloc::Global;
 
 /// A request with what was read of its files. A network is that of a document without labels on its time-points, or the one that
