@@ -24,6 +24,11 @@ def timed(name, words, status, wrote):
     check(f"{name}, in ten seconds", spent() - begun < 10, True)
 
 
+def costs(folder):
+    for table in (dear_bounds, dear_steps, dear_trees, dear_documents):
+        table(folder)
+
+
 def dear_bounds(folder):
     free = folder.put("free", compact(["Z", *OBSERVERS, "X"], []))
     repeated = repeated_bounds(20000)
