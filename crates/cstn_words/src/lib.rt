@@ -5,4 +5,4 @@ mod caps;
 mod words;
 
 pub use caps::{Cap, HostFiles};
-pub use words::{Asked, Request, parse};
+pub use words::{Asked, Release, Request, parse};

@@ -12,6 +12,7 @@ use super::host::host_session;
 use super::questions::Question;
 use super::run::run_session;
 use super::save::save_text;
+use super::version::version_text;
 use cstn_check::check_text;
 use cstn_closed::closedcheck_text;
 use cstn_conflict::conflict_text;
@@ -79,5 +80,9 @@ pub(crate) fn answer(alloc: Global, question: Question) -> Result<Prepared, Allo
             Ok(Prepared::Says(said))
         }
         Question::Host { documents, cap } => host_session(alloc, documents, cap),
+        Question::Version(release) => {
+            let said = version_text(alloc, release)?;
+            Ok(Prepared::Says(said))
+        }
     }
 }
