@@ -4,7 +4,7 @@ ghost use Rattle.std.specs.Prelude.{decimal};
 ghost use Rattle.std.specs.List.{All};
 ghost use Rattle.std.specs.Option.{option_map};
 ghost use Rattle.cstn_label.specs.Read.{marks};
-ghost use Rattle.cstn_net.specs.Limits.{most_time_points, most_constraints, most_load};
+ghost use Rattle.cstn_net.specs.Limits.{most_time_points, most_constraints};
 ghost use Rattle.cstn_net.specs.Networks.{count};
 ghost use Rattle.cstn_net.specs.Read.{the_network};
 ghost use Rattle.cstn_text.specs.Names.{number_of};
@@ -23,6 +23,7 @@ use crate::{EditError, Session};
 use cstn_check::Verdict;
 use cstn_label::{Label, NodeId};
 use cstn_lines::{EditLine, read_edit};
+use cstn_log::Cap;
 use cstn_net::{MAX_CONSTRAINTS, Network};
 use cstn_reply::{Answer, AnswerText, Outcome, Talk};
 use cstn_text::{Names, print_name};
@@ -35,7 +36,7 @@ pub struct Editing {
     alloc: Global,
     session: Session,
     names: Names,
-    cap: u32,
+    cap: Cap,
     verdict: Option<Verdict>,
 }
 
@@ -47,7 +48,7 @@ impl Model for Editing {
 
     ghost view = { λ e. record { session = e.session; names = e.names; verdict = e.verdict } };
 
-    ghost invariant = { λ e. IsEditing (record { session = e.session; names = e.names; verdict = e.verdict }) × (e.cap ≡ e.session.cap) };
+    ghost invariant = { λ e. IsEditing (record { session = e.session; names = e.names; verdict = e.verdict }) × (e.cap.entries ≡ e.session.cap) };
 }
 
 impl Editing {
@@ -56,14 +57,12 @@ impl Editing {
         alloc: Global,
         network: Network,
         names: Names,
-        cap: u32,
+        cap: Cap,
     ) -> Result<Editing, AllocError>
-        requires some { 1 ≤ cap }
-        requires most { cap ≤ most_load }
         requires named { length names ≡ count (the_network network) }
         requires few { length network.constraints ≤ most_constraints }
         requires ids { All (λ c. c.id < 2 ^ 31) network.constraints }
-        ensures start { IfOk result (λ e. the_editing e ≡ begun_editing cap names (the_network network)) }
+        ensures start { IfOk result (λ e. the_editing e ≡ begun_editing cap.entries names (the_network network)) }
     {
         has_few_points(&network);
         let session = Session::start(alloc, network, cap, MAX_CONSTRAINTS as u32)?;
@@ -170,7 +169,7 @@ impl Editing {
             }
             Verdict::No { .. } => self.put_refutation(text),
             Verdict::Full => {
-                text.put_number(b"full ", self.cap);
+                text.put_number(b"full ", self.cap.entries);
                 Ok(())
             }
         }

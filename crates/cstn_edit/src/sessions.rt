@@ -4,7 +4,7 @@ ghost use Rattle.std.specs.List.{All, Contains};
 ghost use Rattle.cstn_label.specs.declared.props.Prop.{Prop as DeclaredProp};
 ghost use Rattle.cstn_label.specs.Labels.{IsPlain};
 ghost use Rattle.cstn_label.specs.Read.{marks};
-ghost use Rattle.cstn_net.specs.Limits.{most_constraints, most_load, most_edits};
+ghost use Rattle.cstn_net.specs.Limits.{most_constraints, most_edits};
 ghost use Rattle.cstn_net.specs.Networks.{IsValue, IsWellFormed, count, IsUnobserved, IsLeastUnobserved};
 ghost use Rattle.cstn_net.specs.Strategies.{IsConsistent};
 ghost use Rattle.cstn_net.specs.Read.{the_network, without_id, with_most};
@@ -26,7 +26,7 @@ use crate::fresh::{freshen, is_yes, stays_settled};
 use crate::labels::unobserved;
 use crate::outcomes::Outcome;
 use cstn_label::{Label, NodeId, labels_are_their_marks};
-use cstn_log::Log;
+use cstn_log::{Cap, Log};
 use cstn_net::{Constraint, MAX_EDITS, Network, is_value, network_is_well_formed};
 use cstn_refute::Refutation;
 use cstn_rules::{Tries, derivations_move};
@@ -81,14 +81,12 @@ impl Model for Session {
 impl Session {
     /// A session on the network, whose list may have up to `cap` entries and which may have up to `room` constraints. Fails
     /// for want of memory alone, and drops the network then.
-    pub fn start(alloc: Global, net: Network, cap: u32, room: u32) -> Result<Session, AllocError>
-        requires some { 1 ≤ cap }
-        requires most { cap ≤ most_load }
+    pub fn start(alloc: Global, net: Network, cap: Cap, room: u32) -> Result<Session, AllocError>
         requires room { length net.constraints ≤ room }
         requires most_room { room ≤ most_constraints }
         requires ids { All (λ c. c.id < 2 ^ 31) net.constraints }
         ensures network { IfOk result (λ s. (s.net.deadline ≡ net.deadline) × (s.net.points ≡ net.points) × (s.net.constraints ≡ net.constraints)) }
-        ensures size { IfOk result (λ s. (s.cap ≡ cap) × (s.room ≡ room)) }
+        ensures size { IfOk result (λ s. (s.cap ≡ cap.entries) × (s.room ≡ room)) }
         ensures kept { IfOk result (λ s. kept_of s ≡ bases (count (the_network net))) }
         ensures edits { IfOk result (λ s. s.edits ≡ 0) }
         ensures tries { IfOk result (λ s. s.tries ≡ 0) }

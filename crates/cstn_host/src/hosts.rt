@@ -16,7 +16,7 @@ use std::alloc::{AllocError, Global};
 use std::marker::Model;
 
 /// How many ids there are, from 0.
-const IDS: u32 = 64;
+pub(crate) const IDS: u32 = 64;
 
 /// Carries out up to 64 runs of plans at once, each under an id, by interleaved calls. The calls on an id are answered as by
 /// an executive that gets no others.

@@ -9,6 +9,7 @@ ghost use Rattle.cstn_host.specs.Sessions.{HostSession as SessionState};
 ghost use Rattle.cstn_host.specs.SessionRead.{the_files, the_host_session, the_names, IsHostSession};
 
 use crate::Host;
+use crate::hosts::IDS;
 use crate::texts::{put_error, put_id, put_unfinished};
 use cstn_exec::put_moment;
 use cstn_label::Prop;
@@ -17,9 +18,6 @@ use cstn_plan::SoundPlan;
 use cstn_reply::{Answer, AnswerText, Outcome, Talk};
 use std::alloc::{AllocError, Global};
 use std::marker::Model;
-
-/// How many ids there are, from 0.
-const IDS: u32 = 64;
 
 /// A host, and the printed names of the time-points of each of its files.
 #[derive(Drop)]

@@ -1,7 +1,6 @@
 // The least deadline, and what stands for it.
-ghost use Rattle.std.specs.Prelude.{◌≡◌, ◌≤◌, ◌<◌, ◌++◌, ℕ, List, Option, IfOk, IfSome, length, codes, decimal, OnOk, string_bytes};
+ghost use Rattle.std.specs.Prelude.{◌≡◌, ◌<◌, ◌++◌, ℕ, List, Option, IfOk, IfSome, length, codes, decimal, OnOk, string_bytes};
 ghost use Rattle.std.specs.List.{All};
-ghost use Rattle.cstn_net.specs.Limits.{most_load};
 ghost use Rattle.cstn_net.specs.Networks.{IsWellFormed, count};
 ghost use Rattle.cstn_net.specs.Read.{the_network};
 ghost use Rattle.cstn_refute.specs.Refutations.{the_steps};
@@ -16,6 +15,7 @@ ghost use Rattle.cstn_tight.specs.Told.{AreStepsNamed, told_before};
 
 use crate::{Tight, TightError, least};
 use cstn_check::{full, growth_decides};
+use cstn_log::Cap;
 use cstn_net::Network;
 use cstn_refute::Refutation;
 use cstn_reply::{Outcome, Said};
@@ -29,13 +29,11 @@ pub fn tight_text(
     alloc: Global,
     network: Network,
     names: &Names,
-    cap: u32,
+    cap: Cap,
 ) -> Result<Said, AllocError>
-    requires some { 1 ≤ cap }
-    requires most { cap ≤ most_load }
     requires well_formed { IsWellFormed (the_network network) }
     requires named { length names.now ≡ count (the_network network) }
-    ensures said { IfOk result (λ said. the_said said ≡ tightened cap names.now (the_network network)) }
+    ensures said { IfOk result (λ said. the_said said ≡ tightened cap.entries names.now (the_network network)) }
 {
     growth_decides();
     match least(alloc, network, cap) {

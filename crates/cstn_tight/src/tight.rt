@@ -21,6 +21,7 @@ use crate::errors::TightError;
 use crate::greatest::first_greatest;
 use cstn_check::{Check, Verdict};
 use cstn_closed::{Closed, closed_lists_are_accepted};
+use cstn_log::Cap;
 use cstn_net::{Network, network_is_well_formed};
 use cstn_refute::Refutation;
 use std::alloc::{AllocError, Global};
@@ -38,16 +39,14 @@ pub struct Tight {
 /// a log that may have `cap` entries, tells all: this log holds those at all lower deadlines. The least deadline is the greatest
 /// least value in it, the list of bounds that of its live entries, and the refutation is that of the check at one tick less: the
 /// first entry with the greatest least value, and its ancestors. The network is dropped, also on failure.
-pub fn least(alloc: Global, net: Network, cap: u32) -> Result<Tight, TightError>
-    requires some { 1 ≤ cap }
-    requires most { cap ≤ most_load }
+pub fn least(alloc: Global, net: Network, cap: Cap) -> Result<Tight, TightError>
 
     // But for want of memory, it fails exactly where the network isn't consistent or a log is full.
     ensures no { (r : RefutationParts) → IsErrOf result (TightError.No r)
-        → (load_of (the_network net) ≤ cap) × (IsConsistent (the_network net) → ⊥) × IsRefutationOf (the_network net) r }
-    ensures full { IsErrOf result TightError.Full → is_tight_full cap (the_network net) ≡ true }
-    ensures bounded { IsErrOf result TightError.Full → cap < most_entries (the_network net) }
-    ensures refused { IsOk result → IsConsistent (the_network net) × (is_tight_full cap (the_network net) ≡ false) }
+        → (load_of (the_network net) ≤ cap.entries) × (IsConsistent (the_network net) → ⊥) × IsRefutationOf (the_network net) r }
+    ensures full { IsErrOf result TightError.Full → is_tight_full cap.entries (the_network net) ≡ true }
+    ensures bounded { IsErrOf result TightError.Full → cap.entries < most_entries (the_network net) }
+    ensures refused { IsOk result → IsConsistent (the_network net) × (is_tight_full cap.entries (the_network net) ≡ false) }
 
     ensures deadline { IfOk result (λ tight. tight.deadline ≡ least_deadline (the_network net)) }
     ensures least { IfOk result (λ tight. IsLeastDeadline (the_network net) tight.deadline) }

@@ -13,6 +13,7 @@ use crate::{make, print};
 use cstn_check::{Check, Judged, growth_is_bounded, judge};
 use cstn_exec::Executive;
 use cstn_label::NodeId;
+use cstn_log::Cap;
 use cstn_net::Network;
 use cstn_reply::{Outcome, Said};
 use cstn_text::Names;
@@ -28,13 +29,11 @@ pub fn tree_text(
     alloc: Global,
     network: Network,
     names: &Names,
-    cap: u32,
+    cap: Cap,
 ) -> Result<Said, AllocError>
-    requires some { 1 ≤ cap }
-    requires most { cap ≤ most_load }
     requires well_formed { IsWellFormed (the_network network) }
     requires named { length names.now ≡ count (the_network network) }
-    ensures said { IfOk result (λ said. IsUnfolded cap names.now (the_network network) (the_said said)) }
+    ensures said { IfOk result (λ said. IsUnfolded cap.entries names.now (the_network network) (the_said said)) }
 {
     let observed = observed(&network);
     if observed > MOST_OBSERVED {

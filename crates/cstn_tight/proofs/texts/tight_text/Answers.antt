@@ -11,7 +11,7 @@ use Rattle.cstn_tight.proofs.texts.tight_text.Goals as goal
 pub returns-in-Ok : goal.returns-in-Ok
 returns-in-Ok c = record {
   said =
-      yes_tightened c.args.cap c.args.names.now (the_network c.args.network) c.in-Ok.tight.deadline c.in-Ok.tight.closed c.in-Ok.tight.refutation c.tight_said.result
+      yes_tightened c.args.cap.entries c.args.names.now (the_network c.args.network) c.in-Ok.tight.deadline c.in-Ok.tight.closed c.in-Ok.tight.refutation c.tight_said.result
       c.requires.well_formed c.growth_decides.ensures.decides (c.in-Ok.ensures.refused refl) c.in-Ok.ensures.deadline c.in-Ok.ensures.bounds c.in-Ok.ensures.load c.in-Ok.ensures.none c.in-Ok.ensures.refutation c.tight_said.ensures.said;
 }
 
@@ -25,6 +25,6 @@ tight_said-requires-clause-steps c =
 pub returns-in-Err-No : goal.returns-in-Err-No
 returns-in-Err-No c = record {
   said =
-      no_tightened c.args.cap c.args.names.now (the_network c.args.network) c.in-Err-No.refutation c.refuted.result
+      no_tightened c.args.cap.entries c.args.names.now (the_network c.args.network) c.in-Err-No.refutation c.refuted.result
       c.requires.well_formed c.growth_decides.ensures.decides (c.in-Err-No.ensures.no c.in-Err-No.refutation (ap Err c.in-Err-No.field-0-is)) c.refuted.ensures.said;
 }

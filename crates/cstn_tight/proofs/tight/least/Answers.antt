@@ -9,9 +9,9 @@ use Rattle.cstn_tight.proofs.tight.least.Goals as goal
 
 pub tight_of-requires-clause-consistent : goal.tight_of-requires-clause-consistent
 tight_of-requires-clause-consistent c =
-    let yes_is = yes_tells c.args.cap c.args.net c.in_ok-check.check c.in_ok-check.ensures.start c.in-Yes.load ((c.run.ensures.exactly_yes c.in-Yes.load).0 c.in-Yes.is) in
+    let yes_is = yes_tells c.args.cap.entries c.args.net c.in_ok-check.check c.in_ok-check.ensures.start c.in-Yes.load ((c.run.ensures.exactly_yes c.in-Yes.load).0 c.in-Yes.is) in
     subst (λ (n : NetworkParts). IsConsistent (the_network n))
-    (sym (same_net c.args.cap c.args.net c.in_ok-check.check c.in_ok-check.ensures.start c.run.new.self c.run.result c.run.ensures.answered)) yes_is.1
+    (sym (same_net c.args.cap.entries c.args.net c.in_ok-check.check c.in_ok-check.ensures.start c.run.new.self c.run.result c.run.ensures.answered)) yes_is.1
 
 pub returns-in_err-refutation-in-No-clause-refused : goal.returns-in_err-refutation-in-No-clause-refused
 returns-in_err-refutation-in-No-clause-refused c ok =
@@ -19,59 +19,59 @@ returns-in_err-refutation-in-No-clause-refused c ok =
 
 pub returns-in_ok-tight_of-in-Yes-clause-refused : goal.returns-in_ok-tight_of-in-Yes-clause-refused
 returns-in_ok-tight_of-in-Yes-clause-refused c ok =
-    let yes_is = yes_tells c.args.cap c.args.net c.in_ok-check.check c.in_ok-check.ensures.start c.in-Yes.load ((c.run.ensures.exactly_yes c.in-Yes.load).0 c.in-Yes.is) in
-    (yes_is.1, not_full (the_network c.args.net) c.network_is_well_formed.ensures c.args.cap yes_is.0)
+    let yes_is = yes_tells c.args.cap.entries c.args.net c.in_ok-check.check c.in_ok-check.ensures.start c.in-Yes.load ((c.run.ensures.exactly_yes c.in-Yes.load).0 c.in-Yes.is) in
+    (yes_is.1, not_full (the_network c.args.net) c.network_is_well_formed.ensures c.args.cap.entries yes_is.0)
 
 pub returns-in_ok-tight_of-in-Yes-clause-deadline : goal.returns-in_ok-tight_of-in-Yes-clause-deadline
 returns-in_ok-tight_of-in-Yes-clause-deadline c =
-    let yes_is = yes_tells c.args.cap c.args.net c.in_ok-check.check c.in_ok-check.ensures.start c.in-Yes.load ((c.run.ensures.exactly_yes c.in-Yes.load).0 c.in-Yes.is) in
+    let yes_is = yes_tells c.args.cap.entries c.args.net c.in_ok-check.check c.in_ok-check.ensures.start c.in-Yes.load ((c.run.ensures.exactly_yes c.in-Yes.load).0 c.in-Yes.is) in
     let tight = subst (λ (n : NetworkParts). IsTightOf (the_network n) c.in_ok-tight_of-in-Yes.field-0)
-    (same_net c.args.cap c.args.net c.in_ok-check.check c.in_ok-check.ensures.start c.run.new.self c.run.result c.run.ensures.answered) c.in_ok-tight_of-in-Yes.ensures.tight in
+    (same_net c.args.cap.entries c.args.net c.in_ok-check.check c.in_ok-check.ensures.start c.run.new.self c.run.result c.run.ensures.answered) c.in_ok-tight_of-in-Yes.ensures.tight in
     deadline_is (the_network c.args.net) c.network_is_well_formed.ensures yes_is.1 c.in_ok-tight_of-in-Yes.field-0 tight
 
 pub returns-in_ok-tight_of-in-Yes-clause-upto : goal.returns-in_ok-tight_of-in-Yes-clause-upto
 returns-in_ok-tight_of-in-Yes-clause-upto c =
-    let yes_is = yes_tells c.args.cap c.args.net c.in_ok-check.check c.in_ok-check.ensures.start c.in-Yes.load ((c.run.ensures.exactly_yes c.in-Yes.load).0 c.in-Yes.is) in
+    let yes_is = yes_tells c.args.cap.entries c.args.net c.in_ok-check.check c.in_ok-check.ensures.start c.in-Yes.load ((c.run.ensures.exactly_yes c.in-Yes.load).0 c.in-Yes.is) in
     let tight = subst (λ (n : NetworkParts). IsTightOf (the_network n) c.in_ok-tight_of-in-Yes.field-0)
-    (same_net c.args.cap c.args.net c.in_ok-check.check c.in_ok-check.ensures.start c.run.new.self c.run.result c.run.ensures.answered) c.in_ok-tight_of-in-Yes.ensures.tight in
+    (same_net c.args.cap.entries c.args.net c.in_ok-check.check c.in_ok-check.ensures.start c.run.new.self c.run.result c.run.ensures.answered) c.in_ok-tight_of-in-Yes.ensures.tight in
     deadline_upto (the_network c.args.net) c.network_is_well_formed.ensures yes_is.1 c.in_ok-tight_of-in-Yes.field-0 tight
 
 pub returns-in_ok-tight_of-in-Yes-clause-bounds : goal.returns-in_ok-tight_of-in-Yes-clause-bounds
 returns-in_ok-tight_of-in-Yes-clause-bounds c =
-    let yes_is = yes_tells c.args.cap c.args.net c.in_ok-check.check c.in_ok-check.ensures.start c.in-Yes.load ((c.run.ensures.exactly_yes c.in-Yes.load).0 c.in-Yes.is) in
+    let yes_is = yes_tells c.args.cap.entries c.args.net c.in_ok-check.check c.in_ok-check.ensures.start c.in-Yes.load ((c.run.ensures.exactly_yes c.in-Yes.load).0 c.in-Yes.is) in
     let tight = subst (λ (n : NetworkParts). IsTightOf (the_network n) c.in_ok-tight_of-in-Yes.field-0)
-    (same_net c.args.cap c.args.net c.in_ok-check.check c.in_ok-check.ensures.start c.run.new.self c.run.result c.run.ensures.answered) c.in_ok-tight_of-in-Yes.ensures.tight in
+    (same_net c.args.cap.entries c.args.net c.in_ok-check.check c.in_ok-check.ensures.start c.run.new.self c.run.result c.run.ensures.answered) c.in_ok-tight_of-in-Yes.ensures.tight in
     bounds_are (the_network c.args.net) c.network_is_well_formed.ensures yes_is.1 c.in_ok-tight_of-in-Yes.field-0 tight
 
 pub returns-in_ok-tight_of-in-Yes-clause-load : goal.returns-in_ok-tight_of-in-Yes-clause-load
 returns-in_ok-tight_of-in-Yes-clause-load c =
-    let yes_is = yes_tells c.args.cap c.args.net c.in_ok-check.check c.in_ok-check.ensures.start c.in-Yes.load ((c.run.ensures.exactly_yes c.in-Yes.load).0 c.in-Yes.is) in
+    let yes_is = yes_tells c.args.cap.entries c.args.net c.in_ok-check.check c.in_ok-check.ensures.start c.in-Yes.load ((c.run.ensures.exactly_yes c.in-Yes.load).0 c.in-Yes.is) in
     let tight = subst (λ (n : NetworkParts). IsTightOf (the_network n) c.in_ok-tight_of-in-Yes.field-0)
-    (same_net c.args.cap c.args.net c.in_ok-check.check c.in_ok-check.ensures.start c.run.new.self c.run.result c.run.ensures.answered) c.in_ok-tight_of-in-Yes.ensures.tight in
+    (same_net c.args.cap.entries c.args.net c.in_ok-check.check c.in_ok-check.ensures.start c.run.new.self c.run.result c.run.ensures.answered) c.in_ok-tight_of-in-Yes.ensures.tight in
     load_is (the_network c.args.net) c.network_is_well_formed.ensures yes_is.1 c.in_ok-tight_of-in-Yes.field-0 tight
 
 pub returns-in_ok-tight_of-in-Yes-clause-refutation : goal.returns-in_ok-tight_of-in-Yes-clause-refutation
 returns-in_ok-tight_of-in-Yes-clause-refutation c =
-    let yes_is = yes_tells c.args.cap c.args.net c.in_ok-check.check c.in_ok-check.ensures.start c.in-Yes.load ((c.run.ensures.exactly_yes c.in-Yes.load).0 c.in-Yes.is) in
+    let yes_is = yes_tells c.args.cap.entries c.args.net c.in_ok-check.check c.in_ok-check.ensures.start c.in-Yes.load ((c.run.ensures.exactly_yes c.in-Yes.load).0 c.in-Yes.is) in
     let tight = subst (λ (n : NetworkParts). IsTightOf (the_network n) c.in_ok-tight_of-in-Yes.field-0)
-    (same_net c.args.cap c.args.net c.in_ok-check.check c.in_ok-check.ensures.start c.run.new.self c.run.result c.run.ensures.answered) c.in_ok-tight_of-in-Yes.ensures.tight in
+    (same_net c.args.cap.entries c.args.net c.in_ok-check.check c.in_ok-check.ensures.start c.run.new.self c.run.result c.run.ensures.answered) c.in_ok-tight_of-in-Yes.ensures.tight in
     refutation_is (the_network c.args.net) c.network_is_well_formed.ensures yes_is.1 c.in_ok-tight_of-in-Yes.field-0 tight
 
 pub returns-in_ok-tight_of-in-Yes-clause-named : goal.returns-in_ok-tight_of-in-Yes-clause-named
 returns-in_ok-tight_of-in-Yes-clause-named c =
     let tight = subst (λ (n : NetworkParts). IsTightOf (the_network n) c.in_ok-tight_of-in-Yes.field-0)
-    (same_net c.args.cap c.args.net c.in_ok-check.check c.in_ok-check.ensures.start c.run.new.self c.run.result c.run.ensures.answered) c.in_ok-tight_of-in-Yes.ensures.tight in
+    (same_net c.args.cap.entries c.args.net c.in_ok-check.check c.in_ok-check.ensures.start c.run.new.self c.run.result c.run.ensures.answered) c.in_ok-tight_of-in-Yes.ensures.tight in
     tight.closed.named
 
 pub returns-in_ok-tight_of-in-Yes-clause-accepted : goal.returns-in_ok-tight_of-in-Yes-clause-accepted
 returns-in_ok-tight_of-in-Yes-clause-accepted c =
     let tight = subst (λ (n : NetworkParts). IsTightOf (the_network n) c.in_ok-tight_of-in-Yes.field-0)
-    (same_net c.args.cap c.args.net c.in_ok-check.check c.in_ok-check.ensures.start c.run.new.self c.run.result c.run.ensures.answered) c.in_ok-tight_of-in-Yes.ensures.tight in
+    (same_net c.args.cap.entries c.args.net c.in_ok-check.check c.in_ok-check.ensures.start c.run.new.self c.run.result c.run.ensures.answered) c.in_ok-tight_of-in-Yes.ensures.tight in
     tight.closed.accepted
 
 pub returns-in_ok-refutation-in-No-clause-no : goal.returns-in_ok-refutation-in-No-clause-no
 returns-in_ok-refutation-in-No-clause-no c r told =
-    let no_is = no_tells c.args.cap c.args.net c.in_ok-check.check c.in_ok-check.ensures.start c.in-No.load ((c.run.ensures.exactly_no c.in-No.load).0 c.in-No.is) in
+    let no_is = no_tells c.args.cap.entries c.args.net c.in_ok-check.check c.in_ok-check.ensures.start c.in-No.load ((c.run.ensures.exactly_no c.in-No.load).0 c.in-No.is) in
     let given = c.in_ok-refutation-in-No.ensures in
     let refuted : IsRefutationOf (the_network c.run.new.self.net) c.in_ok-refutation-in-No.field-0 =
     record { part = given.part; load = given.load; refutes = given.refutes; named = given.named; text = given.text } in
@@ -80,10 +80,10 @@ returns-in_ok-refutation-in-No-clause-no c r told =
       no_is.1,
       subst (IsRefutationOf (the_network c.args.net)) same
           (subst (λ (n : NetworkParts). IsRefutationOf (the_network n) c.in_ok-refutation-in-No.field-0)
-          (same_net c.args.cap c.args.net c.in_ok-check.check c.in_ok-check.ensures.start c.run.new.self c.run.result c.run.ensures.answered) refuted),
+          (same_net c.args.cap.entries c.args.net c.in_ok-check.check c.in_ok-check.ensures.start c.run.new.self c.run.result c.run.ensures.answered) refuted),
     )
 
 pub returns-in-Full-clause-full : goal.returns-in-Full-clause-full
 returns-in-Full-clause-full c full =
-    whole_full (the_network c.args.net) c.network_is_well_formed.ensures c.args.cap
-    (full_tells c.args.cap c.args.net c.in_ok-check.check c.in_ok-check.ensures.start (c.run.ensures.full.0 c.in-Full.is))
+    whole_full (the_network c.args.net) c.network_is_well_formed.ensures c.args.cap.entries
+    (full_tells c.args.cap.entries c.args.net c.in_ok-check.check c.in_ok-check.ensures.start (c.run.ensures.full.0 c.in-Full.is))

@@ -7,5 +7,5 @@ pub returns : goal.returns
 returns c = record {
   start =
       ap (λ (cap : ℕ). state_with cap c.args.names None (the_session c.in_ok-session.session)) c.in_ok-session.ensures.size.0
-      ∙ ap (λ (s : Session). state_with c.args.cap c.args.names None s) c.in_ok-session.ensures.session;
+      ∙ ap (λ (s : Session). state_with c.args.cap.entries c.args.names None s) c.in_ok-session.ensures.session;
 }

@@ -15,8 +15,8 @@ invariant_of-result c =
     let net = the_network c.reserve.new.self in
     let size = c.in_ok-log.ensures.size in
     let starts = subst (λ cap. the_entries log.entries ≡ first_entries net cap) (sym size.0) c.in_ok-log.ensures.start in
-    let kept = started_log net log starts size.1 c.in_ok-log.ensures.derivation (omega (arith, size.0, c.requires.some))
-    (omega (arith, size.0, c.requires.most)) in (
+    let kept = started_log net log starts size.1 c.in_ok-log.ensures.derivation (omega (arith, size.0, c.args.cap.some))
+    (omega (arith, size.0, c.args.cap.most)) in (
       started_session c.args.net c.reserve.new.self log c.args.room c.highest_id-highest.result c.reserve.ensures.well_formed
           c.reserve.ensures.same c.requires.room c.requires.most_room c.requires.ids c.in_ok-reserve.ensures.room kept
           c.in_ok-log.ensures.births c.highest_id-highest.ensures,
