@@ -1,5 +1,5 @@
 -- Edit sessions by their definition: the edits that are accepted and refused, the sessions that follow, and the verdicts.
-use Rattle.std.specs.Prelude.{ℕ, ℤ, pos, negsuc, int_le, ◌+◌, nat_le, ◌==◌, Bool, not, ◌&&◌, if◌then◌else◌, List, [], ◌∷◌, ◌++◌, length, map, position, Option, None, Some, Result, Ok, Err}
+use Rattle.std.specs.Prelude.{ℕ, ℤ, pos, int_le, ◌+◌, nat_le, ◌==◌, Bool, not, ◌&&◌, if◌then◌else◌, List, [], ◌∷◌, ◌++◌, length, map, position, Option, None, Some, Result, Ok, Err}
 use Rattle.std.specs.List.{filter, list_any, range_with_len}
 use Rattle.std.specs.Option.{option_map, unwrap_or}
 use Rattle.cstn_label.specs.Labels.{Label}

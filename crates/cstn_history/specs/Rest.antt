@@ -1,5 +1,5 @@
 -- The labelled network of what is left.
-use Rattle.std.specs.Prelude.{ℕ, zero, suc, ◌+◌, ◌-◌, ◌++◌, Bool, true, not, ◌&&◌, ◌||◌, ◌==◌, nat_lt, min, List, [], ◌∷◌, length, map, slice_index_or, Option, None, Some, if◌then◌else◌, ℤ, pos, negsuc, ◌+ℤ◌, ◌-ℤ◌, int_lt}
+use Rattle.std.specs.Prelude.{ℕ, zero, suc, ◌+◌, ◌-◌, ◌++◌, Bool, true, not, ◌&&◌, ◌||◌, ◌==◌, nat_lt, min, List, [], ◌∷◌, length, map, slice_index_or, Option, None, Some, if◌then◌else◌, ℤ, pos, ◌+ℤ◌, ◌-ℤ◌, int_lt}
 use Rattle.std.specs.Int.{int_min, int_max}
 use Rattle.std.specs.Option.{is_some, unwrap_or}
 use Rattle.std.specs.List.{filter, filter_map, flat_map, range_with_len}

@@ -181,11 +181,7 @@ fn latest_expected(network: &Labelled, p: Prop) -> u32
     let Some(x) = network.base().observer(p) else {
         return MAX_DEADLINE;
     };
-    if x.0 == 0 {
-        MAX_REACTION
-    } else {
-        MAX_DEADLINE
-    }
+    if x.0 == 0 { MAX_REACTION } else { MAX_DEADLINE }
 }
 
 fn is_beyond(moment: u32) -> bool
