@@ -32,11 +32,9 @@ but id test i = test i && not (i == id)
 abbrev pub alone : Labelled → (ℕ → Bool) → Labelled
 alone m test = with_base m (with_some m.base test)
 
--- what each try asks: a log may have an entry, what has happened is a history of the network, its ids are below `fresh`, and what
+-- what each try asks: what has happened is a history of the network, its ids are below `fresh`, and what
 -- is left has no more constraints than it may
-pub record TakesTries (m : Labelled) (h : HistoryParts) (fresh cap : ℕ) : Type 0 where
-  pub some : 1 ≤ cap
-  pub most : cap ≤ most_load
+pub record TakesTries (m : Labelled) (h : HistoryParts) (fresh : ℕ) : Type 0 where
   pub kept : IsKeptFor m h
   pub above : All (λ c. c.id < fresh) m.base.constraints
   pub low : fresh ≤ 4294000000

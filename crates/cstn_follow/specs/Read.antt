@@ -41,8 +41,6 @@ pub record IsFollowing (f : FollowingParts) : Type 0 where
   pub labelled : IsLabelled (the_labelled f.network)
   pub named : length f.names ≡ count (the_labelled f.network).base
   pub kept : IsKeptFor (the_labelled f.network) f.history
-  pub some : 1 ≤ f.cap
-  pub most : f.cap ≤ most_load
   pub few_edits : f.edits ≤ most_edits
   pub above : All (λ c. c.id < f.fresh) (the_labelled f.network).base.constraints
   pub low : f.fresh ≤ 2 ^ 31 + f.edits

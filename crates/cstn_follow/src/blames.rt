@@ -2,7 +2,6 @@
 ghost use Rattle.std.specs.Prelude.{ℕ, ◌≡◌, ◌<◌, ◌≤◌, None, Some, IfOk, IfSome, IsErrOf};
 ghost use Rattle.std.specs.List.{All, AllPairs, Contains};
 ghost use Rattle.std.specs.Option.{option_map};
-ghost use Rattle.cstn_net.specs.Limits.{most_load};
 ghost use Rattle.cstn_net.specs.Read.{the_network};
 ghost use Rattle.cstn_check.specs.Givers.{without};
 ghost use Rattle.cstn_lift.specs.Read.{the_labelled};
@@ -19,6 +18,7 @@ use crate::needs::{Said, said_of, sources};
 use crate::tries::with_base;
 use cstn_history::{History, RestError, edits_keep_histories, rest};
 use cstn_lift::Labelled;
+use cstn_log::Cap;
 use cstn_net::{Network, network_is_well_formed};
 use std::alloc::{AllocError, Global};
 
@@ -32,10 +32,8 @@ pub fn blame(
     network: &Labelled,
     history: &History,
     fresh: u32,
-    cap: u32,
+    cap: Cap,
 ) -> Result<Vec<u32>, BlameError>
-    requires some { 1 ≤ cap }
-    requires most { cap ≤ most_load }
     requires kept { IsKeptFor (the_labelled network.now) history.now }
     requires above { All (λ c. c.id < fresh) (the_labelled network.now).base.constraints }
     requires low { fresh ≤ 4294000000 }
@@ -49,8 +47,8 @@ pub fn blame(
     ensures ascending { IfOk result (λ ids. AllPairs (λ a b. a < b) ids.items) }
 
     // Unless memory is refused, it is refused exactly where a log that is tried is full.
-    ensures blamed { IfOk result (λ ids. blamed (the_labelled network.now) (the_history history.now) fresh cap ≡ Some ids.items) }
-    ensures full { IsErrOf result BlameError.Full → blamed (the_labelled network.now) (the_history history.now) fresh cap ≡ None }
+    ensures blamed { IfOk result (λ ids. blamed (the_labelled network.now) (the_history history.now) fresh cap.entries ≡ Some ids.items) }
+    ensures full { IsErrOf result BlameError.Full → blamed (the_labelled network.now) (the_history history.now) fresh cap.entries ≡ None }
 {
     blame_is_found();
     network.base();
@@ -67,10 +65,10 @@ fn blamed(
     network: &Labelled,
     history: &History,
     fresh: u32,
-    cap: u32,
+    cap: Cap,
 ) -> Result<Option<Vec<u32>>, AllocError>
-    requires tries { TakesTries (the_labelled network.now) history.now fresh cap }
-    ensures { IfOk result (λ o. option_map (λ ids. ids.items) o ≡ blamed (the_labelled network.now) (the_history history.now) fresh cap) }
+    requires tries { TakesTries (the_labelled network.now) history.now fresh }
+    ensures { IfOk result (λ o. option_map (λ ids. ids.items) o ≡ blamed (the_labelled network.now) (the_history history.now) fresh cap.entries) }
 {
     let ids = ids_of(alloc, network.base())?;
     let mut left = all_left(alloc, network, history, fresh, cap)?;
@@ -133,12 +131,12 @@ fn all_left(
     network: &Labelled,
     history: &History,
     fresh: u32,
-    cap: u32,
+    cap: Cap,
 ) -> Result<Left, AllocError>
-    requires tries { TakesTries (the_labelled network.now) history.now fresh cap }
+    requires tries { TakesTries (the_labelled network.now) history.now fresh }
     ensures base { IfOk result (λ l. the_network l.base ≡ (the_labelled network.now).base) }
     ensures stands { IfOk result (λ l. IfSome l.needed (λ v.
-        StandsBy (the_labelled network.now) (the_history history.now) fresh cap (the_network l.base) v.items)) }
+        StandsBy (the_labelled network.now) (the_history history.now) fresh cap.entries (the_network l.base) v.items)) }
 {
     let base = network.base().copy(alloc)?;
     let said = said_by(alloc, network, history, fresh, base, cap)?;
@@ -161,15 +159,17 @@ fn narrowed(
     fresh: u32,
     left: Left,
     id: u32,
-    cap: u32,
+    cap: Cap,
 ) -> Result<Option<Left>, AllocError>
-    requires tries { TakesTries (the_labelled network.now) history.now fresh cap }
+    requires tries { TakesTries (the_labelled network.now) history.now fresh }
     requires part { IsPart (the_labelled network.now).base (the_network left.base) }
-    requires stands { IfSome left.needed (λ v. StandsBy (the_labelled network.now) (the_history history.now) fresh cap (the_network left.base) v.items) }
+    requires stands { IfSome left.needed (λ v.
+        StandsBy (the_labelled network.now) (the_history history.now) fresh cap.entries (the_network left.base) v.items) }
     ensures narrowed { IfOk result (λ o. option_map (λ l. the_network l.base) o
-        ≡ narrowed (said_by (the_labelled network.now) (the_history history.now) fresh cap (without id (the_network left.base))) id (the_network left.base)) }
+        ≡ narrowed (said_by (the_labelled network.now) (the_history history.now) fresh cap.entries (without id (the_network left.base))) id
+        (the_network left.base)) }
     ensures stands { IfOk result (λ o. IfSome o (λ l. IfSome l.needed (λ v.
-        StandsBy (the_labelled network.now) (the_history history.now) fresh cap (the_network l.base) v.items))) }
+        StandsBy (the_labelled network.now) (the_history history.now) fresh cap.entries (the_network l.base) v.items))) }
 {
     if left.is_idle(id) {
         return Ok(Some(left.without(id)));
@@ -204,12 +204,12 @@ fn said_by(
     history: &History,
     fresh: u32,
     base: Network,
-    cap: u32,
+    cap: Cap,
 ) -> Result<Said, AllocError>
-    requires tries { TakesTries (the_labelled network.now) history.now fresh cap }
+    requires tries { TakesTries (the_labelled network.now) history.now fresh }
     requires part { IsPart (the_labelled network.now).base (the_network base) }
-    ensures said { IfOk result (λ o. answer o ≡ said_by (the_labelled network.now) (the_history history.now) fresh cap (the_network base)) }
-    ensures stands { IfOk result (λ o. IfNo o (StandsBy (the_labelled network.now) (the_history history.now) fresh cap (the_network base))) }
+    ensures said { IfOk result (λ o. answer o ≡ said_by (the_labelled network.now) (the_history history.now) fresh cap.entries (the_network base)) }
+    ensures stands { IfOk result (λ o. IfNo o (StandsBy (the_labelled network.now) (the_history history.now) fresh cap.entries (the_network base))) }
 {
     parts_are_labelled();
     edits_keep_histories();

@@ -1,6 +1,5 @@
 // Which constraints a no needs.
-ghost use Rattle.std.specs.Prelude.{ℕ, ◌≡◌, ◌<◌, ◌≤◌, ◌++◌, ◌∷◌, [], true, false, List, length, map, get_or, Some, IfOk, if◌then◌else◌};
-ghost use Rattle.cstn_net.specs.Limits.{most_load};
+ghost use Rattle.std.specs.Prelude.{ℕ, ◌≡◌, ◌<◌, ◌++◌, ◌∷◌, [], true, false, List, length, map, get_or, Some, IfOk, if◌then◌else◌};
 ghost use Rattle.cstn_net.specs.Networks.{count};
 ghost use Rattle.cstn_net.specs.Read.{the_network, the_constraint, IsInRange};
 ghost use Rattle.cstn_rules.specs.Derivations.{Entry as TheEntry};
@@ -17,7 +16,7 @@ ghost use Rattle.cstn_follow.specs.Tries.{said};
 use cstn_check::{Check, Verdict, growth_decides, is_never_full};
 use cstn_history::completed;
 use cstn_lift::{Labelled, plain_constraints_are_kept};
-use cstn_log::Log;
+use cstn_log::{Cap, Log};
 use cstn_net::{Constraint, Network, network_is_well_formed};
 use cstn_rules::{Entry, Why};
 use std::alloc::{AllocError, Global};
@@ -38,12 +37,10 @@ pub(crate) fn said_of(
     alloc: Global,
     net: Network,
     sources: &[u32],
-    cap: u32,
+    cap: Cap,
 ) -> Result<Said, AllocError>
-    requires some { 1 ≤ cap }
-    requires most { cap ≤ most_load }
-    ensures said { IfOk result (λ o. answer o ≡ said cap (the_network net)) }
-    ensures needed { IfOk result (λ o. IfNo o (Settles cap (the_network net) sources.now)) }
+    ensures said { IfOk result (λ o. answer o ≡ said cap.entries (the_network net)) }
+    ensures needed { IfOk result (λ o. IfNo o (Settles cap.entries (the_network net) sources.now)) }
 {
     growth_decides();
     network_is_well_formed(&net);
@@ -96,11 +93,10 @@ fn needed_by(
     alloc: Global,
     check: &Check,
     sources: &[u32],
-    cap: u32,
+    cap: Cap,
 ) -> Result<Vec<u32>, AllocError>
-    requires most { cap ≤ most_load }
     requires no { (load : ℕ) × (check.now.verdict ≡ Some (Verdict.No load)) }
-    ensures needed { IfOk result (λ v. IsNeeded cap (the_network check.now.net) sources.now v.items) }
+    ensures needed { IfOk result (λ v. IsNeeded cap.entries (the_network check.now.net) sources.now v.items) }
 {
     if is_never_full(check.network(), cap) {
         let refutation = check.refutation(alloc)?;

@@ -2,7 +2,6 @@
 ghost use Rattle.std.specs.Prelude.{◌≡◌, ◌<◌, ◌≤◌, ◌^◌, ◌||◌, [], length, IfOk, IfSome};
 ghost use Rattle.std.specs.List.{All};
 ghost use Rattle.std.specs.Option.{is_some, option_map};
-ghost use Rattle.cstn_net.specs.Limits.{most_load};
 ghost use Rattle.cstn_net.specs.Networks.{count};
 ghost use Rattle.cstn_lift.specs.Read.{the_labelled};
 ghost use Rattle.cstn_net.specs.Read.{the_network};
@@ -20,6 +19,7 @@ use cstn_check::Verdict;
 use cstn_history::{History, completed};
 use cstn_label::NodeId;
 use cstn_lift::Labelled;
+use cstn_log::Cap;
 use cstn_net::Network;
 use cstn_reply::{AnswerText, Outcome};
 use cstn_text::Names;
@@ -43,7 +43,7 @@ pub struct Following {
     pub(crate) network: Labelled,
     pub(crate) names: Names,
     pub(crate) history: History,
-    pub(crate) cap: u32,
+    pub(crate) cap: Cap,
     pub(crate) edits: u32,
     pub(crate) fresh: u32,
     pub(crate) lines: u32,
@@ -59,7 +59,7 @@ impl Model for Following {
       network = f.network;
       names = f.names;
       history = f.history;
-      cap = f.cap;
+      cap = f.cap.entries;
       edits = f.edits;
       fresh = f.fresh;
       lines = f.lines;
@@ -70,7 +70,7 @@ impl Model for Following {
       network = f.network;
       names = f.names;
       history = f.history;
-      cap = f.cap;
+      cap = f.cap.entries;
       edits = f.edits;
       fresh = f.fresh;
       lines = f.lines;
@@ -85,13 +85,11 @@ impl Following {
         alloc: Global,
         network: Labelled,
         names: Names,
-        cap: u32,
+        cap: Cap,
     ) -> Result<Following, AllocError>
-        requires some { 1 ≤ cap }
-        requires most { cap ≤ most_load }
         requires named { length names ≡ count (the_labelled network).base }
         requires ids { All (λ c. c.id < 2 ^ 31) (the_labelled network).base.constraints }
-        ensures start { IfOk result (λ f. the_following f ≡ begun cap names (the_labelled network)) }
+        ensures start { IfOk result (λ f. the_following f ≡ begun cap.entries names (the_labelled network)) }
     {
         let history = History::new(alloc, &network)?;
         let fresh = id_above(network.base());

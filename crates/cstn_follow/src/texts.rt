@@ -12,6 +12,7 @@ ghost use Rattle.cstn_lines.specs.LiveLines.{printed_truth};
 use cstn_check::Verdict;
 use cstn_history::FactError;
 use cstn_label::{NodeId, Prop};
+use cstn_log::Cap;
 use cstn_reply::truth_word;
 use cstn_text::{Names, print_name};
 use itoa::Buffer;
@@ -21,13 +22,13 @@ use std::alloc::{AllocError, Global};
 pub const ROOM: usize = 64;
 
 /// The line of a verdict.
-pub fn verdict_line(alloc: Global, cap: u32, verdict: Verdict) -> Result<Vec<u8>, AllocError>
-    ensures line { IfOk result (λ text. text.items ≡ verdict_line cap verdict) }
+pub fn verdict_line(alloc: Global, cap: Cap, verdict: Verdict) -> Result<Vec<u8>, AllocError>
+    ensures line { IfOk result (λ text. text.items ≡ verdict_line cap.entries verdict) }
 {
     match verdict {
         Verdict::Yes { load } => number_line(alloc, b"yes ", load),
         Verdict::No { load } => number_line(alloc, b"no ", load),
-        Verdict::Full => number_line(alloc, b"full ", cap),
+        Verdict::Full => number_line(alloc, b"full ", cap.entries),
     }
 }
 

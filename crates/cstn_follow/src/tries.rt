@@ -1,7 +1,7 @@
 // What a check says of what would be left.
 ghost use Rattle.std.specs.Prelude.{◌≡◌, ◌≤◌, length, map, IfOk};
 ghost use Rattle.cstn_label.specs.Read.{marks};
-ghost use Rattle.cstn_net.specs.Limits.{most_constraints, most_load};
+ghost use Rattle.cstn_net.specs.Limits.{most_constraints};
 ghost use Rattle.cstn_net.specs.Read.{the_network};
 ghost use Rattle.cstn_lift.specs.Lowered.{lowered};
 ghost use Rattle.cstn_lift.specs.Read.{the_labelled};
@@ -11,14 +11,13 @@ ghost use Rattle.cstn_follow.specs.Tries.{said, with_base};
 use cstn_check::{Check, Verdict, growth_decides};
 use cstn_label::{Label, NodeId};
 use cstn_lift::{Labelled, LiftError, labelled_networks_have_no_fault, lift};
+use cstn_log::Cap;
 use cstn_net::{Network, network_is_well_formed};
 use std::alloc::{AllocError, Global};
 
 /// What a check says of a network, whose log may have `cap` entries; none where the log is full. Fails for want of memory alone.
-pub(crate) fn said(alloc: Global, net: Network, cap: u32) -> Result<Option<bool>, AllocError>
-    requires some { 1 ≤ cap }
-    requires most { cap ≤ most_load }
-    ensures said { IfOk result (λ o. o ≡ said cap (the_network net)) }
+pub(crate) fn said(alloc: Global, net: Network, cap: Cap) -> Result<Option<bool>, AllocError>
+    ensures said { IfOk result (λ o. o ≡ said cap.entries (the_network net)) }
 {
     growth_decides();
     network_is_well_formed(&net);

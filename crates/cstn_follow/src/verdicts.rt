@@ -1,7 +1,6 @@
 // The verdict on what is left.
 ghost use Rattle.std.specs.Prelude.{◌≡◌, ◌<◌, ◌≤◌, Some, IfOk, IfErr};
 ghost use Rattle.std.specs.List.{All};
-ghost use Rattle.cstn_net.specs.Limits.{most_load};
 ghost use Rattle.cstn_net.specs.Read.{the_network};
 ghost use Rattle.cstn_lift.specs.Lowered.{lowered};
 ghost use Rattle.cstn_lift.specs.Read.{the_labelled};
@@ -14,6 +13,7 @@ ghost use Rattle.cstn_follow.specs.Following.{verdict_left};
 use cstn_check::{Check, Verdict};
 use cstn_history::{History, RestError, rest};
 use cstn_lift::Labelled;
+use cstn_log::Cap;
 use std::alloc::{AllocError, Global};
 
 /// A check of what is left, which has its verdict. Refused where too many constraints are left.
@@ -22,15 +22,13 @@ pub fn check_left(
     network: &Labelled,
     history: &History,
     fresh: u32,
-    cap: u32,
+    cap: Cap,
 ) -> Result<Check, RestError>
-    requires some { 1 ≤ cap }
-    requires most { cap ≤ most_load }
     requires kept { IsKeptFor (the_labelled network.now) history.now }
     requires above { All (λ c. c.id < fresh) (the_labelled network.now).base.constraints }
     requires room { fresh ≤ 4294000000 }
     ensures network { IfOk result (λ c. the_network c.net ≡ lowered (rest (the_labelled network.now) (the_history history.now) fresh)) }
-    ensures verdict { IfOk result (λ c. c.verdict ≡ Some (verdict cap (lowered (rest (the_labelled network.now) (the_history history.now) fresh)))) }
+    ensures verdict { IfOk result (λ c. c.verdict ≡ Some (verdict cap.entries (lowered (rest (the_labelled network.now) (the_history history.now) fresh)))) }
     ensures few { IfOk result (λ _. HasRoom (rest (the_labelled network.now) (the_history history.now) fresh)) }
     ensures refused { IfErr result (IsRestRefusal (rest (the_labelled network.now) (the_history history.now) fresh)) }
 {
@@ -53,14 +51,12 @@ pub fn verdict_left(
     network: &Labelled,
     history: &History,
     fresh: u32,
-    cap: u32,
+    cap: Cap,
 ) -> Result<Option<Verdict>, AllocError>
-    requires some { 1 ≤ cap }
-    requires most { cap ≤ most_load }
     requires kept { IsKeptFor (the_labelled network.now) history.now }
     requires above { All (λ c. c.id < fresh) (the_labelled network.now).base.constraints }
     requires room { fresh ≤ 4294000000 }
-    ensures verdict { IfOk result (λ v. v ≡ verdict_left (the_labelled network.now) (the_history history.now) fresh cap) }
+    ensures verdict { IfOk result (λ v. v ≡ verdict_left (the_labelled network.now) (the_history history.now) fresh cap.entries) }
 {
     network.lowered();
     match check_left(alloc, network, history, fresh, cap) {

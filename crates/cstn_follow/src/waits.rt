@@ -1,7 +1,7 @@
 // Until when a time-point can wait.
 ghost use Rattle.std.specs.Prelude.{ℕ, ◌≡◌, ◌+◌, ◌++◌, ◌∷◌, [], ◌<◌, ◌≤◌, ◌&&◌, nat_lt, IsTrue, None, Some, length, IfOk, IfSome, IsOk, IsErrOf};
 ghost use Rattle.std.specs.List.{All};
-ghost use Rattle.cstn_net.specs.Limits.{most_constraints, most_deadline, most_load};
+ghost use Rattle.cstn_net.specs.Limits.{most_constraints, most_deadline};
 ghost use Rattle.cstn_net.specs.Networks.{IsWellFormed, count};
 ghost use Rattle.cstn_net.specs.Read.{the_network, the_constraint};
 ghost use Rattle.cstn_lift.specs.Lowered.{lowered};
@@ -18,6 +18,7 @@ use crate::tries::{said, with_base};
 use cstn_history::{History, RestError, numbers_left, rest};
 use cstn_label::{Label, NodeId};
 use cstn_lift::Labelled;
+use cstn_log::Cap;
 use cstn_net::{Constraint, MAX_CONSTRAINTS, Network};
 use std::alloc::{AllocError, Global};
 
@@ -33,10 +34,8 @@ pub fn by(
     history: &History,
     fresh: u32,
     x: NodeId,
-    cap: u32,
+    cap: Cap,
 ) -> Result<u32, WaitError>
-    requires some { 1 ≤ cap }
-    requires most { cap ≤ most_load }
     requires kept { IsKeptFor (the_labelled network.now) history.now }
     requires above { All (λ c. c.id < fresh) (the_labelled network.now).base.constraints }
     requires room { fresh ≤ 4294000000 }
@@ -46,13 +45,13 @@ pub fn by(
     requires can { Can (the_labelled network.now) (the_history history.now) }
     ensures waits { IfOk result (λ t. CanWait (the_labelled network.now) (the_history history.now) x.0 t) }
     ensures last { IfOk result (λ t. (u : ℕ) → CanWait (the_labelled network.now) (the_history history.now) x.0 u → u ≤ t) }
-    ensures until { IfOk result (λ t. waits_until (the_labelled network.now) (the_history history.now) fresh x.0 cap ≡ Some t) }
+    ensures until { IfOk result (λ t. waits_until (the_labelled network.now) (the_history history.now) fresh x.0 cap.entries ≡ Some t) }
 
     // Unless memory is refused, it is refused exactly where there are too many constraints, and else where a log is full.
     ensures few { IsOk result → HasRoomToWait (the_labelled network.now) (the_history history.now) fresh }
     ensures many { IsErrOf result WaitError.TooManyConstraints → HasRoomToWait (the_labelled network.now) (the_history history.now) fresh → ⊥ }
     ensures full { IsErrOf result WaitError.Full → HasRoomToWait (the_labelled network.now) (the_history history.now) fresh
-        × (waits_until (the_labelled network.now) (the_history history.now) fresh x.0 cap ≡ None) }
+        × (waits_until (the_labelled network.now) (the_history history.now) fresh x.0 cap.entries ≡ None) }
 {
     waiting_is_found();
     network.base();
@@ -147,14 +146,12 @@ fn halve(
     fresh: u32,
     number: u16,
     span: Span,
-    cap: u32,
+    cap: Cap,
 ) -> Result<Option<u32>, AllocError>
-    requires some { 1 ≤ cap }
-    requires most { cap ≤ most_load }
     requires range { span.high ≤ most_deadline }
     requires low { fresh ≤ 4294000000 }
     requires takes { TakesWaiting (the_labelled remaining.now) fresh number }
-    ensures { IfOk result (λ o. o ≡ halving (said_until (the_labelled remaining.now) fresh number cap) 20 span) }
+    ensures { IfOk result (λ o. o ≡ halving (said_until (the_labelled remaining.now) fresh number cap.entries) 20 span) }
 {
     let mut span = span;
     for _turn in 0..MAX_TRIES {
@@ -177,14 +174,12 @@ fn said_until(
     fresh: u32,
     number: u16,
     moment: u32,
-    cap: u32,
+    cap: Cap,
 ) -> Result<Option<bool>, AllocError>
-    requires some { 1 ≤ cap }
-    requires most { cap ≤ most_load }
     requires range { moment ≤ most_deadline }
     requires low { fresh ≤ 4294000000 }
     requires takes { TakesWaiting (the_labelled remaining.now) fresh number }
-    ensures { IfOk result (λ o. o ≡ said_until (the_labelled remaining.now) fresh number cap moment) }
+    ensures { IfOk result (λ o. o ≡ said_until (the_labelled remaining.now) fresh number cap.entries moment) }
 {
     waiting_is_found();
     let base = base_until(alloc, remaining.base(), fresh, number, moment)?;

@@ -27,14 +27,14 @@ loop-k-init c =
     record {
       ids = c.in_ok-ids.ensures ∙ ap (λ (n : NetworkParts). ids_of (the_network n)) c.base.ensures.base;
       stands = c.in_ok-left.ensures.stands;
-      reached = subst (λ (n : Network). Reaches m (the_history c.args.history.now) c.args.fresh c.args.cap n (ids_of m.base))
+      reached = subst (λ (n : Network). Reaches m (the_history c.args.history.now) c.args.fresh c.args.cap.entries n (ids_of m.base))
           (sym c.in_ok-left.ensures.base)
-          (reaches_start m (the_history c.args.history.now) c.args.fresh c.args.cap);
+          (reaches_start m (the_history c.args.history.now) c.args.fresh c.args.cap.entries);
     }
 
 pub narrowed-requires-clause-part : goal.narrowed-requires-clause-part
 narrowed-requires-clause-part c =
-    reaches_part (the_labelled c.args.network.now) (the_history c.args.history.now) c.args.fresh c.args.cap (the_network c.loop-k.left.base)
+    reaches_part (the_labelled c.args.network.now) (the_history c.args.history.now) c.args.fresh c.args.cap.entries (the_network c.loop-k.left.base)
     _ c.loop-k.invariant.reached
 
 pub returns-in_default : goal.returns-in_default
@@ -44,8 +44,8 @@ returns-in_default c =
     let ids = ids_of m.base in
     let same = ap length c.loop-k.invariant.ids in
     let inside : c.loop-k.k < length ids = omega arith in
-    sym (reaches_none m h c.args.fresh c.args.cap (the_network c.loop-k.left.base) c.index.result.now (drop (c.loop-k.k + 1) ids)
-    (next_tried m h c.args.fresh c.args.cap (the_network c.loop-k.left.base) ids c.loop-k.k c.index.result.now inside
+    sym (reaches_none m h c.args.fresh c.args.cap.entries (the_network c.loop-k.left.base) c.index.result.now (drop (c.loop-k.k + 1) ids)
+    (next_tried m h c.args.fresh c.args.cap.entries (the_network c.loop-k.left.base) ids c.loop-k.k c.index.result.now inside
     (c.index.ensures ∙ ap (λ l. get_or l c.loop-k.k c.index.result.now) c.loop-k.invariant.ids) c.loop-k.invariant.reached)
     (sym c.in_ok-less.ensures.narrowed ∙ ap (option_map (λ (l : Left). the_network l.base)) c.in_default.is))
 
@@ -59,11 +59,11 @@ loop-k-preserved c =
     record {
       ids = c.loop-k.invariant.ids;
       stands = subst (λ (o : Option Left). IfSome o (λ (l : Left).
-          IfSome l.needed (λ (v : Vec ℕ Global). StandsBy m h c.args.fresh c.args.cap (the_network l.base) v.items)))
+          IfSome l.needed (λ (v : Vec ℕ Global). StandsBy m h c.args.fresh c.args.cap.entries (the_network l.base) v.items)))
           c.in-Some.is c.in_ok-less.ensures.stands;
-      reached = reaches_next m h c.args.fresh c.args.cap (the_network c.loop-k.left.base) (the_network c.in-Some.less.base)
+      reached = reaches_next m h c.args.fresh c.args.cap.entries (the_network c.loop-k.left.base) (the_network c.in-Some.less.base)
           c.index.result.now (drop (c.loop-k.k + 1) ids)
-          (next_tried m h c.args.fresh c.args.cap (the_network c.loop-k.left.base) ids c.loop-k.k c.index.result.now inside
+          (next_tried m h c.args.fresh c.args.cap.entries (the_network c.loop-k.left.base) ids c.loop-k.k c.index.result.now inside
           (c.index.ensures ∙ ap (λ l. get_or l c.loop-k.k c.index.result.now) c.loop-k.invariant.ids) c.loop-k.invariant.reached)
           (sym c.in_ok-less.ensures.narrowed ∙ ap (option_map (λ (l : Left). the_network l.base)) c.in-Some.is);
     }
@@ -76,5 +76,5 @@ returns c =
     let same = ap length c.loop-k.invariant.ids in
     let past : length ids ≤ c.loop-k.k = omega arith in
     ap (λ l. Some l) c.in_ok-ids-2.ensures
-    ∙ sym (reaches_end m h c.args.fresh c.args.cap (the_network c.loop-k.left.base)
-    (subst (Reaches m h c.args.fresh c.args.cap (the_network c.loop-k.left.base)) (drop_all c.loop-k.k ids past) c.loop-k.invariant.reached))
+    ∙ sym (reaches_end m h c.args.fresh c.args.cap.entries (the_network c.loop-k.left.base)
+    (subst (Reaches m h c.args.fresh c.args.cap.entries (the_network c.loop-k.left.base)) (drop_all c.loop-k.k ids past) c.loop-k.invariant.reached))

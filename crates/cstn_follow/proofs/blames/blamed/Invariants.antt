@@ -11,6 +11,6 @@ use Rattle.cstn_follow.proofs.blames.blamed.Given as goal
 abbrev pub invariant-loop-k : goal.invariant-loop-k
 invariant-loop-k l = record {
   ids : l.ids.items ≡ ids_of (the_labelled l.network).base;
-  reached : Reaches (the_labelled l.network) (the_history l.history) l.fresh l.cap (the_network l.left.base) (drop l.k (ids_of (the_labelled l.network).base));
-  stands : IfSome l.left.needed (λ v. StandsBy (the_labelled l.network) (the_history l.history) l.fresh l.cap (the_network l.left.base) v.items);
+  reached : Reaches (the_labelled l.network) (the_history l.history) l.fresh l.cap.entries (the_network l.left.base) (drop l.k (ids_of (the_labelled l.network).base));
+  stands : IfSome l.left.needed (λ v. StandsBy (the_labelled l.network) (the_history l.history) l.fresh l.cap.entries (the_network l.left.base) v.items);
 }

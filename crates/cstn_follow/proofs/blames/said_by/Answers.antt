@@ -59,17 +59,11 @@ unreachable-requires c =
     (c.parts_are_labelled.ensures.room m c.requires.part.0 h c.args.fresh c.base.ensures.labelled c.requires.tries.room) in
     not_too_many left c.in-Err-TooManyConstraints.field-0 room c.in-Err-TooManyConstraints.ensures.refused c.in-Err-TooManyConstraints.field-0-is
 
-pub said_of-requires-clause-some : goal.said_of-requires-clause-some
-said_of-requires-clause-some c = c.requires.tries.some
-
-pub said_of-requires-clause-most : goal.said_of-requires-clause-most
-said_of-requires-clause-most c = c.requires.tries.most
-
 pub returns-clause-said : goal.returns-clause-said
 returns-clause-said c =
     let h = the_history c.args.history.now in
     c.in_ok-said.ensures.said
-    ∙ ap (said c.args.cap)
+    ∙ ap (said c.args.cap.entries)
     (c.split-net.ensures.lowered ∙ ap lowered (c.in-Ok.ensures.rest ∙ ap (λ (l : Labelled). rest l h c.args.fresh) c.in_ok-less.ensures.base))
 
 pub returns-clause-stands : goal.returns-clause-stands
@@ -78,5 +72,5 @@ returns-clause-stands c =
     let h = the_history c.args.history.now in
     let left = c.in-Ok.ensures.rest ∙ ap (λ (l : Labelled). rest l h c.args.fresh) c.in_ok-less.ensures.base in
     let same : c.deref.result.now ≡ c.in_ok-sources.sources.items = cc in
-    stands_by m h c.args.fresh c.args.cap (the_network c.args.base) (the_network c.split-net.result.0) c.deref.result.now c.in_ok-said.said c.requires.part
+    stands_by m h c.args.fresh c.args.cap.entries (the_network c.args.base) (the_network c.split-net.result.0) c.deref.result.now c.in_ok-said.said c.requires.part
     (c.split-net.ensures.lowered ∙ ap lowered left) (same ∙ c.in_ok-sources.ensures ∙ ap sources left) c.in_ok-said.ensures.needed

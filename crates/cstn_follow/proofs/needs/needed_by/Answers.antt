@@ -13,7 +13,7 @@ returns-then-is_never_full c = record {
     list = the_steps c.in_ok-refutation.refutation;
     decides = (
       c.in_ok-refutation.ensures.refutes,
-      subst (λ (n : NetworkParts). most_entries (the_network n) ≤ c.args.cap) c.network.ensures.network (c.is_never_full.ensures.within c.if-is_never_full.true),
+      subst (λ (n : NetworkParts). most_entries (the_network n) ≤ c.args.cap.entries) c.network.ensures.network (c.is_never_full.ensures.within c.if-is_never_full.true),
     );
     idle = λ k inside none. search rules;
   };

@@ -13,7 +13,7 @@ returns-clause-said c =
     let told = (c.run.ensures.exactly_no c.in-No.load).0 c.in-No.is in
     let of_net = subst (λ (k : CheckParts). (load_of (the_network k.net) ≤ k.cap) × (IsConsistent (the_network k.net) → ⊥))
     c.in_ok-check.ensures.start (told.1, told.2) in
-    sym (said_no c.args.cap (the_network c.args.net) c.network_is_well_formed.ensures of_net.0 of_net.1)
+    sym (said_no c.args.cap.entries (the_network c.args.net) c.network_is_well_formed.ensures of_net.0 of_net.1)
 
 pub returns-clause-needed : goal.returns-clause-needed
 returns-clause-needed c =
@@ -21,8 +21,8 @@ returns-clause-needed c =
     let told = (c.run.ensures.exactly_no c.in-No.load).0 c.in-No.is in
     let of_net = subst (λ (k : CheckParts). (load_of (the_network k.net) ≤ k.cap) × (IsConsistent (the_network k.net) → ⊥))
     c.in_ok-check.ensures.start (told.1, told.2) in
-    let refuted = said_is c.args.cap net false (said_no c.args.cap net c.network_is_well_formed.ensures of_net.0 of_net.1) in
+    let refuted = said_is c.args.cap.entries net false (said_no c.args.cap.entries net c.network_is_well_formed.ensures of_net.0 of_net.1) in
     let checked = ap (λ (k : CheckParts). k.net) c.run.ensures.answered ∙ ap (λ (k : CheckParts). k.net) c.in_ok-check.ensures.start in
     let needed = c.in_ok-needed-in-No.needed.items in
-    settled c.args.cap net c.args.sources.now needed c.network_is_well_formed.ensures refuted of_net.0
-    (subst (λ (n : NetworkParts). IsNeeded c.args.cap (the_network n) c.args.sources.now needed) checked c.in_ok-needed-in-No.ensures.needed)
+    settled c.args.cap.entries net c.args.sources.now needed c.network_is_well_formed.ensures refuted of_net.0
+    (subst (λ (n : NetworkParts). IsNeeded c.args.cap.entries (the_network n) c.args.sources.now needed) checked c.in_ok-needed-in-No.ensures.needed)

@@ -24,4 +24,4 @@ returns-clause-verdict c =
     ap (λ (s : CheckParts). s.verdict) c.run.ensures.answered
     ∙ ap (λ (v : Verdict). Some v) (said
     ∙ ap (λ (s : CheckParts). verdict s.cap (the_network s.net)) start
-    ∙ ap (λ (net : Network). verdict c.args.cap net) (c.split-net.ensures.lowered ∙ ap (λ (m : Labelled). lowered m) c.in-Ok.ensures.rest))
+    ∙ ap (λ (net : Network). verdict c.args.cap.entries net) (c.split-net.ensures.lowered ∙ ap (λ (m : Labelled). lowered m) c.in-Ok.ensures.rest))

@@ -16,6 +16,6 @@ returns-in-Ok c =
     let h = the_history c.args.history.now in
     let few = subst (λ (net : Network). length net.constraints ≤ most_constraints) c.lowered.ensures.lowered c.lowered.ensures.well_formed.few_constraints in
     record {
-      verdict = ap (λ (v : Verdict). Some v) (c.run.ensures.again (verdict c.args.cap (lowered (rest m h c.args.fresh))) c.in-Ok.ensures.verdict).0
-          ∙ sym (left_fits m h c.args.fresh c.args.cap few c.in-Ok.ensures.few);
+      verdict = ap (λ (v : Verdict). Some v) (c.run.ensures.again (verdict c.args.cap.entries (lowered (rest m h c.args.fresh))) c.in-Ok.ensures.verdict).0
+          ∙ sym (left_fits m h c.args.fresh c.args.cap.entries few c.in-Ok.ensures.few);
     }

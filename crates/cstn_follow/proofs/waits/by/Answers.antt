@@ -70,10 +70,10 @@ returns-in-Ok-Some c =
     let number_is : d ≡ number_of m h x = c.index-2.ensures ∙ ap (λ (i : ℕ). slice_index_or c.in-Ok-numbers_left.numbers.items i d) c.index.ensures.index
     ∙ number_at m h c.in-Ok-numbers_left.numbers.items c.in-Ok-numbers_left.ensures.numbers x d c.requires.inside in
     let last = c.deadline.ensures.deadline ∙ ap (λ (b : NetworkParts). b.deadline) c.base-2.ensures.base in
-    let found = search_is m h fresh x c.args.cap d c.now.result c.deadline.result n rest_is number_is c.now.ensures.now last in
+    let found = search_is m h fresh x c.args.cap.entries d c.now.result c.deadline.result n rest_is number_is c.now.ensures.now last in
     let until = sym (c.in-Ok-Some.ensures ∙ found) ∙ c.in-Ok-Some.field-0-is in
     let timely : IsTimelyHistory m h = record { history = c.requires.kept.history; in_time = c.requires.kept.in_time } in
-    let is = c.waiting_is_found.ensures.found m h fresh x c.args.cap c.in-Ok-Some.moment c.base.ensures.labelled timely c.requires.above room c.requires.inside
+    let is = c.waiting_is_found.ensures.found m h fresh x c.args.cap.entries c.in-Ok-Some.moment c.base.ensures.labelled timely c.requires.above room c.requires.inside
     c.requires.coming c.requires.left c.requires.can until in
     record { waits = is.0; last = is.1; until = until; few = λ ok. room; many = search rules; full = search rules }
 
@@ -92,5 +92,5 @@ returns-in-Ok-None-clause-full c is =
     let number_is : d ≡ number_of m h x = c.index-2.ensures ∙ ap (λ (i : ℕ). slice_index_or c.in-Ok-numbers_left.numbers.items i d) c.index.ensures.index
     ∙ number_at m h c.in-Ok-numbers_left.numbers.items c.in-Ok-numbers_left.ensures.numbers x d c.requires.inside in
     let last = c.deadline.ensures.deadline ∙ ap (λ (b : NetworkParts). b.deadline) c.base-2.ensures.base in
-    let found = search_is m h fresh x c.args.cap d c.now.result c.deadline.result n rest_is number_is c.now.ensures.now last in
+    let found = search_is m h fresh x c.args.cap.entries d c.now.result c.deadline.result n rest_is number_is c.now.ensures.now last in
     (room, sym (c.in-Ok-None.ensures ∙ found) ∙ c.in-Ok-None.field-0-is)

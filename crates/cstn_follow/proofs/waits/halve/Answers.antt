@@ -6,14 +6,14 @@ use Rattle.cstn_follow.proofs.waits.halve.Goals as goal
 
 pub returns-then-span : goal.returns-then-span
 returns-then-span c =
-    let test = said_until (the_labelled c.args.remaining.now) c.args.fresh c.args.number c.args.cap in
+    let test = said_until (the_labelled c.args.remaining.now) c.args.fresh c.args.number c.args.cap.entries in
     let s = c.loop-turn.span in
     let stop = c.if-span.true in
     sym (halving_stops test c.loop-turn._turn s (halving test 20 c.args.span) c.loop-turn.invariant.left (omega arith))
 
 pub returns-in_default : goal.returns-in_default
 returns-in_default c =
-    let test = said_until (the_labelled c.args.remaining.now) c.args.fresh c.args.number c.args.cap in
+    let test = said_until (the_labelled c.args.remaining.now) c.args.fresh c.args.number c.args.cap.entries in
     let s = c.loop-turn.span in
     let stop = c.if-span.false in
     let turn = c.loop-turn-test.true in
@@ -23,7 +23,7 @@ returns-in_default c =
 
 pub loop-turn-preserved : goal.loop-turn-preserved
 loop-turn-preserved c =
-    let test = said_until (the_labelled c.args.remaining.now) c.args.fresh c.args.number c.args.cap in
+    let test = said_until (the_labelled c.args.remaining.now) c.args.fresh c.args.number c.args.cap.entries in
     let s = c.loop-turn.span in
     let stop = c.if-span.false in
     let turn = c.loop-turn-test.true in
@@ -36,6 +36,6 @@ loop-turn-preserved c =
 
 pub returns : goal.returns
 returns c =
-    let test = said_until (the_labelled c.args.remaining.now) c.args.fresh c.args.number c.args.cap in
+    let test = said_until (the_labelled c.args.remaining.now) c.args.fresh c.args.number c.args.cap.entries in
     let stop = c.loop-turn-test.false in
     sym (halving_ends test c.loop-turn._turn c.loop-turn.span (halving test 20 c.args.span) c.loop-turn.invariant.left (omega arith))

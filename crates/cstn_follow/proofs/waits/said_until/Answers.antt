@@ -37,5 +37,5 @@ returns c =
     let one = waiting_one c.args.fresh c.args.number c.args.moment in
     let is : the_network c.in_ok-base.base ≡ (with_constraint m one).base = c.in_ok-base.ensures.base
     ∙ ap (λ (n : NetworkParts). record (the_network n) { constraints = (the_network n).constraints ++ one ∷ [] }) c.base.ensures.base in
-    subst (λ (n : Network). IfOk c.said.result (λ o. o ≡ said c.args.cap n))
+    subst (λ (n : Network). IfOk c.said.result (λ o. o ≡ said c.args.cap.entries n))
     (c.split-net.ensures.lowered ∙ ap lowered (c.in_ok-waiting.ensures.base ∙ ap (with_base m) is)) c.said.ensures.said

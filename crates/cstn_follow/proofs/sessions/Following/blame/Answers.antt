@@ -18,7 +18,7 @@ use Rattle.cstn_follow.proofs.sessions.Following.blame.Goals as goal
 pub blame-requires-clause-room : goal.blame-requires-clause-room
 blame-requires-clause-room c =
     let w = c.self.inside in
-    (left_says (the_labelled w.network) (the_history w.history) w.fresh w.cap w.verdict c.self.invariant.verdict).0
+    (left_says (the_labelled w.network) (the_history w.history) w.fresh w.cap.entries w.verdict c.self.invariant.verdict).0
 
 pub blame-requires-clause-cannot : goal.blame-requires-clause-cannot
 blame-requires-clause-cannot c =
@@ -28,7 +28,7 @@ blame-requires-clause-cannot c =
     let timely : IsTimelyHistory (the_labelled w.network) (the_history w.history) = record { history = good.kept.history; in_time = good.kept.in_time } in
     let said : w.verdict ≡ No c.in-No.load = within_is (the_following f) w.verdict good.verdict
     ∙ ap (λ (v : FollowingParts). verdict_now (the_following v)) c.self.view_is ∙ sym c.in-No.ensures.verdict in
-    no_cannot (the_labelled w.network) (the_history w.history) w.fresh w.cap c.in-No.load good.labelled timely good.above (good.verdict ∙ ap (λ v. Some v) said)
+    no_cannot (the_labelled w.network) (the_history w.history) w.fresh w.cap.entries c.in-No.load good.labelled timely good.above (good.verdict ∙ ap (λ v. Some v) said)
 
 pub returns-in-Ok : goal.returns-in-Ok
 returns-in-Ok c =

@@ -23,7 +23,7 @@ by-requires-clause-can c =
     let timely : IsTimelyHistory (the_labelled w.network) (the_history w.history) = record { history = good.kept.history; in_time = good.kept.in_time } in
     let said : w.verdict ≡ Yes c.in-Yes.load = within_is (the_following f) w.verdict good.verdict
     ∙ ap (λ (v : FollowingParts). verdict_now (the_following v)) c.self.view_is ∙ sym c.in-Yes.ensures.verdict in
-    yes_can (the_labelled w.network) (the_history w.history) w.fresh w.cap c.in-Yes.load good.labelled timely good.above (good.verdict ∙ ap (λ v. Some v) said)
+    yes_can (the_labelled w.network) (the_history w.history) w.fresh w.cap.entries c.in-Yes.load good.labelled timely good.above (good.verdict ∙ ap (λ v. Some v) said)
 
 pub unreachable-requires : goal.unreachable-requires
 unreachable-requires c =

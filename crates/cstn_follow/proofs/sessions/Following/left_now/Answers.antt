@@ -10,5 +10,5 @@ unreachable-requires c =
     let w = c.self.inside in
     let m = the_labelled w.network in
     let h = the_history w.history in
-    let room = (left_says m h w.fresh w.cap w.verdict c.self.invariant.verdict).0 in
+    let room = (left_says m h w.fresh w.cap.entries w.verdict c.self.invariant.verdict).0 in
     not_too_many (rest m h w.fresh) c.in-Err-TooManyConstraints.field-0 room c.in-Err-TooManyConstraints.ensures.refused c.in-Err-TooManyConstraints.field-0-is

@@ -20,7 +20,7 @@ next-requires-clause-planned c =
     let w = c.self.inside in
     let good = c.self.invariant in (
       w.fresh,
-      left_labelled (the_labelled w.network) (the_history w.history) w.fresh w.cap w.verdict good.verdict good.labelled
+      left_labelled (the_labelled w.network) (the_history w.history) w.fresh w.cap.entries w.verdict good.verdict good.labelled
           (record { history = good.kept.history; in_time = good.kept.in_time }) good.above,
       ap the_network c.into_plan-plan.ensures.network ∙ c.in_ok-check.ensures.network
           ∙ ap (λ (v : FollowingParts). lowered (left_now (the_following v))) (sym c.self.view_is),

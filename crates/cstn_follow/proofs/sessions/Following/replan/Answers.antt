@@ -26,7 +26,7 @@ returns-in_default-clause-says c =
     (λ text is. subst (λ (v : FollowingParts). becomes (the_following v) net.deadline cs c.args.edits c.args.fresh c.args.text.items
     ≡ says text.items (the_following v)) c.self.view_is
     (becomes_none f net.deadline c.args.edits c.args.fresh cs c.args.text.items text.items
-    (left_many (edited (the_labelled w.network) net.deadline cs) (the_history w.history) c.args.fresh w.cap (inl many)) is)) c.too_many.ensures.line
+    (left_many (edited (the_labelled w.network) net.deadline cs) (the_history w.history) c.args.fresh w.cap.entries (inl many)) is)) c.too_many.ensures.line
 
 pub verdict_left-requires-clause-kept : goal.verdict_left-requires-clause-kept
 verdict_left-requires-clause-kept c =
@@ -51,7 +51,7 @@ returns-in_default-left-clause-says c =
     let net = c.args.base in
     let cs = (the_network net).constraints in
     let is = rw c.in-Some.is at c.in_ok-network.ensures.edited in
-    let none = ap (λ (n : Labelled). verdict_left n (the_history w.history) c.args.fresh w.cap) (sym is)
+    let none = ap (λ (n : Labelled). verdict_left n (the_history w.history) c.args.fresh w.cap.entries) (sym is)
     ∙ sym c.in_ok-left.ensures.verdict ∙ c.in_default-left.is in
     IfOk-weaker c.too_many-in_default-left.result (λ text. text.items ≡ too_many) _
     (λ text is. subst (λ (v : FollowingParts). becomes (the_following v) net.deadline cs c.args.edits c.args.fresh c.args.text.items
@@ -72,8 +72,6 @@ invariant_of-self c =
       kept = subst (λ (n : Labelled). IsKeptFor n w.history) (sym is)
           (kept_edited m w.history net.deadline cs old.kept
           (c.edits_keep_histories.ensures.history m (the_history w.history) net.deadline cs old.kept.history old.kept.in_time));
-      some = old.some;
-      most = old.most;
       few_edits = c.requires.few;
       above = subst (λ (n : Labelled). All (λ d. d.id < c.args.fresh) n.base.constraints) (sym is) c.requires.above;
       low = c.requires.low;

@@ -20,8 +20,8 @@ unreachable-requires c =
     let m = the_labelled c.args.network in
     let fresh = c.id_above-fresh.result in
     let few = subst (λ (net : Network). length net.constraints ≤ most_constraints) c.lowered.ensures.lowered c.lowered.ensures.well_formed.few_constraints in
-    starts m fresh c.args.cap c.base.ensures.labelled few
-    (ap (λ (h : History). verdict_left m h fresh c.args.cap) (sym c.in_ok-history.ensures.nothing) ∙ sym c.in_ok-left.ensures.verdict ∙ c.in_default.is)
+    starts m fresh c.args.cap.entries c.base.ensures.labelled few
+    (ap (λ (h : History). verdict_left m h fresh c.args.cap.entries) (sym c.in_ok-history.ensures.nothing) ∙ sym c.in_ok-left.ensures.verdict ∙ c.in_default.is)
 
 pub invariant_of-result : goal.invariant_of-result
 invariant_of-result c =
@@ -32,8 +32,6 @@ invariant_of-result c =
       labelled = c.base.ensures.labelled;
       named = c.requires.named;
       kept = c.in_ok-history.ensures.kept;
-      some = c.requires.some;
-      most = c.requires.most;
       few_edits = omega arith;
       above = subst (λ (n : ℕ). All (λ d. d.id < n) cs) (sym is) (above_all cs);
       low = omega (arith, small);
