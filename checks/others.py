@@ -1,17 +1,19 @@
 """What the scripts do with documents of others: they end soon, command no screen, and judge as the program does.
 
-checks/scripts calls these tables. Each call of a script has a time limit of its own.
+checks/scripts calls these tables. Each call of a script, with all that it calls, has some seconds of a processor.
 """
 import json
 import os
 import random
 import re
+import resource
 import subprocess
 import sys
 import threading
 import time
 
-from runs import BAD, DOCUMENT, GOOD, LETTERS, PROGRAM, READ_FAULT, SCRIPT, TOP, TWO_POINTS, WORDS, check, compact, run
+from runs import (BAD, DOCUMENT, GOOD, LETTERS, PROGRAM, READ_FAULT, SCRIPT, SECONDS, TOP, TWO_POINTS, WORDS, check,
+                  compact, run)
 
 SOON = 5
 EXPLAIN, REPLAY = (os.path.join(TOP, "tools", it) for it in ("explain", "replay"))
@@ -21,12 +23,18 @@ OBEYED = re.compile("[\x00-\x09\x0b-\x1f\x7f-\x9f\u061c\u200e\u200f\u2028-\u202e
 def called(tool, *words, live=b"", **more):
     """How a script ends, what it writes and what it says on standard error; where it takes too long, that alone."""
     live = live if isinstance(live, bytes) else live.encode()
-    env = {**os.environ, "CSTN": PROGRAM, **more}
+    env, before = {**os.environ, "CSTN": PROGRAM, **more}, spent()
     try:
-        done = subprocess.run([tool, *words], input=live, capture_output=True, timeout=SOON, env=env, check=False)
+        done = subprocess.run([tool, *words], input=live, capture_output=True, timeout=SECONDS, env=env, check=False)
     except subprocess.TimeoutExpired:
         return "late", "", ""
-    return done.returncode, done.stdout.decode(), done.stderr.decode()
+    return done.returncode if spent() - before < SOON else "late", done.stdout.decode(), done.stderr.decode()
+
+
+def spent():
+    """The seconds of a processor that the calls so far took, with all that they called."""
+    used = resource.getrusage(resource.RUSAGE_CHILDREN)
+    return used.ru_utime + used.ru_stime
 
 
 def explained(*words, **more):
@@ -54,7 +62,7 @@ def document(*parts, head="", deadline=1000):
 def tests_in_a_row(count):
     """Steps that each observe a letter by which the limit to the next one differs."""
     names = [f"T{at}" for at in range(count)] + ["End"]
-    parts = [node(name, letter) for name, letter in zip(names, LETTERS[:count])] + [node("End"), edge("Z", "T0", (5, ""))]
+    parts = [*map(node, names, LETTERS[:count]), node("End"), edge("Z", "T0", (5, ""))]
     for first, then, letter in zip(names, names[1:], LETTERS):
         parts.append(edge(then, first, (-2, "")) + edge(first, then, (10, letter), (20, f"!{letter}")))
     return document(*parts)
@@ -116,7 +124,7 @@ def dear(folder):
         ("references", document(node("X", label="&#32;" * 18000)), GOOD, "The deadline is 1000. 2 time-points"),
     ):
         path = folder.put("dear", text)
-        for form in ((), ("--json",)):
+        for form in ((), ("--json",)) if status == GOOD and len(text) > 20000 else ((),):
             found = explained(path, *form)
             check(f"dear: {name} {form}", (found[0], form != () or says in found[1]), (status, True))
     dear_forms(folder)
@@ -149,8 +157,7 @@ def dear_forms(folder):
 # Characters that a screen obeys.
 
 
-NAMES = ("a\x1b[9A\x1b[J", "a\nFive at 5", "a\rb", "\u009b2J", "a\u202eb", "a\u2028b", "a\u2066b\u200f", "a\x7f b%",
-         "a\tb", "ä ö")
+NAMES = ("a\x1b[9A\x1b[J\u009b2J\x7f", "a\nFive at 5\rb\t%\u0085ä", "\u202ea\u2028b\u2066\u200f\u061c ö")
 
 
 def in_document(name):
@@ -171,13 +178,14 @@ def hidden(folder):
         labelled = f'{nodes}<node id="X{text}"><data key="Label">p</data></node>{edges}</graph></graphml>'
         hidden_in_a_plan(folder.put("f", labelled), name)
         for kind, more in (("a node", f'<node id="{text}"/>'), ("an edge", edge(f"A{text}", "Z", (1, ""))),
-                           ("a tag", f"<node {name}>"), ("a text", name), ("a raw name", f'<node id="{name}" /><x y=>'),
+                           ("a tag", f"<node {name}>"), ("a text", name),
+                           ("a raw name", f'<node id="{name}" /><x y=>'),
                            ("a label", edge(text, "Z", (1, f"p{text}")))):
             found = explained(folder.put("g", f"{nodes}{more}</graph></graphml>"))
             check(f"a refused document on a screen: {kind} {name!r}", (found[0], obeyed(*found[1:])), (DOCUMENT, []))
     wiped = document('<node id="a&#27;[9A&#27;[J"/><node id="b"><data key="Obz">p</data></node>')
-    check("a key behind a name that commands", "the key Obz in node is passed over; did you mean Obs?" in explained(
-        folder.put("f", wiped))[1], True)
+    told = explained(folder.put("f", wiped))[1]
+    check("a key behind a name that commands", "data with the key Obz in node is passed over" in told, True)
 
 
 def hidden_in_a_plan(plan, name):
@@ -215,7 +223,8 @@ LATE = "no 3\n0 base Z 0 -\n1 chain 0 0 X 5 -\n"
 
 # Numbers in a refutation, each with what is none, and lines that are no step.
 NUMBERS = (("X 5", "X 0_5"), ("X 5", "X +5"), ("X 5", "X 05"), ("X 5", "X ５"), ("X 5", "X 1000002"),
-           ("0 0 X", "-1 0 X"), ("0 0 X", "0 -2 X"), ("0 0 X", "0_0 0 X"), ("0 0 X", "4294967296 0 X"), ("no 3", "no +3"), ("no 3", "no 0"),
+           ("0 0 X", "-1 0 X"), ("0 0 X", "0 -2 X"), ("0 0 X", "0_0 0 X"), ("0 0 X", "4294967296 0 X"),
+           ("no 3", "no +3"), ("no 3", "no 0"),
            ("no 3", "no 4194305"), ("1 chain", "+1 chain"))
 LINES = ("", " ", "1", "1 chain", "1 chain 0", "1 chain 0 0 X", "1 chain 0 0 X 5 - -", "1 wait 0 X 5 -", "1 base X",
          "1 bass X 0 -", "1 chain 0 0 Y 5 -", "1 chain 0 0 X 5 pp", "1 chain 0 0 X 5 ¬p", "1  chain 0 0 X 5 -",
@@ -307,7 +316,8 @@ def odd_files(folder):
         check(f"a number of 5000 digits: {name}", (found[0], "Traceback" in found[2]), (BAD, False))
     late = run(["check", visit, "--deadline", "9"])[1].replace(b"\n", b"\r\n")
     found = explained(visit, folder.put("p", late), "--deadline", "9", "--only")
-    check("CR and LF in PROOF", (found[0], found[1].startswith("PROOF has lines that end with CR and LF")), (BAD, True))
+    said = "PROOF has lines that end with CR and LF"
+    check("CR and LF in PROOF", (found[0], found[1].partition(",")[0]), (BAD, said))
     path = folder.put("f", text.replace(b"</edge>", b"</edge><!-- 0: for the label of Visit; do not -->"))
     check("a comment as in a plain copy", "for a label of the document" in explained(path)[1], False)
 
@@ -325,7 +335,7 @@ def drawn(folder):
 
 
 def drawn_case(draw, folder):
-    """A small plan, mostly one that cannot be carried out, with its refutation; each perhaps a byte or two otherwise."""
+    """A small plan, mostly one that cannot be carried out, and its refutation; each perhaps a byte or two changed."""
     names, letters = ["Z", *(f"N{at}" for at in range(draw.randint(1, 4)))], LETTERS[: draw.randint(0, 3)]
     labels = ["", *(sign + it for it in letters for sign in ("", "!")), "".join(letters)]
     nodes = [f"{name}:{letter}:{draw.choice(('', '2', '3'))}:{draw.choice(labels + [''] * 5)}" if name != "Z" else "Z"

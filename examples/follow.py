@@ -3,9 +3,9 @@
 
     examples/follow.py PROGRAM          PROGRAM is what `./cstn --program` writes
 
-What happens is told line by line. Each fact and edit that is accepted is put into the journal before anything rests on
-it: said again, the journal brings the session back, also with a larger cap. Its first line says to what it belongs, and
-is not told.
+What happens is told line by line. Each fact and edit that is accepted is put into the journal before anything rests
+on it: said again, the journal brings the session back, also with a larger cap. Its first line says to what it belongs,
+and is not told.
 """
 import contextlib
 import fcntl
@@ -72,7 +72,7 @@ class Followed:
         raise Gone(f"{reason}, status {self.child.returncode}")
 
     def ask(self, line):
-        """The answer to a line: of `check` after a no, and of `rest`, all of its lines. An edit alone has no verdict."""
+        """The answer to a line: of `check` after a no, and of `rest`, all its lines. An edit alone has no verdict."""
         [line] = line.split("\n")  # A ValueError where it is more than one line.
         with contextlib.suppress(BrokenPipeError):
             os.write(self.child.stdin.fileno(), f"{line}\n".encode())
@@ -82,8 +82,8 @@ class Followed:
         return "\n".join(answer)
 
     def keep(self, line):
-        """Puts a line into the journal. Where that fails the journal is as before, and the program, which knows more, is
-        ended."""
+        """Puts a line into the journal. Where that fails the journal is as before, and the program, which knows more,
+        is ended."""
         data, before = line.encode() + b"\n", os.fstat(self.journal.fileno()).st_size
         try:
             if self.journal.write(data) != len(data):

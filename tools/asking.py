@@ -23,7 +23,7 @@ GREATEST_CAP = 65536
 MOST_TRIED = 50000
 
 # A second of checks at worst: their number times the bounds that each derives, times the constraints that end at one
-# time-point; or times the pairs of bounds that are looked at for each, which are no more than labels of the letters can be.
+# time-point; or times the pairs of bounds that are looked at for each, which are no more than its letters have labels.
 CHAINS, PAIRS = 10**7, 4 * 10**11
 
 

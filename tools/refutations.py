@@ -46,6 +46,8 @@ def turns(steps):
         shapes.append((parts[1], parts[2] if parts[1] == "chain" else "", parts[-3], parts[-1], *back))
     found = [0] * len(steps)
     for length in range(1, LONGEST_TURN + 1):
+        if 0 not in found[3 * length :]:
+            break
         run, first = 0, 0
         for at in range(length, len(steps)):
             run = run + 1 if shapes[at] == shapes[at - length] else 0

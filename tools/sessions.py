@@ -9,7 +9,7 @@ from networks import Network, ticks
 from refutations import Refutation, accepted_no
 from tries import CHECKS_OF_A_LIMIT, MOST_LIMITS, awaiting, giving_way
 
-MOST_STUCK = 12
+MOST_TOLD = 12
 NO_REST = ("The steps after `{}` are of what was left then. Ask `rest` right after that `check`, before anything else "
            "is told, and give the session with what it writes; or keep that document, from `<?xml` on, in a file "
            "REST, these steps from `{}` on in a file STEPS, and call tools/explain REST STEPS.")
@@ -85,17 +85,22 @@ def documents_by_line(text):
 
 
 class HowFar:
-    """By how much what is to blame was missed, as long as that is not much for the whole session."""
+    """By how much what is to blame was missed, of the last answers, as long as that is not much for all of them."""
 
     def __init__(self, asked, text):
-        self.asked, self.rows, self.spent = asked, text.split("\n"), 0
-        self.documents = documents_by_line(text)
+        self.asked, self.spent, self.documents = asked, 0, documents_by_line(text)
+        self.early = len(re.findall(r"^blame \d", text, re.M)) - MOST_TOLD
 
     def tell(self, heard, numbers, at):
         """By the typed lines, or else by what `rest` wrote right behind the answer on this line, as data and words."""
         rest = None if heard.typed else self.documents.get(at + 1)
-        if not numbers or not heard.typed and not rest:
+        if not numbers:
             return {}, []
+        self.early -= 1
+        if not heard.typed and not rest:
+            return {}, []
+        if self.early >= 0:
+            return {}, [f"By how much is told of the last {MOST_TOLD} answers of `blame` alone."]
         checks = CHECKS_OF_A_LIMIT * min(len(numbers), MOST_LIMITS) + len(heard.journal)
         self.spent += checks * len(self.asked.net.constraints)
         if self.spent > MOST_TRIED:
@@ -114,10 +119,10 @@ def tell_session(asked, text):
     status, data, lines = tell_followed(asked.net, text, HowFar(asked, text).tell)
     if not status:
         all_stuck = list(stuck(text))
-        found = [tell_stuck(asked.net, *it) for it in all_stuck[-MOST_STUCK:]]
+        found = [tell_stuck(asked.net, *it) for it in all_stuck[-MOST_TOLD:]]
         data["steps"] = [it for it, _ in found]
-        if len(all_stuck) > MOST_STUCK:
-            lines.append(f"Of {len(all_stuck)} refutations the last {MOST_STUCK} are told.")
+        if len(all_stuck) > MOST_TOLD:
+            lines.append(f"Of {len(all_stuck)} refutations the last {MOST_TOLD} are told.")
         lines = sum((more for _, more in found), lines) or [NO_ANSWER]
     if not begun and asked.is_canonical() and re.search(r"^blame \d", text, re.M):
         lines.append(MAY_BE_REST)
