@@ -156,14 +156,17 @@ def plain_examples():
                 yield name, path
 
 
-def count(tables, needs_program=True):
-    """Gives each table a folder of its own, tells its seconds, and says last how many cases passed."""
+def count(tables, needs_program=True, named=()):
+    """Gives each table, or each named one, a folder of its own, tells its seconds, and says last how many cases passed."""
     if needs_program and not os.path.isfile(PROGRAM):
         print(f"{NAME}: there is no program {PROGRAM}")
         print(f"{NAME}: 0 passed, 1 failed")
         return 1
+    names = [table.__name__ for table in tables]
+    for name in set(named).difference(names):
+        check("a table", name, f"one of {', '.join(names)}")
     spent = {}
-    for table in tables:
+    for table in [table for table in tables if not named or table.__name__ in named]:
         with tempfile.TemporaryDirectory() as path:
             os.chmod(path, 0o755)
             begun = time.monotonic()

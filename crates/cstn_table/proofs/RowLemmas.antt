@@ -12,7 +12,7 @@ use Rattle.cstn_label.specs.Labels.{Scenario}
 use Rattle.cstn_net.specs.Networks.{Network, IsNetwork, Observes}
 use Rattle.cstn_table.specs.Tables.{observed_props, row_of, scenario_of}
 use Rattle.cstn_table.specs.Read.{numbers}
-use Rattle.cstn_table.specs.Raises.{rows}
+use Rattle.cstn_table.specs.Raises.{rows, AreObserved}
 
 digit_below : (v : Bool) (r w : ℕ) → r < w → 2 * r + cond v 1 0 < 2 * w
 digit_below true r w h = omega arith
@@ -124,6 +124,11 @@ props_turn os i old new p inside there before now =
 pub props_stay : (os : List (Option ℕ)) (i : ℕ) (old : List Prop) → i < length os →
     None ≡ get_or os i None → numbers old ≡ observed_props (take i os) → numbers old ≡ observed_props (take (i + 1) os)
 props_stay os i old inside there before = rw (props_more os i None inside (sym there), append-nil (observed_props (take i os))) before
+
+-- the scenario of a row by the program's propositions is the one by the observed ones
+pub by_observed : (net : Network) (props : List Prop) (row : ℕ) (s : Scenario) → AreObserved net props →
+    s ≡ scenario_of (numbers props) row → s ≡ scenario_of (observed_props net.observes) row
+by_observed net props row s observed is = is ∙ ap (λ ps. scenario_of ps row) observed.all
 
 module _ (net : Network) (good : IsNetwork net) where
   one_place : (x y p : ℕ) → get_or net.observes x None ≡ Some p → get_or net.observes y None ≡ Some p → x ≡ y

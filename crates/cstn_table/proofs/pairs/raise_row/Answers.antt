@@ -5,6 +5,7 @@ use Rattle.cstn_net.specs.Strategies.{Agrees}
 use Rattle.cstn_net.specs.Read.{the_network}
 use Rattle.cstn_table.specs.Tables.{observed_props, scenario_of, row_at}
 use Rattle.cstn_table.specs.Raises.{IsNoLater}
+use Rattle.cstn_table.proofs.RowLemmas.{by_observed}
 use Rattle.cstn_table.proofs.RaiseLemmas.{row_small, row_forced, forced_by_pair}
 use Rattle.cstn_table.proofs.WalkLemmas.{weaker}
 use Rattle.cstn_table.proofs.pairs.raise_row.Goals as goal
@@ -16,10 +17,8 @@ pub raise-requires-clause-forced : goal.raise-requires-clause-forced
 raise-requires-clause-forced c =
     let net = the_network c.args.net.now in
     let good = c.count.ensures.well_formed.network in
-    let own : the_scenario c.scenario_of.result ≡ scenario_of (observed_props net.observes) c.args.row =
-    c.scenario_of.ensures ∙ ap (λ ps. scenario_of ps c.args.row) c.requires.props.all in
-    let else_is : the_scenario c.scenario_of-2.result ≡ scenario_of (observed_props net.observes) c.args.other =
-    c.scenario_of-2.ensures ∙ ap (λ ps. scenario_of ps c.args.other) c.requires.props.all in
+    let own = by_observed net c.args.props.now c.args.row (the_scenario c.scenario_of.result) c.requires.props c.scenario_of.ensures in
+    let else_is = by_observed net c.args.props.now c.args.other (the_scenario c.scenario_of-2.result) c.requires.props c.scenario_of-2.ensures in
     let at : c.place.result ≡ c.args.other * count net + c.loop-x.x =
     c.place.ensures ∙ ap (λ n. c.args.other * n + c.loop-x.x) c.count.ensures.count in
     let counted = c.count-x-end.ensures.count in
@@ -40,10 +39,8 @@ raise-requires-clause-forced c =
 pub returns-clause-some : goal.returns-clause-some
 returns-clause-some c =
     let net = the_network c.args.net.now in
-    let own : the_scenario c.scenario_of.result ≡ scenario_of (observed_props net.observes) c.args.row =
-    c.scenario_of.ensures ∙ ap (λ ps. scenario_of ps c.args.row) c.requires.props.all in
-    let else_is : the_scenario c.scenario_of-2.result ≡ scenario_of (observed_props net.observes) c.args.other =
-    c.scenario_of-2.ensures ∙ ap (λ ps. scenario_of ps c.args.other) c.requires.props.all in
+    let own = by_observed net c.args.props.now c.args.row (the_scenario c.scenario_of.result) c.requires.props c.scenario_of.ensures in
+    let else_is = by_observed net c.args.props.now c.args.other (the_scenario c.scenario_of-2.result) c.requires.props c.scenario_of-2.ensures in
     let counted = c.count-x-end.ensures.count in
     let last = c.loop-x-test.false in
     weaker net (λ ts. (y : ℕ) → y < c.loop-x.x →

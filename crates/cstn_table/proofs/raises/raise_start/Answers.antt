@@ -6,8 +6,9 @@ use Rattle.cstn_label.specs.Labels.{Holds}
 use Rattle.cstn_label.specs.Read.{marks, the_scenario}
 use Rattle.cstn_net.specs.Networks.{IsConstraint, count}
 use Rattle.cstn_net.specs.Read.{the_network, the_constraint}
-use Rattle.cstn_table.specs.Tables.{observed_props, scenario_of, row_at}
+use Rattle.cstn_table.specs.Tables.{row_at}
 use Rattle.cstn_table.specs.Raises.{MeetsIn}
+use Rattle.cstn_table.proofs.RowLemmas.{by_observed}
 use Rattle.cstn_table.proofs.RaiseLemmas.{row_small, forced_start}
 use Rattle.cstn_table.proofs.WalkLemmas.{standing, if_weaker}
 use Rattle.cstn_table.proofs.raises.raise_start.Goals as goal
@@ -22,8 +23,7 @@ holds-requires c =
 pub returns-then-not-holds-clause-some : goal.returns-then-not-holds-clause-some
 returns-then-not-holds-clause-some c =
     let net = the_network c.args.net.now in
-    let is : the_scenario c.scenario_of.result ≡ scenario_of (observed_props net.observes) c.args.row =
-    c.scenario_of.ensures ∙ ap (λ ps. scenario_of ps c.args.row) c.requires.props.all in
+    let is = by_observed net c.args.props.now c.args.row (the_scenario c.scenario_of.result) c.requires.props c.scenario_of.ensures in
     standing net (MeetsIn net c.args.row (the_constraint c.args.c.now)) c.args.moments.now c.requires.low
     (λ there. let no = c.if-not-holds.ensures.holds.1 (subst (λ s. Holds s (marks c.args.c.now.label)) (sym is) there) in cc)
 
@@ -44,8 +44,7 @@ raise-requires-clause-forced c =
     let net = the_network c.args.net.now in
     let at : c.place.result ≡ c.args.row * count net + c.args.c.now.to.0 =
     c.place.ensures ∙ ap (λ n. c.args.row * n + c.args.c.now.to.0) c.count-points.ensures.count in
-    let is : the_scenario c.scenario_of.result ≡ scenario_of (observed_props net.observes) c.args.row =
-    c.scenario_of.ensures ∙ ap (λ ps. scenario_of ps c.args.row) c.requires.props.all in
+    let is = by_observed net c.args.props.now c.args.row (the_scenario c.scenario_of.result) c.requires.props c.scenario_of.ensures in
     let least = c.requires.range.value.0 in
     let greatest = c.requires.range.value.1 in
     let same : to_z w32 (of_z w32 c.args.c.now.most) ≡ c.args.c.now.most = omega (arith, ints) in
