@@ -1,4 +1,4 @@
-"""Texts of evidence that are made to take long, which bench/hostile and bench/run hand to the commands that check them.
+"""Texts of evidence that are made to take long, which checks/hostile and bench/run hand to the commands that check them.
 
 In the documents that they speak of, Z is the origin, the time-point P with a letter observes that letter, of each of the 52,
 and X observes nothing.

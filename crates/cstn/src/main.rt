@@ -3,9 +3,16 @@
 
 use cstn_io::{FileShelf, InputSource, OutputSink};
 use cstn_top::run;
+use cstn_words::Release;
 use std::alloc::{AllocError, Global};
 use std::process::ExitCode;
 use std::{env, io};
+
+// The number of this release: each program that is released has a higher one than those before it.
+const RELEASE: u32 = 1;
+
+// The version of the lines that the program takes and answers: another one where a line or an answer changes its form or meaning.
+const LINES: u32 = 1;
 
 // The exit status where memory was refused before a request was read: that of `Status::Memory`.
 const NO_MEMORY: u8 = 7;
@@ -25,7 +32,11 @@ fn main(rt: HostRuntime) -> ExitCode {
     let mut shelf = FileShelf::new(rt);
     let mut live = InputSource::new(rt.stdin());
     let mut out = OutputSink::new(io::writer(&rt));
-    let status = run(rt.alloc(), &words, &mut shelf, &mut live, &mut out);
+    let release = Release {
+        number: RELEASE,
+        lines: LINES,
+    };
+    let status = run(rt.alloc(), release, &words, &mut shelf, &mut live, &mut out);
     ExitCode::from(status.number())
 }
 

@@ -8,7 +8,7 @@ use Rattle.cstn_top.specs.Plans.{Plan, IsOutput, IsText}
 use Rattle.cstn_top.specs.Dispatch.{plan_at}
 use Rattle.cstn_top.specs.Meanings.{IsStopped}
 use Rattle.cstn_words.specs.declared.words.Request.{Request as RequestWords}
-use Rattle.cstn_words.specs.declared.words.Request.TheVariants.{Check, Run, Edit, Follow, Closed, Tight, Conflict, Tree, Save, Replay, Closedcheck, Treecheck, Drill, Host}
+use Rattle.cstn_words.specs.declared.words.Request.TheVariants.{Check, Run, Edit, Follow, Closed, Tight, Conflict, Tree, Save, Replay, Closedcheck, Treecheck, Drill, Host, Version}
 use Rattle.cstn_reply.specs.Texts.{Said}
 use Rattle.cstn_reply.specs.Written.{LiveState, is_output, is_file_fault, is_live_fault, is_memory, IsWritten}
 use Rattle.cstn_reply.specs.Statuses.{status_of}
@@ -35,6 +35,7 @@ request_ranged (Closedcheck asked proof) = tt
 request_ranged (Treecheck asked proof) = tt
 request_ranged (Drill number) = tt
 request_ranged (Host files deadline cap) = cap.most
+request_ranged (Version release) = tt
 
 pub ranged_as : (words : Option Request) (r : RequestWords) → Some (the_request r) ≡ words → IfSome words IsRanged
 ranged_as words r is = subst (λ (w : Option Request). IfSome w IsRanged) is (request_ranged r)

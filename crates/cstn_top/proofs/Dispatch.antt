@@ -1,6 +1,6 @@
 -- What is proved of each request, by its command.
 use Rattle.std.proofs.Common.{◌≡◌, ℕ, Bool, true, false, List, refl}
-use Rattle.cstn_words.specs.Requests.{Request, check, run, edit, follow, closed, tight, conflict, tree, save, replay, closedcheck, treecheck, drill, host}
+use Rattle.cstn_words.specs.Requests.{Request, check, run, edit, follow, closed, tight, conflict, tree, save, replay, closedcheck, treecheck, drill, host, version}
 use Rattle.cstn_edit.specs.Editing.{edit_wants}
 use Rattle.cstn_host.specs.Sessions.{host_wants}
 use Rattle.cstn_top.specs.Command.{Kind, a_text, a_run, an_edit, a_host, a_follow}
@@ -20,6 +20,7 @@ use Rattle.cstn_top.proofs.records.Closedcheck.{closedcheck_proved}
 use Rattle.cstn_top.proofs.records.Treecheck.{treecheck_proved}
 use Rattle.cstn_top.proofs.records.Drill.{drill_proved}
 use Rattle.cstn_top.proofs.records.Host.{host_proved}
+use Rattle.cstn_top.proofs.records.Version.{version_proved}
 
 pub proved : (request : Request) → IsProved request
 proved (check asked cap) = check_proved asked cap
@@ -36,6 +37,7 @@ proved (closedcheck asked proof) = closedcheck_proved asked proof
 proved (treecheck asked proof) = treecheck_proved asked proof
 proved (drill number) = drill_proved number
 proved (host files deadline cap) = host_proved files deadline cap
+proved (version release) = version_proved release
 
 -- the lines whose answers may want memory, by the kind of a command
 abbrev pub kind_wants : Kind → List ℕ → Bool
@@ -60,3 +62,4 @@ wants_by (closedcheck asked proof) = refl
 wants_by (treecheck asked proof) = refl
 wants_by (drill number) = refl
 wants_by (host files deadline cap) = refl
+wants_by (version release) = refl

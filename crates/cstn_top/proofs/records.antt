@@ -12,3 +12,4 @@ pub mod Closedcheck
 pub mod Treecheck
 pub mod Drill
 pub mod Host
+pub mod Version

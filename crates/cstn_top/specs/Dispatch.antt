@@ -1,6 +1,6 @@
 -- The command of each request, and its plan.
 use Rattle.std.specs.Prelude.{ℕ, List, Option, None, Some, codes}
-use Rattle.cstn_words.specs.Requests.{Request, check, run, edit, follow, closed, tight, conflict, tree, save, replay, closedcheck, treecheck, drill, host}
+use Rattle.cstn_words.specs.Requests.{Request, check, run, edit, follow, closed, tight, conflict, tree, save, replay, closedcheck, treecheck, drill, host, version}
 use Rattle.cstn_reply.specs.Texts.{say}
 use Rattle.cstn_reply.specs.declared.output.Outcome.TheVariants.{Words}
 use Rattle.cstn_top.specs.Plans.{Plan, says}
@@ -19,6 +19,7 @@ use Rattle.cstn_top.specs.commands.Treecheck.{treecheck_command}
 use Rattle.cstn_top.specs.commands.Replay.{replay_command}
 use Rattle.cstn_top.specs.commands.Save.{save_command}
 use Rattle.cstn_top.specs.commands.Drill.{drill_command}
+use Rattle.cstn_top.specs.commands.Version.{version_command}
 
 -- the command of a request
 abbrev pub command_of : Request → Command
@@ -36,6 +37,7 @@ command_of (closedcheck asked proof) = closedcheck_command asked
 command_of (treecheck asked proof) = treecheck_command asked
 command_of (drill number) = drill_command number
 command_of (host files deadline cap) = host_command files deadline cap
+command_of (version release) = version_command release
 
 -- the plan of a request whose files have these contents
 abbrev pub plan_at : Request → List (List ℕ) → Plan

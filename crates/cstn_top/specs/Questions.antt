@@ -27,6 +27,7 @@ use Rattle.cstn_top.specs.commands.Follow.{followed}
 use Rattle.cstn_top.specs.commands.Host.{attended}
 use Rattle.cstn_top.specs.commands.Save.{saved}
 use Rattle.cstn_top.specs.commands.Drill.{drilled}
+use Rattle.cstn_top.specs.commands.Version.{versioned}
 use Rattle.cstn_top.specs.Command.{Kind, a_text, a_run, an_edit, a_follow, a_host}
 use Rattle.cstn_top.specs.Dispatch.{command_of, plan_at}
 use Rattle.cstn_top.specs.Prepared.{Planned, TellsRefused}
@@ -34,7 +35,7 @@ use Rattle.cstn_top.specs.Begun.{the_named, IsSound}
 use Rattle.cstn_top.specs.declared.commands.Prepared.TheVariants.{Says}
 use Rattle.cstn_top.specs.declared.commands.questions.Question.{Question}
 use Rattle.cstn_top.specs.declared.commands.questions.Question.TheVariants.{Check, Closed, Tight, Conflict, Tree, Edit, Run, Save, Replay, Closedcheck, Treecheck, Drill, Host}
-use Rattle.cstn_top.specs.declared.commands.questions.Question.TheVariants.{Follow}
+use Rattle.cstn_top.specs.declared.commands.questions.Question.TheVariants.{Follow, Version}
 
 -- what is said to a question
 abbrev pub the_question : Question → Plan
@@ -52,6 +53,7 @@ the_question (Closedcheck d text) = by_text certified text.items d.names (the_ne
 the_question (Treecheck d text) = by_text tree_checked text.items d.names (the_network d.network)
 the_question (Drill number) = says (drilled number)
 the_question (Host documents cap) = attended cap.entries (map the_named documents.items)
+the_question (Version release) = says (versioned release)
 
 -- the question says what the request says of the contents of its files, each of which is there
 pub record Asks (request : Request) (told : Option (List ℕ → Option (List ℕ))) (question : Question) : Type 0 where
@@ -82,6 +84,7 @@ IsSoundQuestion (Closedcheck d text) = IsSound d × (length text.items ≤ most_
 IsSoundQuestion (Treecheck d text) = IsSound d × (length text.items ≤ most_text)
 IsSoundQuestion (Drill number) = Unit {0}
 IsSoundQuestion (Host documents cap) = All IsSound documents.items × (1 ≤ length documents.items) × (length documents.items ≤ most_files)
+IsSoundQuestion (Version release) = Unit {0}
 
 abbrev pub kind_of : Question → Kind
 kind_of (Check d cap) = a_text
@@ -98,6 +101,7 @@ kind_of (Closedcheck d text) = a_text
 kind_of (Treecheck d text) = a_text
 kind_of (Drill number) = a_text
 kind_of (Host documents cap) = a_host
+kind_of (Version release) = a_text
 
 abbrev pub kind_at : Request → Kind
 kind_at request = (command_of request).kind

@@ -4,6 +4,7 @@ use Rattle.cstn_io.specs.Causes.{Rose}
 use Rattle.cstn_io.specs.Contents.{with_bytes}
 use Rattle.cstn_words.specs.Requests.{Request, names_of}
 use Rattle.cstn_words.specs.Read.{request_in}
+use Rattle.cstn_words.specs.declared.words.Release.{Release}
 use Rattle.cstn_reply.specs.Texts.{line}
 use Rattle.cstn_documents.specs.Files.{AreContents}
 use Rattle.cstn_reply.specs.Written.{LiveState}
@@ -24,12 +25,12 @@ abbrev pub Failed : {A : Type 0} → (A → ℕ) → A → A → Type 0
 Failed faults old new = Rose (faults old) (faults new)
 
 -- the words are a request, of which this holds with the contents of its files
-abbrev pub TellsOf : {Z : Type 0} → List (String Z) → Option (List ℕ → Option (List ℕ)) → (Request → List (List ℕ) → Type 0) → Type 0
-TellsOf words files holds = HoldsOf (request_in words) files holds
+abbrev pub TellsOf : {Z : Type 0} → Release → List (String Z) → Option (List ℕ → Option (List ℕ)) → (Request → List (List ℕ) → Type 0) → Type 0
+TellsOf release words files holds = HoldsOf (request_in release words) files holds
 
 -- the words are a request that reads the live source
-abbrev pub Reads : {Z : Type 0} → List (String Z) → Option (List ℕ → Option (List ℕ)) → Type 0
-Reads words files = TellsOf words files ReadsLive
+abbrev pub Reads : {Z : Type 0} → Release → List (String Z) → Option (List ℕ → Option (List ℕ)) → Type 0
+Reads release words files = TellsOf release words files ReadsLive
 
 -- the line `memory` was written, and nothing else
 abbrev pub WroteMemory : {K : Type 0} → (K → Option (List ℕ)) → K → K → Type 0

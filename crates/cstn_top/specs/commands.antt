@@ -13,3 +13,4 @@ pub mod Treecheck
 pub mod Replay
 pub mod Save
 pub mod Drill
+pub mod Version

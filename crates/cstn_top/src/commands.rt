@@ -16,6 +16,7 @@ mod questions;
 mod run;
 mod save;
 mod several;
+mod version;
 
 use answers::answer;
 use cstn_documents::Unread;

@@ -1,13 +1,14 @@
 -- How values of the program are read.
 use Rattle.std.specs.Prelude.{ℕ, List, Option, map, String, string_bytes}
 use Rattle.cstn_words.specs.Requests.{Asked, Taken, Request, request_of, names_of, check, run, edit, follow, closed, tight, conflict, tree, save, replay, closedcheck, treecheck, drill}
-use Rattle.cstn_words.specs.Requests.{host}
+use Rattle.cstn_words.specs.Requests.{host, version}
 use Rattle.cstn_log.specs.declared.caps.Cap.{Cap}
 use Rattle.cstn_words.specs.declared.words.Asked.{Asked as AskedWords}
 use Rattle.cstn_words.specs.declared.words.Taken.{Taken as TakenWords}
+use Rattle.cstn_words.specs.declared.words.Release.{Release}
 use Rattle.cstn_words.specs.declared.words.Request.{Request as RequestWords}
 use Rattle.cstn_words.specs.declared.words.Request.TheVariants.{Check, Run, Edit, Follow, Closed, Tight, Conflict, Tree, Save, Replay, Closedcheck, Treecheck, Drill}
-use Rattle.cstn_words.specs.declared.words.Request.TheVariants.{Host}
+use Rattle.cstn_words.specs.declared.words.Request.TheVariants.{Host, Version}
 
 -- the file and the deadline that are asked for
 abbrev pub the_asked : AskedWords → Asked
@@ -36,11 +37,12 @@ the_request (Closedcheck asked proof) = closedcheck (the_asked asked) proof.now
 the_request (Treecheck asked proof) = treecheck (the_asked asked) proof.now
 the_request (Drill number) = drill number
 the_request (Host files deadline cap) = host (map string_bytes files.names.now) deadline cap.entries
+the_request (Version release) = version release
 
--- the request that the words are; none where they are no request
-abbrev pub request_in : {Z : Type 0} → List (String Z) → Option Request
-request_in words = request_of (map string_bytes words)
+-- the request that the words are to a program of this release; none where they are no request
+abbrev pub request_in : {Z : Type 0} → Release → List (String Z) → Option Request
+request_in release words = request_of release (map string_bytes words)
 
 -- the files that the words name
-abbrev pub named_files : {Z : Type 0} → List (String Z) → List (List ℕ)
-named_files words = names_of (request_in words)
+abbrev pub named_files : {Z : Type 0} → Release → List (String Z) → List (List ℕ)
+named_files release words = names_of (request_in release words)

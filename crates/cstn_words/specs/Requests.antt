@@ -5,6 +5,7 @@ use Rattle.std.specs.Cmp.Lexicographic.{pointwise}
 use Rattle.cstn_net.specs.Limits.{most_deadline, most_load}
 use Rattle.cstn_text.specs.Numbers.{number_read}
 use Rattle.cstn_words.specs.Limits.{usual_cap, most_host_cap, most_files}
+use Rattle.cstn_words.specs.declared.words.Release.{Release}
 
 -- the two texts are the same
 abbrev pub is_same : List ℕ → List ℕ → Bool
@@ -17,7 +18,7 @@ pub record Asked : Type 0 where
 
 -- A request: a command with the file of a document and the deadline that is to hold, and, by the command, how many entries a
 -- log may have, the file of a text that is to be checked, or no more; or the number of a drill; or the files of a host, with
--- the deadline that is to hold for each and how many entries the log of each may have.
+-- the deadline that is to hold for each and how many entries the log of each may have; or what the program is.
 pub data Request : Type 0 where
   check : Asked → ℕ → Request
   run : Asked → ℕ → Request
@@ -33,6 +34,7 @@ pub data Request : Type 0 where
   treecheck : Asked → List ℕ → Request
   drill : ℕ → Request
   host : List (List ℕ) → Option ℕ → ℕ → Request
+  version : Release → Request
 
 -- a number from least to most
 abbrev pub number_within : ℕ → ℕ → List ℕ → Option ℕ
@@ -106,6 +108,11 @@ abbrev pub host_of : List (List ℕ) → Option Request
 host_of words =
     option_and_then (λ (deadline : Taken). option_and_then (hosted_of deadline.value) (option_at (codes "--cap") 1 most_host_cap deadline.rest)) (deadline_at words)
 
+-- the request for what a program of this release is: no word may stand after it
+abbrev pub version_of : Release → List (List ℕ) → Option Request
+version_of release [] = Some (version release)
+version_of release (word ∷ rest) = None
+
 -- the request of a command with this file and this many entries that a log may have
 abbrev pub capped_at : List ℕ → Asked × ℕ → Option Request
 capped_at command found =
@@ -118,21 +125,22 @@ capped_at command found =
     else if is_same command (codes "conflict") then Some (conflict found.0 found.1)
     else if is_same command (codes "tree") then Some (tree found.0 found.1) else None
 
--- the request of a command with these words after it
-abbrev pub request_at : List ℕ → List (List ℕ) → Option Request
-request_at command rest =
+-- the request of a command with these words after it, to a program of this release
+abbrev pub request_at : Release → List ℕ → List (List ℕ) → Option Request
+request_at release command rest =
     if is_same command (codes "save") then option_map save (asked_of rest)
     else if is_same command (codes "replay") then option_map (λ found. replay found.0 found.1) (checked_of rest)
     else if is_same command (codes "closedcheck") then option_map (λ found. closedcheck found.0 found.1) (checked_of rest)
     else if is_same command (codes "treecheck") then option_map (λ found. treecheck found.0 found.1) (checked_of rest)
     else if is_same command (codes "drill") then drill_of rest
     else if is_same command (codes "host") then host_of rest
+    else if is_same command (codes "--version") then version_of release rest
     else option_and_then (capped_at command) (capped_of rest)
 
--- the request that the words are; none where they are no request
-abbrev pub request_of : List (List ℕ) → Option Request
-request_of [] = None
-request_of (command ∷ rest) = request_at command rest
+-- the request that the words are to a program of this release; none where they are no request
+abbrev pub request_of : Release → List (List ℕ) → Option Request
+request_of release [] = None
+request_of release (command ∷ rest) = request_at release command rest
 
 -- the files that a request names, in the order of the words
 abbrev pub files_of : Request → List (List ℕ)
@@ -150,6 +158,7 @@ files_of (closedcheck asked proof) = asked.file ∷ proof ∷ []
 files_of (treecheck asked proof) = asked.file ∷ proof ∷ []
 files_of (drill number) = []
 files_of (host files deadline cap) = files
+files_of (version release) = []
 
 -- the files that words name
 abbrev pub names_of : Option Request → List (List ℕ)

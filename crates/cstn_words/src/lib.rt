@@ -5,4 +5,4 @@ mod files;
 mod words;
 
 pub use files::HostFiles;
-pub use words::{Asked, Request, parse};
+pub use words::{Asked, Release, Request, parse};

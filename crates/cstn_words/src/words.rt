@@ -4,7 +4,7 @@ ghost use Rattle.std.specs.Option.{option_map, option_and_then, unwrap_or};
 ghost use Rattle.cstn_net.specs.Limits.{most_load};
 ghost use Rattle.cstn_words.specs.Requests.{number_within, value_at, option_at, deadline_at, cap_at, deadline_of, cap_of};
 ghost use Rattle.cstn_words.specs.Requests.{asked_of, capped_of, capped_at, checked_of, drill_of, request_at};
-ghost use Rattle.cstn_words.specs.Requests.{hosted_of, host_of};
+ghost use Rattle.cstn_words.specs.Requests.{hosted_of, host_of, version_of};
 ghost use Rattle.cstn_words.specs.Limits.{usual_cap};
 ghost use Rattle.cstn_words.specs.Read.{the_asked, the_capped, the_taken, the_request, request_in};
 
@@ -20,7 +20,14 @@ pub struct Asked<'a> {
     pub deadline: Option<u32>,
 }
 
-/// What the words ask for: a command with its files and options.
+/// What a program is: the number of its release, and the version of the lines that it takes and answers.
+#[derive(Clone, Copy)]
+pub struct Release {
+    pub number: u32,
+    pub lines: u32,
+}
+
+/// What the words ask for: a command with its files and options, or what the program is.
 #[derive(Clone, Copy)]
 pub enum Request<'a> {
     Check {
@@ -74,6 +81,7 @@ pub enum Request<'a> {
         deadline: Option<u32>,
         cap: Cap,
     },
+    Version(Release),
 }
 
 // The number of an option, if it is there, and the words after it.
@@ -87,19 +95,19 @@ const MAX_HOST_CAP: u64 = 65_536;
 
 const MAX_FILES: usize = 8;
 
-/// The request that the words are; none where they are no request.
-pub fn parse(words: &[String]) -> Option<Request<'_>>
-    ensures request { option_map the_request result ≡ request_in words.now }
+/// The request that the words are to a program of this release; none where they are no request.
+pub fn parse(release: Release, words: &[String]) -> Option<Request<'_>>
+    ensures request { option_map the_request result ≡ request_in release words.now }
 {
     let [command, rest @ ..] = words else {
         return None;
     };
-    request_at(command.as_str(), rest)
+    request_at(release, command.as_str(), rest)
 }
 
-// The request of a command with these words after it.
-fn request_at<'a>(command: &str, rest: &'a [String]) -> Option<Request<'a>>
-    ensures request { option_map the_request result ≡ request_at command.now (map string_bytes rest.now) }
+// The request of a command with these words after it, to a program of this release.
+fn request_at<'a>(release: Release, command: &str, rest: &'a [String]) -> Option<Request<'a>>
+    ensures request { option_map the_request result ≡ request_at release command.now (map string_bytes rest.now) }
 {
     match command {
         "save" => Some(Request::Save(asked_of(rest)?)),
@@ -117,6 +125,7 @@ fn request_at<'a>(command: &str, rest: &'a [String]) -> Option<Request<'a>>
         }
         "drill" => drill_of(rest),
         "host" => host_of(rest),
+        "--version" => version_of(release, rest),
         command => capped_request(command, rest),
     }
 }
@@ -194,6 +203,16 @@ fn hosted_of<'a>(deadline: Option<u32>, taken: Taken<'a>) -> Option<Request<'a>>
         deadline,
         cap: cap_or_usual(taken.value),
     })
+}
+
+// The request for what a program of this release is: no word may stand after it.
+fn version_of(release: Release, words: &[String]) -> Option<Request<'_>>
+    ensures request { option_map the_request result ≡ version_of release (map string_bytes words.now) }
+{
+    let [] = words else {
+        return None;
+    };
+    Some(Request::Version(release))
 }
 
 fn asked_of(words: &[String]) -> Option<Asked<'_>>

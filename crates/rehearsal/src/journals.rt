@@ -88,7 +88,7 @@ impl Journal {
     /// is left has more than 16,384 constraints.
     pub fn outlook(&self, alloc: Global) -> anyhow::Result<Outlook>
         ensures right { IfOk result (IsRight (the_labelled self.now.network) (the_history self.now.history)) }
-        ensures unknown { IfOk result (λ outlook. outlook ≡ Outlook.Unknown ↔ (CAP < load_of (lowered (left self.now)))) }
+        ensures unknown { IfOk result (λ outlook. outlook ≡ Outlook.Unknown ↔ (CAP.entries < load_of (lowered (left self.now)))) }
     {
         let mut check = self.check_left(alloc)?;
         match check.run() {
@@ -108,7 +108,7 @@ impl Journal {
     pub fn latest(&self, alloc: Global, x: NodeId) -> anyhow::Result<Latest>
         ensures right { IfOk result (IsRightLatest (the_labelled self.now.network) (the_history self.now.history) x.0) }
         ensures unknown { IfOk result (λ latest. latest ≡ Latest.Unknown
-            ↔ (IsToCome (the_labelled self.now.network) (the_history self.now.history) x.0 × IsWaitUnknown CAP self.now x.0)) }
+            ↔ (IsToCome (the_labelled self.now.network) (the_history self.now.history) x.0 × IsWaitUnknown CAP.entries self.now x.0)) }
     {
         rest_is_labelled();
         if x.0 >= self.network.base().count() {
@@ -128,7 +128,7 @@ impl Journal {
     fn latest_to_come(&self, alloc: Global, x: NodeId) -> anyhow::Result<Latest>
         requires to_come { IsToCome (the_labelled self.now.network) (the_history self.now.history) x.0 }
         ensures right { IfOk result (IsRightLatest (the_labelled self.now.network) (the_history self.now.history) x.0) }
-        ensures unknown { IfOk result (λ latest. latest ≡ Latest.Unknown ↔ IsWaitUnknown CAP self.now x.0) }
+        ensures unknown { IfOk result (λ latest. latest ≡ Latest.Unknown ↔ IsWaitUnknown CAP.entries self.now x.0) }
     {
         let mut check = self.check_left(alloc)?;
         match check.run() {
@@ -144,7 +144,7 @@ impl Journal {
         requires can { Can (the_labelled self.now.network) (the_history self.now.history) }
         ensures right { IfOk result (IsRightLatest (the_labelled self.now.network) (the_history self.now.history) x.0) }
         ensures unknown { IfOk result (λ latest. latest ≡ Latest.Unknown
-            ↔ (waits_until (the_labelled self.now.network) (the_history self.now.history) FRESH x.0 CAP ≡ None)) }
+            ↔ (waits_until (the_labelled self.now.network) (the_history self.now.history) FRESH x.0 CAP.entries ≡ None)) }
     {
         self.network.base();
         match by(alloc, &self.network, &self.history, FRESH, x, CAP) {
@@ -158,7 +158,7 @@ impl Journal {
     /// where a check on the way derives more than `CAP` bounds. Fails as `outlook` does.
     pub fn blame(&self, alloc: Global) -> anyhow::Result<Blame>
         ensures right { IfOk result (IsRightBlame (the_labelled self.now.network) (the_history self.now.history)) }
-        ensures unknown { IfOk result (λ blame. blame ≡ Blame.Unknown ↔ IsBlameUnknown CAP self.now) }
+        ensures unknown { IfOk result (λ blame. blame ≡ Blame.Unknown ↔ IsBlameUnknown CAP.entries self.now) }
     {
         let mut check = self.check_left(alloc)?;
         match check.run() {
@@ -174,7 +174,7 @@ impl Journal {
         requires cannot { Can (the_labelled self.now.network) (the_history self.now.history) → ⊥ }
         ensures right { IfOk result (IsRightBlame (the_labelled self.now.network) (the_history self.now.history)) }
         ensures unknown { IfOk result (λ b. b ≡ Blame.Unknown
-            ↔ (blamed (the_labelled self.now.network) (the_history self.now.history) FRESH CAP ≡ None)) }
+            ↔ (blamed (the_labelled self.now.network) (the_history self.now.history) FRESH CAP.entries ≡ None)) }
     {
         match blame(alloc, &self.network, &self.history, FRESH, CAP) {
             Ok(ids) => Ok(Blame::Constraints(ids)),
@@ -190,7 +190,7 @@ impl Journal {
         ensures left { IfOk result (λ check. the_network check.net ≡ lowered (left self.now)) }
         ensures labelled { IfOk result (λ _. IsLabelled (left self.now)) }
         ensures room { IfOk result (λ _. HasRoom (left self.now)) }
-        ensures cap { IfOk result (λ check. check.cap ≡ CAP) }
+        ensures cap { IfOk result (λ check. check.cap ≡ CAP.entries) }
     {
         rest_decides();
         self.network.base();

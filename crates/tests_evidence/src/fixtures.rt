@@ -3,6 +3,7 @@ ghost use Rattle.std.specs.Prelude.{◌≡◌, ◌≤◌, [], length};
 
 use cstn_check::{Check, Verdict};
 use cstn_label::{Bound, Label, Mark, NodeId, Prop};
+use cstn_log::Cap;
 use cstn_net::{Builder, Network};
 use cstn_plan::SoundPlan;
 use cstn_text::{NameKey, Names};
@@ -124,7 +125,7 @@ pub fn names(rt: &impl Abort, alloc: Global, each: &[&str]) -> Names
 
 /// The plan of a consistent network.
 pub fn plan(rt: &impl Abort, alloc: Global, net: Network) -> SoundPlan {
-    let mut check = Check::start(alloc, net, 100).expect(rt, "memory");
+    let mut check = Check::start(alloc, net, Cap { entries: 100 }).expect(rt, "memory");
     let Verdict::Yes { .. } = check.run() else {
         panic!(rt; "a consistent network");
     };

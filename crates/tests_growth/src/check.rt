@@ -5,15 +5,15 @@ use crate::networks::{
 use crate::plain;
 use cstn_check::{Check, Verdict};
 use cstn_label::{Label, Mark};
-use cstn_log::Log;
+use cstn_log::{Cap, Log};
 use cstn_net::Network;
 use cstn_rules::Entry;
 use std::alloc::Global;
 use std::process::Abort;
 
-// A check of the network.
-fn started(rt: &impl Abort, alloc: Global, net: Network, cap: u32) -> Check {
-    assert!(rt; 1 <= cap && cap <= 4_194_304);
+// A check of the network, whose log may have this many entries.
+fn started(rt: &impl Abort, alloc: Global, net: Network, entries: u32) -> Check {
+    let cap = Cap::new(entries).expect(rt, "a cap");
     Check::start(alloc, net, cap).expect(rt, "memory")
 }
 

@@ -3,12 +3,13 @@ use crate::networks::{branch, late_branch};
 use cstn_check::Verdict;
 use cstn_edit::{EditError, Outcome, Session};
 use cstn_label::{Label, NodeId};
+use cstn_log::Cap;
 use cstn_net::Network;
 use std::alloc::Global;
 use std::process::Abort;
 
-fn started(rt: &impl Abort, alloc: Global, net: Network, cap: u32, room: u32) -> Session {
-    assert!(rt; 1 <= cap && cap <= 4_194_304);
+fn started(rt: &impl Abort, alloc: Global, net: Network, entries: u32, room: u32) -> Session {
+    let cap = Cap::new(entries).expect(rt, "a cap");
     assert!(rt; room <= 16_384 && net.constraints().len() <= room as usize);
     assert!(rt; net.constraints().iter().all(|c| c.id < 2_147_483_648));
     Session::start(alloc, net, cap, room).expect(rt, "memory")

@@ -7,21 +7,20 @@ ghost use Rattle.cstn_net.specs.Read.{the_network};
 use crate::networks::{bound, by_chain, by_wait, crossed, p, q, twice_late_branch};
 use crate::plain::is_bound_of;
 use cstn_label::{Bound, Label, Mark};
-use cstn_log::Log;
+use cstn_log::{Cap, Log};
 use cstn_net::{Constraint, Network};
 use cstn_pool::SlotId;
 use cstn_rules::{Entry, Tries, Why, chain, wait};
 use std::alloc::Global;
 use std::process::Abort;
 
-fn started(rt: &impl Abort, alloc: Global, net: &Network, cap: u32) -> Log
-    requires some { 1 ≤ cap }
-    requires most { cap ≤ 8 }
+fn started(rt: &impl Abort, alloc: Global, net: &Network, entries: u32) -> Log
     ensures nodes { result.nodes ≡ count (the_network net.now) }
     ensures births { result.births ≤ 1024 }
 {
     let count = net.count();
     prove!(count <= 1024);
+    let cap = Cap::new(entries).expect(rt, "a cap");
     Log::start(alloc, net, cap).expect(rt, "memory")
 }
 
@@ -189,10 +188,7 @@ fn has_len(rt: &impl Abort, log: &Log, len: u32) {
 }
 
 // A log of this cap starts with `bases` entries, and has `len` after two more were pushed, of which the second has no room.
-fn fills(rt: &impl Abort, alloc: Global, net: &Network, cap: u32, bases: u32, len: u32)
-    requires some { 1 ≤ cap }
-    requires most { cap ≤ 8 }
-{
+fn fills(rt: &impl Abort, alloc: Global, net: &Network, cap: u32, bases: u32, len: u32) {
     let mut log = started(rt, alloc, net, cap);
     has_len(rt, &log, bases);
     assert!(rt;

@@ -5,16 +5,17 @@ use crate::fixtures::same;
 use cstn_check::{Check, Verdict};
 use cstn_exec::ExecError;
 use cstn_label::{NodeId, Prop};
+use cstn_log::Cap;
 use cstn_net::Network;
 use cstn_plan::SoundPlan;
 use std::alloc::Global;
 use std::process::Abort;
 
-/// The plan of a network that can be carried out, by a check with this cap.
-pub fn planned(rt: &impl Abort, alloc: Global, net: Network, cap: u32) -> SoundPlan
+/// The plan of a network that can be carried out, by a check whose log may have this many entries.
+pub fn planned(rt: &impl Abort, alloc: Global, net: Network, entries: u32) -> SoundPlan
     ensures { result.net ≡ net }
 {
-    assert!(rt; 1 <= cap && cap <= 4_194_304);
+    let cap = Cap::new(entries).expect(rt, "a cap");
     let mut check = Check::start(alloc, net, cap).expect(rt, "memory");
     let Verdict::Yes { .. } = check.run() else {
         panic!(rt; "a yes");

@@ -5,8 +5,8 @@ use std::alloc::Global;
 use std::process::Abort;
 use std::test::Fail;
 
-// Each command with files for it.
-const COMMANDS: [Row<'static>; 13] = [
+// Each command with files for it, and what the program is.
+const COMMANDS: [Row<'static>; 14] = [
     Row {
         name: "check",
         words: &["check", "f", "--deadline", "10"],
@@ -137,6 +137,16 @@ const COMMANDS: [Row<'static>; 13] = [
         status: Status::Unfinished,
         text: "yes 5\nopened 9\n9 at 0 Z P\nunfinished 9 1\n",
         left: "",
+    },
+    Row {
+        name: "--version",
+        words: &["--version"],
+        file: "",
+        other: "",
+        live: "moment 0\n",
+        status: Status::Good,
+        text: "release 4294967295\nlines 0\n",
+        left: "moment 0\n",
     },
 ];
 

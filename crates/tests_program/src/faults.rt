@@ -284,7 +284,7 @@ const MISSING: [Row<'static>; 11] = [
 ];
 
 // No file is asked for, and no line is read.
-const WITHOUT_FILES: [Row<'static>; 2] = [
+const WITHOUT_FILES: [Row<'static>; 5] = [
     Row {
         name: "words that are none",
         words: &["check"],
@@ -303,6 +303,36 @@ const WITHOUT_FILES: [Row<'static>; 2] = [
         live: "due\n",
         status: Status::Good,
         text: "small 64 yes 59 no 5 differ 0\nlarge 48 yes 352\n",
+        left: "due\n",
+    },
+    Row {
+        name: "the version",
+        words: &["--version"],
+        file: "",
+        other: "",
+        live: "due\n",
+        status: Status::Good,
+        text: "release 4294967295\nlines 0\n",
+        left: "due\n",
+    },
+    Row {
+        name: "the version and a word more",
+        words: &["--version", "f"],
+        file: PAIR,
+        other: "",
+        live: "due\n",
+        status: Status::Words,
+        text: "words\n",
+        left: "due\n",
+    },
+    Row {
+        name: "help",
+        words: &["--help"],
+        file: "",
+        other: "",
+        live: "due\n",
+        status: Status::Words,
+        text: "words\n",
         left: "due\n",
     },
 ];

@@ -1,6 +1,7 @@
 // Requests on files and live lines in memory, and their answers.
 use cstn_io::{MemoryFile, MemoryShelf, MemorySink, MemorySource};
 use cstn_top::{Status, run};
+use cstn_words::Release;
 use std::alloc::{AllocError, Global};
 use std::process::Abort;
 use std::test::Fail;
@@ -47,6 +48,12 @@ pub(crate) struct Outcome {
 // How many bytes can be written.
 const ROOM: usize = 1000;
 
+// The release of the program that is asked.
+const RELEASE: Release = Release {
+    number: 4_294_967_295,
+    lines: 0,
+};
+
 fn words_of(alloc: Global, words: &[&str]) -> Result<Vec<String>, AllocError> {
     let mut owned = Vec::new(alloc);
     for word in words {
@@ -88,7 +95,7 @@ fn answer(
     live: &mut MemorySource,
     out: &mut MemorySink,
 ) -> Status {
-    run(alloc, words, shelf, live, out)
+    run(alloc, RELEASE, words, shelf, live, out)
 }
 
 // What stands in the sink and in the live source.

@@ -12,6 +12,7 @@ use super::host::host_session;
 use super::questions::Question;
 use super::run::run_session;
 use super::save::save_text;
+use super::version::version_text;
 use cstn_check::check_text;
 use cstn_closed::closedcheck_text;
 use cstn_conflict::conflict_text;
@@ -29,7 +30,7 @@ pub(crate) fn answer(alloc: Global, question: Question) -> Result<Prepared, Allo
 {
     match question {
         Question::Check { document, cap } => {
-            let said = check_text(alloc, document.network, &document.names, cap.entries)?;
+            let said = check_text(alloc, document.network, &document.names, cap)?;
             Ok(Prepared::Says(said))
         }
         Question::Closed { document, cap } => {
@@ -37,19 +38,19 @@ pub(crate) fn answer(alloc: Global, question: Question) -> Result<Prepared, Allo
             Ok(Prepared::Says(said))
         }
         Question::Tight { document, cap } => {
-            let said = tight_text(alloc, document.network, &document.names, cap.entries)?;
+            let said = tight_text(alloc, document.network, &document.names, cap)?;
             Ok(Prepared::Says(said))
         }
         Question::Conflict { document, cap } => {
-            let said = conflict_text(alloc, document.network, &document.names, cap.entries)?;
+            let said = conflict_text(alloc, document.network, &document.names, cap)?;
             Ok(Prepared::Says(said))
         }
         Question::Tree { document, cap } => {
-            let said = tree_text(alloc, document.network, &document.names, cap.entries)?;
+            let said = tree_text(alloc, document.network, &document.names, cap)?;
             Ok(Prepared::Says(said))
         }
         Question::Edit { document, cap } => {
-            let session = Editing::start(alloc, document.network, document.names, cap.entries)?;
+            let session = Editing::start(alloc, document.network, document.names, cap)?;
             Ok(Prepared::Edits(session))
         }
         Question::Follow { document, cap } => {
@@ -79,5 +80,9 @@ pub(crate) fn answer(alloc: Global, question: Question) -> Result<Prepared, Allo
             Ok(Prepared::Says(said))
         }
         Question::Host { documents, cap } => host_session(alloc, documents, cap),
+        Question::Version(release) => {
+            let said = version_text(alloc, release)?;
+            Ok(Prepared::Says(said))
+        }
     }
 }

@@ -11,10 +11,10 @@ ghost use Rattle.cstn_top.specs.Plans.{says};
 
 use cstn_check::{Check, Judged, growth_is_bounded, judge, live_bounds_are_in_range};
 use cstn_closed::Closed;
+use cstn_log::Cap;
 use cstn_net::Network;
 use cstn_reply::{Outcome, Said};
 use cstn_text::Names;
-use cstn_words::Cap;
 use std::alloc::{AllocError, Global};
 
 /// Says the bounds of the live entries of a network's log, after no what refutes the network, or the cap where the log has more
@@ -30,7 +30,7 @@ pub(crate) fn closed_text(
     ensures said { IfOk result (λ said. says (the_said said) ≡ listed cap.entries names.now (the_network network)) }
 {
     growth_is_bounded();
-    match judge(alloc, network, names, cap.entries)? {
+    match judge(alloc, network, names, cap)? {
         Judged::Yes { load, check } => list(alloc, load, check, names),
         Judged::Told(said) => Ok(said),
     }

@@ -10,6 +10,7 @@ ghost use Rattle.cstn_reply.specs.Read.{the_said};
 
 use cstn_check::{Check, Verdict};
 use cstn_gen::network;
+use cstn_log::Cap;
 use cstn_net::Network;
 use cstn_reply::{Outcome, Said};
 use cstn_table::{TableError, decide};
@@ -113,7 +114,7 @@ fn is_checked(alloc: Global, net: Network) -> Result<bool, AllocError>
     requires few_entries { most_entries (the_network net) ≤ SMALL_CAP }
     ensures consistent { IfOk result (λ is. is ≡ is_unrefuted (the_network net)) }
 {
-    let mut check = Check::start(alloc, net, SMALL_CAP)?;
+    let mut check = Check::start(alloc, net, Cap { entries: SMALL_CAP })?;
     match check.run() {
         Verdict::Yes { .. } => Ok(true),
         Verdict::No { .. } => Ok(false),
@@ -126,7 +127,7 @@ fn large_verdict(alloc: Global, number: u64) -> Result<Verdict, AllocError>
     ensures verdict { IfOk result (λ v. v ≡ verdict LARGE_CAP (large number)) }
 {
     let net = large_network(alloc, number)?;
-    let mut check = Check::start(alloc, net, LARGE_CAP)?;
+    let mut check = Check::start(alloc, net, Cap { entries: LARGE_CAP })?;
     Ok(check.run())
 }
 

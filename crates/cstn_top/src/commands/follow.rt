@@ -17,10 +17,10 @@ use cstn_check::Verdict;
 use cstn_follow::{Following, Heard};
 use cstn_lift::Labelled;
 use cstn_lines::read_follow;
+use cstn_log::Cap;
 use cstn_reply::{Answer, AnswerText, Outcome, Talk};
 use cstn_save::write;
 use cstn_text::Names;
-use cstn_words::Cap;
 use std::alloc::{AllocError, Global};
 use std::marker::Model;
 
@@ -102,7 +102,7 @@ pub(crate) fn follow_session(
     ensures comes { IfOk result (λ prepared. ComesTo (followed cap.entries names (the_labelled labelled)) (the_plan prepared)) }
     ensures fits { IfOk result (FitsKind a_follow) }
 {
-    let following = Following::start(alloc, labelled, names, cap.entries)?;
+    let following = Following::start(alloc, labelled, names, cap)?;
     let opening = opening(alloc, following.verdict(), cap.entries)?;
     Ok(Prepared::Follows {
         opening,

@@ -20,9 +20,9 @@ use cstn_check::{Judged, judge, yes_line};
 use cstn_documents::NamedNetwork;
 use cstn_exec::print_names;
 use cstn_host::HostSession;
+use cstn_log::Cap;
 use cstn_plan::SoundPlan;
 use cstn_text::Names;
-use cstn_words::Cap;
 use std::alloc::{AllocError, Global};
 
 // The lines that say yes, the plans and the printed names of the networks that were checked so far.
@@ -78,7 +78,7 @@ pub(crate) fn host_session(
     };
     for document in documents {
         let NamedNetwork { network, names } = document;
-        match judge(alloc, network, &names, cap.entries)? {
+        match judge(alloc, network, &names, cap)? {
             Judged::Yes { load, check } => {
                 begun.add(alloc, load, check.into_plan(), &names)?;
             }

@@ -12,7 +12,8 @@ use cstn_documents::{
     NamedLabelled, NamedNetwork, Unread, open, open_labelled, open_lowered, read_text,
 };
 use cstn_io::Shelf;
-use cstn_words::{Cap, Request};
+use cstn_log::Cap;
+use cstn_words::{Release, Request};
 use std::alloc::Global;
 
 /// A request with what was read of its files. A network is that of a document without labels on its time-points, or the one that
@@ -69,6 +70,7 @@ pub(crate) enum Question {
         documents: Vec<NamedNetwork>,
         cap: Cap,
     },
+    Version(Release),
 }
 
 /// Reads what a request names, one file after another: none is read where an earlier one is refused. Fails where one is refused,
@@ -150,5 +152,6 @@ pub(crate) fn ask<F: Shelf>(
             let documents = open_all(alloc, files.names, deadline, shelf)?;
             Ok(Question::Host { documents, cap })
         }
+        Request::Version(release) => Ok(Question::Version(release)),
     }
 }

@@ -17,9 +17,9 @@ use super::Prepared;
 use cstn_check::{Check, Judged, judge, yes_line};
 use cstn_exec::Guide;
 use cstn_lift::{Labelled, Labels};
+use cstn_log::Cap;
 use cstn_run::RunSession;
 use cstn_text::Names;
-use cstn_words::Cap;
 use std::alloc::{AllocError, Global};
 
 /// What is said of a labelled network: the verdict on the network that it is lowered to, and after yes the session that carries
@@ -35,7 +35,7 @@ pub(crate) fn run_session(
     ensures fits { IfOk result (FitsKind a_run) }
 {
     let (network, labels) = labelled.split();
-    match judge(alloc, network, names, cap.entries)? {
+    match judge(alloc, network, names, cap)? {
         Judged::Yes { load, check } => begin(alloc, load, check, labels, names, cap),
         Judged::Told(said) => Ok(Prepared::Says(said)),
     }

@@ -17,6 +17,7 @@ use Rattle.cstn_top.specs.commands.Treecheck.{tree_checked}
 use Rattle.cstn_top.specs.commands.Edit.{edited}
 use Rattle.cstn_top.specs.commands.Save.{saved}
 use Rattle.cstn_top.specs.commands.Drill.{drilled}
+use Rattle.cstn_top.specs.commands.Version.{versioned}
 use Rattle.cstn_top.specs.Prepared.{the_plan, FitsKind}
 use Rattle.cstn_top.specs.Questions.{IsSoundQuestion, the_question, kind_of}
 use Rattle.cstn_replay.specs.Texts.{IsReplayOf}
@@ -110,3 +111,8 @@ pub returns-in_ok-said-in-Drill-clause-comes : goal.returns-in_ok-said-in-Drill-
 returns-in_ok-said-in-Drill-clause-comes c =
     subst (λ (q : Question). ComesTo (the_question q) (says (the_said c.in_ok-said-in-Drill.said))) (sym c.in-Drill.is)
     (comes_same (says (drilled c.in-Drill.number)) (says (the_said c.in_ok-said-in-Drill.said)) (ap says c.in_ok-said-in-Drill.ensures.said))
+
+pub returns-in_ok-said-in-Version-clause-comes : goal.returns-in_ok-said-in-Version-clause-comes
+returns-in_ok-said-in-Version-clause-comes c =
+    subst (λ (q : Question). ComesTo (the_question q) (says (the_said c.in_ok-said-in-Version.said))) (sym c.in-Version.is)
+    (comes_same (says (versioned c.in-Version.release)) (says (the_said c.in_ok-said-in-Version.said)) (ap says c.in_ok-said-in-Version.ensures.said))

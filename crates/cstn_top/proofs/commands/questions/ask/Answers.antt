@@ -23,10 +23,11 @@ use Rattle.cstn_top.specs.commands.Follow.{followed}
 use Rattle.cstn_top.specs.commands.Save.{saved}
 use Rattle.cstn_top.specs.Questions.{Asks, TellsInstead, kind_at}
 use Rattle.cstn_top.specs.Command.{a_text, a_run, an_edit, a_follow, a_host}
-use Rattle.cstn_top.specs.declared.commands.questions.Question.TheVariants.{Check, Closed, Tight, Conflict, Tree, Edit, Follow, Run, Save, Replay, Closedcheck, Treecheck, Drill, Host}
+use Rattle.cstn_top.specs.declared.commands.questions.Question.TheVariants.{Check, Closed, Tight, Conflict, Tree, Edit, Follow, Run, Save, Replay, Closedcheck, Treecheck, Drill, Host, Version}
 use Rattle.cstn_top.proofs.Opening.{of_check, of_closed, of_tight, of_conflict, of_tree, of_edit, of_follow, of_run, of_save, of_replay, of_closedcheck, of_treecheck, plain_asked, lowered_asked, labelled_asked, refused_told, plainly_told, lowered_with_text, plain_with_text, refused_before_text, plainly_before_text, long_after_lowered, long_after_plain}
 use Rattle.cstn_top.proofs.FollowedDocuments.{labelled_ids}
 use Rattle.cstn_top.proofs.Drills.{drill_asked}
+use Rattle.cstn_top.proofs.records.Version.{version_asked}
 use Rattle.cstn_top.proofs.Hosted.{host_asked}
 use Rattle.cstn_top.proofs.Hosts.{host_told}
 use Rattle.cstn_top.proofs.commands.questions.ask.Goals as goal
@@ -292,3 +293,11 @@ returns-in_err-documents-in-Host-clause-refused g c said e =
     let told : IsErrAnd c.from_residual-in_err-documents-in-Host.result (λ x. x ≡ c.in_err-documents-in-Host.field-0.0) = c.from_residual-in_err-documents-in-Host.ensures.1 in
     subst (λ (r : Request). TellsInstead (the_request r) (g.F.Shelf.files c.args.shelf.now) said) (sym c.in-Host.is)
     (host_told (g.F.Shelf.files c.args.shelf.now) c.in-Host.cap.entries c.in-Host.deadline (map string_bytes c.in-Host.files.names.now) said (c.in_err-documents-in-Host.ensures.refused said (ap Err (handed_on c.from_residual-in_err-documents-in-Host.result c.in_err-documents-in-Host.field-0.0 (Told said) told e))))
+
+pub returns-in-Version-clause-asks : goal.returns-in-Version-clause-asks
+returns-in-Version-clause-asks g c =
+    subst (λ (r : Request). Asks (the_request r) (g.F.Shelf.files c.args.shelf.now) (Version c.in-Version.release)) (sym c.in-Version.is) (version_asked c.in-Version.release (g.F.Shelf.files c.args.shelf.now))
+
+pub returns-in-Version-clause-kind : goal.returns-in-Version-clause-kind
+returns-in-Version-clause-kind g c =
+    subst (λ (r : Request). a_text ≡ kind_at (the_request r)) (sym c.in-Version.is) refl

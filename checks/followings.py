@@ -1,7 +1,7 @@
-"""Sessions that follow a plan, which bench/hostile holds: what is typed, what is answered, and how they end.
+"""Sessions that follow a plan, which checks/hostile holds: what is typed, what is answered, and how they end.
 
 A session is said as it is typed, stopped at each of its lines and begun again, and torn in the middle of each. What is left after
-each line is written as a document, and checked. Sessions over drawn plans are in continuations.py.
+each line is written as a document, and checked. Sessions over drawn plans are in deciders/continuations.py.
 """
 import os
 import subprocess

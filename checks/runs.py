@@ -1,4 +1,4 @@
-"""What the scripts of this folder share that run the built program: documents, calls of the program, and the count of cases.
+"""What the scripts of checks/ and deciders/ share: documents, calls of the built program, and the count of cases.
 
 Each is called as NAME [PROGRAM]; PROGRAM is crates/cstn/out/cstn where none is named.
 """
@@ -128,7 +128,7 @@ def carried_out(words, outcomes, observers, reactions):
 
 
 # Of each example the further words, how many time-points it has, and the least deadline with which it can be carried out: of the small
-# ones as added up by hand, of the workflow, which is a no, by bench/tables.py alone.
+# ones as added up by hand, of the workflow, which is a no, by deciders/tables.py alone.
 EXAMPLES = {
     "business-process.graphml": ([], 6, 11),
     "clinical-pathway.graphml": ([], 5, 195),

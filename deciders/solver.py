@@ -1,12 +1,12 @@
 #!/usr/bin/env -S python3 -B
 """A second opinion on `check`, `tight` and `run` by a program of others: the solver z3, asked for a table as the definition has it.
 
-    bench/solver.py [PROGRAM [FIRST [COUNT]]]        PROGRAM, which has to be there, is crates/cstn/out/cstn where none is named
+    deciders/solver.py [PROGRAM [FIRST [COUNT]]]        PROGRAM, which has to be there, is crates/cstn/out/cstn where none is named
 
 z3 is called by the name in Z3, or as `z3`. Of each drawn plan it gets the definition of a strategy in docs/definitions.md, written out as
 SMT-LIB: a moment for each time-point that is executed, in each case, within its limit; each constraint in force is met; and where a
 case agrees with another in what is known at a moment, who has that moment in the one has it in the other. It says whether there is such
-a table, and, asked by halves, how early each moment may be in one. The program is compared as by bench/games.py; so are the small
+a table, and, asked by halves, how early each moment may be in one. The program is compared as by deciders/games.py; so are the small
 examples. No other script calls this one, since z3 need not be there.
 """
 import itertools
@@ -14,6 +14,8 @@ import os
 import random
 import subprocess
 import sys
+
+sys.path.append(os.path.join(os.path.dirname(os.path.dirname(os.path.abspath(__file__))), "checks"))
 
 from continuations import Constraint, Plan
 from games import decided, drawn_plan

@@ -1,7 +1,7 @@
 #!/usr/bin/env -S python3 -B
 """A second opinion on `check` and `run`, from docs/definitions.md alone: small drawn plans are played in every way.
 
-    bench/games.py [PROGRAM [FIRST [COUNT]]]        PROGRAM, which has to be there, is crates/cstn/out/cstn where none is named
+    deciders/games.py [PROGRAM [FIRST [COUNT]]]        PROGRAM, which has to be there, is crates/cstn/out/cstn where none is named
 
 A plan is played tick by tick. At each tick some time-points are executed whose labels hold by what is known, and then each outcome
 whose reaction is over comes out as it likes. A play is won where in the end all is executed that should be, and each constraint in
@@ -11,17 +11,20 @@ choices that win. This knows no bound and no rule, and raises no moments: it goe
 The program is to say yes of just these plans, and to name each time-point at its least moment in each case. The greatest of these is
 to be the least deadline, and the program is asked again with one tick less. Plans that observe nothing are drawn larger, and decided by
 Bellman and Ford: yes where no loop of constraints, the limits among them, is negative. What is drawn goes by a number, from FIRST on.
-bench/hostile has the first ones.
+checks/hostile has the first ones.
 """
 import dataclasses
 import itertools
+import os
 import random
 import sys
+
+sys.path.append(os.path.join(os.path.dirname(os.path.dirname(os.path.abspath(__file__))), "checks"))
 
 from continuations import Constraint, Plan, drawn_label, joined
 from runs import BAD, GOOD, NAME, carried_out, check, count, first_line, run
 
-# How many plans bench/hostile plays, and how many are played where no number is said; of each five one more observes nothing.
+# How many plans checks/hostile plays, and how many are played where no number is said; of each five one more observes nothing.
 FEW, MANY = 15, 150
 
 # Of a drawn plan the time-points besides the origin, the letters, and the greatest deadline.
