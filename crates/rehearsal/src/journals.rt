@@ -28,6 +28,7 @@ use cstn_follow::{BlameError, WaitError, blame, by};
 use cstn_history::{FactError, History, completed, rest, rest_decides, rest_is_labelled};
 use cstn_label::NodeId;
 use cstn_lift::Labelled;
+use cstn_log::Cap;
 use cstn_net::Network;
 use cstn_next::next;
 use cstn_plan::SoundPlan;
@@ -88,7 +89,7 @@ impl Journal {
     /// is left has more than 16,384 constraints.
     pub fn outlook(&self, alloc: Global) -> anyhow::Result<Outlook>
         ensures right { IfOk result (IsRight (the_labelled self.now.network) (the_history self.now.history)) }
-        ensures unknown { IfOk result (λ outlook. outlook ≡ Outlook.Unknown ↔ (CAP.entries < load_of (lowered (left self.now)))) }
+        ensures unknown { IfOk result (λ outlook. outlook ≡ Outlook.Unknown ↔ (CAP < load_of (lowered (left self.now)))) }
     {
         let mut check = self.check_left(alloc)?;
         match check.run() {
@@ -108,7 +109,7 @@ impl Journal {
     pub fn latest(&self, alloc: Global, x: NodeId) -> anyhow::Result<Latest>
         ensures right { IfOk result (IsRightLatest (the_labelled self.now.network) (the_history self.now.history) x.0) }
         ensures unknown { IfOk result (λ latest. latest ≡ Latest.Unknown
-            ↔ (IsToCome (the_labelled self.now.network) (the_history self.now.history) x.0 × IsWaitUnknown CAP.entries self.now x.0)) }
+            ↔ (IsToCome (the_labelled self.now.network) (the_history self.now.history) x.0 × IsWaitUnknown CAP self.now x.0)) }
     {
         rest_is_labelled();
         if x.0 >= self.network.base().count() {
@@ -128,7 +129,7 @@ impl Journal {
     fn latest_to_come(&self, alloc: Global, x: NodeId) -> anyhow::Result<Latest>
         requires to_come { IsToCome (the_labelled self.now.network) (the_history self.now.history) x.0 }
         ensures right { IfOk result (IsRightLatest (the_labelled self.now.network) (the_history self.now.history) x.0) }
-        ensures unknown { IfOk result (λ latest. latest ≡ Latest.Unknown ↔ IsWaitUnknown CAP.entries self.now x.0) }
+        ensures unknown { IfOk result (λ latest. latest ≡ Latest.Unknown ↔ IsWaitUnknown CAP self.now x.0) }
     {
         let mut check = self.check_left(alloc)?;
         match check.run() {
@@ -144,10 +145,11 @@ impl Journal {
         requires can { Can (the_labelled self.now.network) (the_history self.now.history) }
         ensures right { IfOk result (IsRightLatest (the_labelled self.now.network) (the_history self.now.history) x.0) }
         ensures unknown { IfOk result (λ latest. latest ≡ Latest.Unknown
-            ↔ (waits_until (the_labelled self.now.network) (the_history self.now.history) FRESH x.0 CAP.entries ≡ None)) }
+            ↔ (waits_until (the_labelled self.now.network) (the_history self.now.history) FRESH x.0 CAP ≡ None)) }
     {
         self.network.base();
-        match by(alloc, &self.network, &self.history, FRESH, x, CAP) {
+        let cap = Cap { entries: CAP };
+        match by(alloc, &self.network, &self.history, FRESH, x, cap) {
             Ok(moment) => Ok(Latest::Until(moment)),
             Err(WaitError::Full) => Ok(Latest::Unknown),
             Err(error) => Err(error.into()),
@@ -158,7 +160,7 @@ impl Journal {
     /// where a check on the way derives more than `CAP` bounds. Fails as `outlook` does.
     pub fn blame(&self, alloc: Global) -> anyhow::Result<Blame>
         ensures right { IfOk result (IsRightBlame (the_labelled self.now.network) (the_history self.now.history)) }
-        ensures unknown { IfOk result (λ blame. blame ≡ Blame.Unknown ↔ IsBlameUnknown CAP.entries self.now) }
+        ensures unknown { IfOk result (λ blame. blame ≡ Blame.Unknown ↔ IsBlameUnknown CAP self.now) }
     {
         let mut check = self.check_left(alloc)?;
         match check.run() {
@@ -174,9 +176,10 @@ impl Journal {
         requires cannot { Can (the_labelled self.now.network) (the_history self.now.history) → ⊥ }
         ensures right { IfOk result (IsRightBlame (the_labelled self.now.network) (the_history self.now.history)) }
         ensures unknown { IfOk result (λ b. b ≡ Blame.Unknown
-            ↔ (blamed (the_labelled self.now.network) (the_history self.now.history) FRESH CAP.entries ≡ None)) }
+            ↔ (blamed (the_labelled self.now.network) (the_history self.now.history) FRESH CAP ≡ None)) }
     {
-        match blame(alloc, &self.network, &self.history, FRESH, CAP) {
+        let cap = Cap { entries: CAP };
+        match blame(alloc, &self.network, &self.history, FRESH, cap) {
             Ok(ids) => Ok(Blame::Constraints(ids)),
             Err(BlameError::Full) => Ok(Blame::Unknown),
             Err(BlameError::Memory(e)) => Err(e),
@@ -190,13 +193,13 @@ impl Journal {
         ensures left { IfOk result (λ check. the_network check.net ≡ lowered (left self.now)) }
         ensures labelled { IfOk result (λ _. IsLabelled (left self.now)) }
         ensures room { IfOk result (λ _. HasRoom (left self.now)) }
-        ensures cap { IfOk result (λ check. check.cap ≡ CAP.entries) }
+        ensures cap { IfOk result (λ check. check.cap ≡ CAP) }
     {
         rest_decides();
         self.network.base();
         let left = rest(alloc, &self.network, &self.history, FRESH)?;
         let (net, _) = left.split();
-        Ok(Check::start(alloc, net, CAP)?)
+        Ok(Check::start(alloc, net, Cap { entries: CAP })?)
     }
 
     // What is next by a plan of what is left.

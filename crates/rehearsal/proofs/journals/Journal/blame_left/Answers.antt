@@ -28,7 +28,7 @@ returns-in-Ok-clause-right c =
 
 pub returns-in-Ok-clause-unknown : goal.returns-in-Ok-clause-unknown
 returns-in-Ok-clause-unknown c =
-    let some = subst (λ (j : JournalParts). blamed (the_labelled j.network) (the_history j.history) 4294000000 CAP.entries ≡ Some c.in-Ok.ids.items) c.self.view_is
+    let some = subst (λ (j : JournalParts). blamed (the_labelled j.network) (the_history j.history) 4294000000 CAP ≡ Some c.in-Ok.ids.items) c.self.view_is
     c.in-Ok.ensures.blamed in (
       (λ is. let f : ⊥ = cc in absurd f),
       (λ none. let f : ⊥ = cc (sym none ∙ some) in absurd f),
@@ -36,6 +36,6 @@ returns-in-Ok-clause-unknown c =
 
 pub returns-in-Err-Full-clause-unknown : goal.returns-in-Err-Full-clause-unknown
 returns-in-Err-Full-clause-unknown c =
-    let none = subst (λ (j : JournalParts). blamed (the_labelled j.network) (the_history j.history) 4294000000 CAP.entries ≡ None) c.self.view_is
+    let none = subst (λ (j : JournalParts). blamed (the_labelled j.network) (the_history j.history) 4294000000 CAP ≡ None) c.self.view_is
     (c.blame.ensures.full (c.in-Err-Full.is ∙ ap (λ d. Err d) c.in-Err-Full.field-0-is)) in
     ((λ is. none), (λ is. refl))

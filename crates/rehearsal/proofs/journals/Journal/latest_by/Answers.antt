@@ -35,7 +35,7 @@ returns-in-Ok-clause-right c = (
 
 pub returns-in-Ok-clause-unknown : goal.returns-in-Ok-clause-unknown
 returns-in-Ok-clause-unknown c =
-    let some = subst (λ (j : JournalParts). waits_until (the_labelled j.network) (the_history j.history) 4294000000 c.args.x.0 CAP.entries ≡ Some c.in-Ok.moment)
+    let some = subst (λ (j : JournalParts). waits_until (the_labelled j.network) (the_history j.history) 4294000000 c.args.x.0 CAP ≡ Some c.in-Ok.moment)
     c.self.view_is c.in-Ok.ensures.until in (
       (λ is. let f : ⊥ = cc in absurd f),
       (λ none. let f : ⊥ = cc (sym none ∙ some) in absurd f),
@@ -43,6 +43,6 @@ returns-in-Ok-clause-unknown c =
 
 pub returns-in-Err-Full-clause-unknown : goal.returns-in-Err-Full-clause-unknown
 returns-in-Err-Full-clause-unknown c =
-    let none = subst (λ (j : JournalParts). waits_until (the_labelled j.network) (the_history j.history) 4294000000 c.args.x.0 CAP.entries ≡ None) c.self.view_is
+    let none = subst (λ (j : JournalParts). waits_until (the_labelled j.network) (the_history j.history) 4294000000 c.args.x.0 CAP ≡ None) c.self.view_is
     (c.by.ensures.full (c.in-Err-Full.is ∙ ap (λ d. Err d) c.in-Err-Full.field-0-is)).1 in
     ((λ is. none), (λ is. refl))
