@@ -9,7 +9,7 @@ use Rattle.cstn_rules.specs.Read.{the_entry}
 use Rattle.cstn_log.specs.Entries.{State, the_entries, bases}
 use Rattle.cstn_log.proofs.DerivedLemmas.{length_bases}
 use Rattle.cstn_check.specs.Growth.{is_refuted, grow, log_of, load_of}
-use Rattle.cstn_check.specs.Turns.{IsRefutedLast, LastRefutes}
+use Rattle.cstn_check.specs.Turns.{IsRefutedLast, LastRefutes, IsGrowable}
 use Rattle.cstn_check.specs.Checks.{IsStarted, IsVerdict}
 use Rattle.cstn_check.specs.declared.growth.Grown.{Grown}
 use Rattle.cstn_check.specs.declared.growth.Grown.TheVariants.{Closed, Refuted, Full}
@@ -41,15 +41,19 @@ module _ (net : Network) (s : State) (good : IsWellFormed net) (started : IsStar
     | inr large ↦ ltb-false s.cap (count net) large
   ]
 
-  pub bases_begin : (length s.entries ≡ 0 → ⊥) → (more : List Entry) × (bases (count net) ++ more ≡ the_entries s.entries)
-  bases_begin some = ([], append-nil (bases (count net)) ∙ sym (has_bases some))
-
-  pub start_derived : (length s.entries ≡ 0 → ⊥) → IsDerivation net (the_entries s.entries)
-  start_derived some =
-      subst (λ l. IsDerivation net l) (sym (has_bases some)) (bases_derived net good.network good.letters (count net) (omega arith))
-
-  pub start_last : (length s.entries ≡ 0 → ⊥) → IsRefutedLast net (the_entries s.entries)
-  start_last some = subst (λ l. IsRefutedLast net l) (sym (has_bases some)) (bases_stand net)
+  -- and it can be grown
+  pub start_growable : (length s.entries ≡ 0 → ⊥) → IsGrowable net s
+  start_growable some =
+      let has = has_bases some in
+      let few = good.few_points in
+      let born = started.births in
+      record {
+        nodes = started.nodes;
+        derivation = subst (λ l. IsDerivation net l) (sym has) (bases_derived net good.network good.letters (count net) (omega arith));
+        front = ([], append-nil (bases (count net)) ∙ sym has);
+        last = subst (λ l. IsRefutedLast net l) (sym has) (bases_stand net);
+        births = omega (arith, few, born);
+      }
 
   -- where the log has no room for the base bounds, the log of the network has more entries than the cap
   pub no_room : length s.entries ≡ 0 → IsVerdict net s.cap (the_entries s.entries) FullVerdict

@@ -1,8 +1,8 @@
 -- Growth has at most as many entries as there are bounds.
-use Rattle.std.proofs.Common.{ℕ, zero, suc, ◌≡◌, inl, inr, ◌+◌, ◌*◌, ◌^◌, ◌/◌, ◌%◌, ◌<◌, ◌≤◌, true, false, ◌&&◌, List, [], ◌∷◌, length, map, Option, Some, None, eqb, arith, refl, sym, subst, ap, ◌∙◌, length-append}
+use Rattle.std.proofs.Common.{ℕ, zero, suc, ◌≡◌, inl, inr, ◌+◌, ◌*◌, ◌^◌, ◌<◌, ◌≤◌, true, false, ◌&&◌, List, [], ◌∷◌, length, map, Option, Some, None, eqb, arith, refl, sym, subst, ap, ◌∙◌, length-append}
 use Rattle.std.specs.Prelude.{ℤ, pos, negsuc, ◌-ℤ◌, ◌+ℤ◌, ◌≤ℤ◌, slice_get, slice_index_or}
 use Rattle.std.specs.Int.{int_min}
-use Rattle.std.proofs.Math.Arith.{digits_lt, digits_div, digits_mod}
+use Rattle.std.proofs.Math.Arith.{digits_lt}
 use Rattle.std.proofs.Math.Nat.{pow-suc}
 use Rattle.std.proofs.lemmas.Int.{ints, clamps, by_lt_z}
 use Rattle.std.proofs.lemmas.Bool.{cases_Bool, cases_lt, cond-true, cond-false, or_left, or_right, false≢true}
@@ -11,6 +11,7 @@ use Rattle.std.specs.List.{IsDistinct, AllByRecursion, list_any}
 use Rattle.std.proofs.lemmas.List.{length-map}
 use Rattle.std.proofs.lemmas.Map.Steps.{length-le_from_distinct_below}
 use Rattle.std.proofs.lemmas.Bool.{ne_eqb, eqb-true, or_cases}
+use Rattle.std.proofs.lemmas.Nat.{same_from_place}
 use Rattle.cstn_label.specs.declared.marks.Mark.{Mark}
 use Rattle.cstn_label.specs.Labels.{Label, IsMarkWithin, joined, without, empty}
 use Rattle.cstn_label.specs.declared.marks.Mark.TheVariants.{Absent, Yes, No, Unknown}
@@ -21,16 +22,18 @@ use Rattle.cstn_label.specs.Marks.{is_absent, is_plain}
 use Rattle.cstn_rules.specs.Rules.{finished}
 use Rattle.cstn_rules.specs.Derivations.{Entry}
 use Rattle.cstn_check.specs.Kept.{AllGood, IsBoundOf, IsKept, IsRanged}
-use Rattle.cstn_plan.proofs.FinishLemmas.{limit_deadline}
-use Rattle.cstn_check.specs.Tests.{dominates, chain_of, wait_for as wait_by, wait_of}
+use Rattle.cstn_rules.specs.Tests.{chain_of, wait_for as wait_by, wait_of}
+use Rattle.cstn_label.specs.Tests.{dominates}
 use Rattle.cstn_check.specs.Growth.{Instance, why_of, is_covered, is_refuted, of_one, of_two, conclusion, grown, log_of, observed, most_entries}
 use Rattle.cstn_log.specs.Entries.{bases}
 use Rattle.cstn_check.proofs.Decided.{HasLetters, dominates_true}
 use Rattle.cstn_check.specs.Growth.Instance.{chain_at, wait_at}
-use Rattle.cstn_check.proofs.Lists.{Extends, get_kept, covered_kept, covered_by, dominates_through}
+use Rattle.cstn_check.proofs.Lists.{Extends, get_kept, covered_kept, covered_by}
 use Rattle.cstn_check.proofs.GoodLemmas.{good_at, good_small, good_more, bases_good, conclusion_good}
 use Rattle.cstn_check.proofs.Derives.{OfNetwork, with_entry, grown_keeps, get_last}
 use Rattle.cstn_check.proofs.Closes.{bases_cover}
+use Rattle.cstn_net.proofs.Kept.{limit_upto}
+use Rattle.cstn_label.proofs.BoundLemmas.{dominates_through}
 
 -- ---- a number for each bound
 
@@ -74,11 +77,6 @@ label_code_lt a [] = omega arith
 label_code_lt a (None ∷ os) = label_code_lt a os
 label_code_lt a (Some p ∷ os) = rw pow-suc (digits_lt (label_code_lt a os) (digit_lt (a p)))
 
--- two equal numbers have the same quotient and remainder
-parts_same : (q r s t c : ℕ) → r < c → t < c → q * c + r ≡ s * c + t → (q ≡ s) × (r ≡ t)
-parts_same q r s t c h k e =
-    (sym (digits_div q h) ∙ ap (λ n. n / c) e ∙ digits_div s k, sym (digits_mod q h) ∙ ap (λ n. n % c) e ∙ digits_mod s k)
-
 same_marks : (a b : Label) (os : List (Option ℕ)) → label_code a os ≡ label_code b os → (x p : ℕ) →
     slice_index_or os x None ≡ Some p → a p ≡ b p
 unfolding label_code
@@ -87,10 +85,10 @@ same_marks a b (None ∷ os) e zero p o = let f : ⊥ = cc in absurd f
 same_marks a b (None ∷ os) e (suc x) p o = same_marks a b os e x p o
 same_marks a b (Some q ∷ os) e zero p o =
     let same : q ≡ p = cc in
-    let parts = parts_same (label_code a os) (digit (a q)) (label_code b os) (digit (b q)) 4 (digit_lt (a q)) (digit_lt (b q)) e in
+    let parts = same_from_place (label_code a os) (digit (a q)) (label_code b os) (digit (b q)) 4 (digit_lt (a q)) (digit_lt (b q)) e in
     subst (λ r. a r ≡ b r) same (same_digit (a q) (b q) parts.1)
 same_marks a b (Some q ∷ os) e (suc x) p o =
-    let parts = parts_same (label_code a os) (digit (a q)) (label_code b os) (digit (b q)) 4 (digit_lt (a q)) (digit_lt (b q)) e in
+    let parts = same_from_place (label_code a os) (digit (a q)) (label_code b os) (digit (b q)) 4 (digit_lt (a q)) (digit_lt (b q)) e in
     same_marks a b os parts.0 x p o
 
 moment : ℤ → ℕ
@@ -109,7 +107,7 @@ moment_lt : (net : Network) (b : Bound) → IsRanged net b → moment b.least < 
 moment_lt net b r =
     let e = moment_is b.least r.low in
     let h = r.high in
-    let l = limit_deadline net b.node in
+    let l = limit_upto net b.node in
     let m : pos (moment b.least) ≤ℤ pos (limit net b.node + 1) = subst (λ z. z ≤ℤ pos (limit net b.node + 1)) (sym e) h in
     omega (arith, ints)
 
@@ -124,10 +122,10 @@ same_within m n e = grind arith
 code_dominates : (net : Network) (a b : Bound) → IsBoundOf net a → IsRanged net a → IsRanged net b → code net a ≡ code net b → Dominates a b
 unfolding code
 code_dominates net a b good r t e =
-    let one = parts_same (a.node * (net.deadline + 2) + moment a.least) (label_code a.label net.observes)
+    let one = same_from_place (a.node * (net.deadline + 2) + moment a.least) (label_code a.label net.observes)
     (b.node * (net.deadline + 2) + moment b.least) (label_code b.label net.observes) (4 ^ observed net.observes)
     (label_code_lt a.label net.observes) (label_code_lt b.label net.observes) e in
-    let two = parts_same a.node (moment a.least) b.node (moment b.least) (net.deadline + 2) (moment_lt net a r) (moment_lt net b t) one.0 in
+    let two = same_from_place a.node (moment a.least) b.node (moment b.least) (net.deadline + 2) (moment_lt net a r) (moment_lt net b t) one.0 in
     let least_a = moment_is a.least r.low in
     let least_b = moment_is b.least t.low in
     let same : a.least ≡ b.least = sym least_a ∙ ap (λ n. pos n) two.1 ∙ least_b in

@@ -12,7 +12,7 @@ use Rattle.cstn_net.specs.Read.{the_constraint}
 use Rattle.cstn_rules.specs.Derivations.{Entry}
 use Rattle.cstn_rules.specs.Rules.{finished, carried}
 use Rattle.cstn_log.specs.Entries.{State, the_entries}
-use Rattle.cstn_check.specs.Tests.{chain_of}
+use Rattle.cstn_rules.specs.Tests.{chain_of}
 use Rattle.cstn_check.specs.Growth.{Instance, is_refuted, of_one, step, tried, chains_at}
 use Rattle.cstn_check.specs.Growth.Instance.{chain_at}
 use Rattle.cstn_check.specs.Turns.{IsTaken}

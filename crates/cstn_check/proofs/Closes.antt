@@ -13,14 +13,16 @@ use Rattle.cstn_rules.specs.Derivations.{Entry}
 use Rattle.cstn_rules.specs.declared.entries.Why.TheVariants.{Base}
 use Rattle.cstn_rules.specs.Closed.{IsCovered, IsClosed}
 use Rattle.cstn_check.specs.Kept.{AllGood, IsBoundOf}
-use Rattle.cstn_check.specs.Tests.{dominates, refutes, chain_of, wait_of}
+use Rattle.cstn_rules.specs.Tests.{refutes, chain_of, wait_of}
+use Rattle.cstn_label.specs.Tests.{dominates}
 use Rattle.cstn_check.specs.Growth.{is_covered, is_live, is_refuted, of_one, of_two, conclusion, waits_below, grown, live_bounds}
 use Rattle.cstn_log.specs.Entries.{bases}
-use Rattle.cstn_check.proofs.Decided.{HasLetters, Small, chain_gives, wait_gives, refutes_true}
+use Rattle.cstn_check.proofs.Decided.{HasLetters, chain_gives, wait_gives, refutes_true}
 use Rattle.cstn_check.specs.Growth.Instance.{chain_at, wait_at}
 use Rattle.cstn_check.proofs.Lists.{covered_kept, itself_true, live_over, live_listed, listed_live}
 use Rattle.cstn_check.proofs.Grows.{Has, has_left, has_right, grown_extends, all_spent}
 use Rattle.cstn_check.proofs.GoodLemmas.{good_at, good_small, grown_good}
+use Rattle.cstn_label.specs.OnLetters.{IsOnLetters}
 
 pub has_chain : (cs : List Constraint) (c : Constraint) (k j : ℕ) → k < length cs → get_or cs k c ≡ c →
     Has (map (λ d. chain_at d j) cs) (chain_at c j)
@@ -65,7 +67,7 @@ module _ (net : Network) (start : List Entry) (n : ℕ) (wf : IsNetwork net) (le
   good : AllGood net (grown net start n)
   good = grown_good net start n wf good_start
 
-  small : (k : ℕ) (e : Entry) → slice_get (grown net start n) k ≡ Some e → Small e.bound.label
+  small : (k : ℕ) (e : Entry) → slice_get (grown net start n) k ≡ Some e → IsOnLetters e.bound.label
   small k e there = good_small net e.bound letters (good_at net (grown net start n) k e good there)
 
   -- what is covered is covered by a live bound

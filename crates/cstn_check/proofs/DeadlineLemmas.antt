@@ -3,9 +3,10 @@ use Rattle.std.proofs.Common.{ℕ, zero, suc, ◌≡◌, ◌⊎◌, inl, inr, �
 use Rattle.std.specs.Prelude.{ℤ, pos, ◌≤ℤ◌, ◌<ℤ◌, int_lt, slice_get, slice_index_or, ◌↔◌}
 use Rattle.std.specs.Int.{int_min}
 use Rattle.std.proofs.lemmas.Int.{ints, clamps}
-use Rattle.std.proofs.lemmas.Bool.{cases_Bool, and_parts, and_from, and_right, cond-true, cond-false, lt-ltb, or_left, or_right, or_parts, both_ways, eqb-true, not-true}
+use Rattle.std.proofs.lemmas.Bool.{cases_Bool, and_parts, and_from, and_right, cond-true, cond-false, lt-ltb, or_left, or_right, or_parts, both_ways, eqb-true, not-true, or_from}
 use Rattle.std.proofs.lemmas.List.Elements.{All-contains}
 use Rattle.std.proofs.lemmas.List.Folds.{list_any-append}
+use Rattle.cstn_facts.proofs.Integers.{int_lt-true, int_lt-false, le-int_lt, lt-int_lt}
 use Rattle.cstn_label.specs.declared.marks.Mark.TheVariants.{Absent}
 use Rattle.cstn_label.specs.Marks.{is_absent, is_mark_plain, is_plain, each_below}
 use Rattle.cstn_label.specs.Labels.{Label, joined, without}
@@ -17,7 +18,8 @@ use Rattle.cstn_rules.specs.Rules.{finished, carried, awaited, without_own}
 use Rattle.cstn_rules.specs.declared.entries.Why.{Why}
 use Rattle.cstn_rules.specs.Derivations.{Entry}
 use Rattle.cstn_log.specs.Entries.{bases}
-use Rattle.cstn_check.specs.Tests.{dominates, refutes, chain_of, wait_for as wait_by, wait_of, is_within}
+use Rattle.cstn_rules.specs.Tests.{refutes, chain_of, wait_for as wait_by, wait_of}
+use Rattle.cstn_label.specs.Tests.{dominates, is_within}
 use Rattle.cstn_check.specs.Growth.{Instance, why_of, is_covered, is_refuted, premises_live, of_one, of_two, conclusion, with_conclusion, step, tried, turn, grown, log_of, load_of}
 use Rattle.cstn_check.specs.Growth.Instance.{chain_at, wait_at}
 use Rattle.cstn_check.specs.Kept.{AllGood, IsBoundOf}
@@ -51,18 +53,6 @@ none_at net (x ∷ xs) zero e none there =
     let same : x ≡ e = cc in
     subst (λ y. is_late net y.bound ≡ false) same (or_parts (is_late net x.bound) (is_any_late net xs) none).0
 none_at net (x ∷ xs) (suc k) e none there = none_at net xs k e (or_parts (is_late net x.bound) (is_any_late net xs) none).1 there
-
-pub late_above : (a b : ℤ) → int_lt a b ≡ true → a <ℤ b
-late_above a b h = grind (arith, ints)
-
-pub early_upto : (a b : ℤ) → int_lt a b ≡ false → b ≤ℤ a
-early_upto a b h = grind (arith, ints)
-
-pub upto_early : (a b : ℤ) → b ≤ℤ a → int_lt a b ≡ false
-upto_early a b h = grind (arith, ints)
-
-pub above_late : (a b : ℤ) → a <ℤ b → int_lt a b ≡ true
-above_late a b h = grind (arith, ints)
 
 -- a later deadline has no lower limits
 limit_more : (net : Network) (h : ℕ) → h ≤ net.deadline → (x : ℕ) → limit (record net { deadline = h }) x ≤ limit net x
@@ -130,8 +120,8 @@ module _ (net : Network) (h : ℕ) (lower : h ≤ net.deadline) where
   -- wait gives no late bound from one that isn't late
   wait_early : (p : ℕ) (seen b : Bound) → is_late (at net h) b ≡ false → is_late (at net h) (finished net (awaited net p seen b)) ≡ true → ⊥
   wait_early p seen b early late =
-      let upto = early_upto (pos (limit (at net h) b.node)) b.least early in
-      let above = late_above (pos (limit (at net h) b.node)) (finished net (awaited net p seen b)).least late in
+      let upto = int_lt-false (pos (limit (at net h) b.node)) b.least early in
+      let above = int_lt-true (pos (limit (at net h) b.node)) (finished net (awaited net p seen b)).least late in
       omega (arith, ints, clamps)
 
   wait_alike : (o : Option ℕ) (seen b : Bound) → is_late (at net h) b ≡ false → Alike (at net h) (wait_by net o seen b) (wait_by (at net h) o seen b)
@@ -163,10 +153,6 @@ module _ (net : Network) (h : ℕ) (lower : h ≤ net.deadline) where
   conclusion_alike L (chain_at c j) early = one_alike c (slice_get L j)
   conclusion_alike L (wait_at i j) early = two_alike (slice_get L i) (slice_get L j) (λ e there. early_at (at net h) L j e early there)
 
--- a list without late entries doesn't cover a late bound, and isn't refuted
-or_none : (a b : Bool) → a ≡ false → b ≡ false → (a || b) ≡ false
-or_none a b e f = grind arith
-
 module _ (low : Network) where
   not_over : (a b : Bound) → is_late low a ≡ false → is_late low b ≡ true → dominates a b ≡ false
   not_over a b early late = elim (cases_Bool (dominates a b)) [
@@ -176,25 +162,25 @@ module _ (low : Network) where
         let two = and_parts (not (int_lt a.least b.least)) (is_within a.label b.label) one.1 in
         let node = eqb-true a.node b.node one.0 in
         let same : limit low a.node ≡ limit low b.node = ap (limit low) node in
-        let least = early_upto a.least b.least (not-true (int_lt a.least b.least) two.0) in
-        let upto = early_upto (pos (limit low a.node)) a.least early in
-        let above = late_above (pos (limit low b.node)) b.least late in
+        let least = int_lt-false a.least b.least (not-true (int_lt a.least b.least) two.0) in
+        let upto = int_lt-false (pos (limit low a.node)) a.least early in
+        let above = int_lt-true (pos (limit low b.node)) b.least late in
         absurd (omega (arith, ints))
   ]
 
   uncovered : (L : List Entry) (b : Bound) → AllEarly low L → is_late low b ≡ true → is_covered L b ≡ false
   uncovered [] b early late = refl
-  uncovered (x ∷ xs) b early late = or_none (dominates x.bound b) (is_covered xs b) (not_over x.bound b early.0 late) (uncovered xs b early.1 late)
+  uncovered (x ∷ xs) b early late = or_from (dominates x.bound b) (is_covered xs b) (not_over x.bound b early.0 late) (uncovered xs b early.1 late)
 
   stands : (net : Network) → ((x : ℕ) → limit low x ≤ limit net x) → (L : List Entry) → AllEarly low L → is_refuted net L ≡ false
   stands net more [] early = refl
   stands net more (x ∷ xs) early =
-      or_none (refutes net x.bound) (is_refuted net xs)
+      or_from (refutes net x.bound) (is_refuted net xs)
       (and_right (ltb x.bound.node (count net)) (is_plain x.bound.label && int_lt (pos (limit net x.bound.node)) x.bound.least)
       (and_right (is_plain x.bound.label) (int_lt (pos (limit net x.bound.node)) x.bound.least)
-      (let upto = early_upto (pos (limit low x.bound.node)) x.bound.least early.0 in
+      (let upto = int_lt-false (pos (limit low x.bound.node)) x.bound.least early.0 in
       let up = more x.bound.node in
-      upto_early (pos (limit net x.bound.node)) x.bound.least (omega (arith, ints)))))
+      le-int_lt (pos (limit net x.bound.node)) x.bound.least (omega (arith, ints)))))
       (stands net more xs early.1)
 
 -- the list is a front with no late entry, then a late one and more; the other list is the front with the late one cut, which
@@ -221,7 +207,7 @@ IsLower low list lower = IsSame low list lower ⊎ IsLonger low list lower
 cut_late : (low : Network) (r q : Bound) (why : Why) → IsCutOf low r q → is_late low r ≡ true →
     past_limit low (record { bound = r; why = why }) ≡ record { bound = q; why = why }
 cut_late low r q why c late =
-    let above = late_above (pos (limit low r.node)) r.least late in
+    let above = int_lt-true (pos (limit low r.node)) r.least late in
     let least : int_min r.least (pos (limit low r.node + 1)) ≡ pos (limit low r.node + 1) = to_limit r.least (limit low r.node) above in
     ap (λ (b : Bound). of_why b) (ap (λ (z : ℤ). of_least z) (sym least) ∙ sym c.cut)
   where
@@ -236,7 +222,7 @@ cut_late low r q why c late =
 
 cut_early : (low : Network) (r q : Bound) → IsCutOf low r q → is_late low r ≡ false → r ≡ q
 cut_early low r q c early =
-    let upto = early_upto (pos (limit low r.node)) r.least early in
+    let upto = int_lt-false (pos (limit low r.node)) r.least early in
     ap (λ (z : ℤ). of_least z) (sym (at_limit r.least (limit low r.node) upto)) ∙ sym c.cut
   where
     of_least : ℤ → Bound
@@ -248,8 +234,8 @@ cut_early low r q c early =
 -- a late bound that is cut is still late, and refutes where its label is plain
 cut_is_late : (low : Network) (r q : Bound) → IsCutOf low r q → is_late low r ≡ true → is_late low q ≡ true
 cut_is_late low r q c late =
-    let above = late_above (pos (limit low r.node)) r.least late in
-    subst (λ b. is_late low b ≡ true) (sym c.cut) (above_late (pos (limit low r.node)) (int_min r.least (pos (limit low r.node + 1))) (omega (arith, ints, clamps)))
+    let above = int_lt-true (pos (limit low r.node)) r.least late in
+    subst (λ b. is_late low b ≡ true) (sym c.cut) (lt-int_lt (pos (limit low r.node)) (int_min r.least (pos (limit low r.node + 1))) (omega (arith, ints, clamps)))
 
 cut_refutes : (low : Network) (r q : Bound) → IsCutOf low r q → is_late low r ≡ true → q.node < count low → refutes low q ≡ true
 cut_refutes low r q c late here =
@@ -361,7 +347,7 @@ module _ (net : Network) (h : ℕ) (lower : h ≤ net.deadline) where
 
 bases_early : (low : Network) (n : ℕ) → AllEarly low (bases n)
 bases_early low zero = tt
-bases_early low (suc n) = early_more low (bases n) _ (bases_early low n) (upto_early (pos (limit low n)) (pos 0) (omega (arith, ints)), tt)
+bases_early low (suc n) = early_more low (bases n) _ (bases_early low n) (le-int_lt (pos (limit low n)) (pos 0) (omega (arith, ints)), tt)
 
 -- the log at a lower deadline is that of the network up to the first late entry
 pub log_lower : (net : Network) (h : ℕ) → IsWellFormed net → h ≤ net.deadline → IsLower (at net h) (log_of net) (log_of (at net h))
@@ -398,7 +384,7 @@ log_upto net h good lower = elim (log_lower net h good lower) [
 
 pub none_late : (low : Network) (L : List Entry) → AllEarly low L → is_any_late low L ≡ false
 none_late low [] early = refl
-none_late low (x ∷ xs) early = or_none (is_late low x.bound) (is_any_late low xs) early.0 (none_late low xs early.1)
+none_late low (x ∷ xs) early = or_from (is_late low x.bound) (is_any_late low xs) early.0 (none_late low xs early.1)
 
 some_late : (low : Network) (L : List Entry) (e : Entry) (M : List Entry) → is_late low e.bound ≡ true → is_any_late low (L ++ e ∷ M) ≡ true
 some_late low L e M late =

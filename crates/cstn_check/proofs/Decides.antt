@@ -1,9 +1,9 @@
 -- The log decides whether there is a strategy.
 use Rattle.std.proofs.Common.{ℕ, suc, ◌≡◌, ◌+◌, ◌-◌, inl, inr, ◌<◌, ◌≤◌, true, false, ◌&&◌, List, [], ◌∷◌, length, Some, ltb, arith, refl, subst}
-use Rattle.std.specs.Prelude.{ℤ, pos, ◌<ℤ◌, int_lt, slice_get, ◌↔◌}
-use Rattle.std.proofs.lemmas.Int.{ints}
+use Rattle.std.specs.Prelude.{pos, int_lt, slice_get, ◌↔◌}
 use Rattle.std.proofs.lemmas.Bool.{cases_Bool, cases_lt, false≢true, or_cases, and_parts, ltb-true, not-true, not_from_false, both_ways}
 use Rattle.std.proofs.lemmas.Option.{slice_get_within}
+use Rattle.cstn_facts.proofs.Integers.{int_lt-true}
 use Rattle.cstn_label.specs.Marks.{is_plain}
 use Rattle.cstn_label.specs.Labels.{Scenario}
 use Rattle.cstn_net.specs.Networks.{Network, IsNetwork, IsWellFormed, count, limit}
@@ -19,31 +19,30 @@ use Rattle.cstn_check.specs.Kept.{IsKept}
 use Rattle.cstn_check.specs.Turns.{IsRefutedLast, LastRefutes}
 use Rattle.cstn_plan.specs.Asked.{AllSound, asked}
 use Rattle.cstn_plan.proofs.Strategies.{asked_strategy, asked_least}
-use Rattle.cstn_check.specs.Tests.{refutes}
+use Rattle.cstn_rules.specs.Tests.{refutes}
 use Rattle.cstn_check.specs.Verdicts.{is_consistent}
 use Rattle.cstn_check.specs.Growth.{is_refuted, live_bounds, log_of, load_of, grown, grow, most_entries}
 use Rattle.cstn_log.specs.Entries.{bases}
 use Rattle.cstn_label.proofs.PlainLabels.{true_plain}
-use Rattle.cstn_check.proofs.Decided.{HasLetters, Small}
-use Rattle.cstn_check.proofs.Lists.{AreSmall, listed_live}
+use Rattle.cstn_check.proofs.Decided.{HasLetters}
+use Rattle.cstn_check.proofs.Lists.{listed_live}
 use Rattle.cstn_check.proofs.GoodLemmas.{good_at, good_small}
 use Rattle.cstn_check.proofs.Derives.{grown_derived}
 use Rattle.cstn_check.proofs.Closes.{closes_from}
 use Rattle.cstn_check.proofs.Bounded.{bases_kept, grown_kept, grown_short}
 use Rattle.cstn_check.proofs.Last.{grown_last, only_refuted_last, last_refuted}
 use Rattle.cstn_check.proofs.Starts.{GoesOn, bases_go_on}
+use Rattle.cstn_label.specs.OnLetters.{IsOnLetters}
+use Rattle.cstn_check.specs.Relations.{AreOnLetters}
 
-true_less : (a b : ℤ) → int_lt a b ≡ true → a <ℤ b
-true_less a b h = grind (arith, ints)
-
-pub true_refutes : (net : Network) (b : Bound) → Small b.label → refutes net b ≡ true → Refutes net b
+pub true_refutes : (net : Network) (b : Bound) → IsOnLetters b.label → refutes net b ≡ true → Refutes net b
 true_refutes net b small h =
     let one = and_parts (ltb b.node (count net)) (is_plain b.label && int_lt (pos (limit net b.node)) b.least) h in
     let two = and_parts (is_plain b.label) (int_lt (pos (limit net b.node)) b.least) one.1 in
     record {
       node = ltb-true b.node (count net) one.0;
       plain = true_plain b.label small two.0;
-      above = true_less (pos (limit net b.node)) b.least two.1;
+      above = int_lt-true (pos (limit net b.node)) b.least two.1;
     }
 
 pub record RefutedAt (net : Network) (L : List Entry) : Type 0 where
@@ -52,7 +51,7 @@ pub record RefutedAt (net : Network) (L : List Entry) : Type 0 where
   pub there : slice_get L place ≡ Some entry
   pub refutes : Refutes net entry.bound
 
-pub refuted_at : (net : Network) (L : List Entry) → AreSmall L → is_refuted net L ≡ true → RefutedAt net L
+pub refuted_at : (net : Network) (L : List Entry) → AreOnLetters L → is_refuted net L ≡ true → RefutedAt net L
 refuted_at net [] small h = absurd (false≢true h)
 refuted_at net (x ∷ xs) small h = elim (or_cases (refutes net x.bound) (is_refuted net xs) h) [
   | inl head ↦ record { place = 0; entry = x; there = refl; refutes = true_refutes net x.bound (small 0 x refl) head }
@@ -62,7 +61,7 @@ refuted_at net (x ∷ xs) small h = elim (or_cases (refutes net x.bound) (is_ref
 ]
 
 -- where an entry refutes and none but the last may, the last does
-pub refuted_by_last : (net : Network) (L : List Entry) → AreSmall L → IsRefutedLast net L → is_refuted net L ≡ true → LastRefutes net L
+pub refuted_by_last : (net : Network) (L : List Entry) → AreOnLetters L → IsRefutedLast net L → is_refuted net L ≡ true → LastRefutes net L
 refuted_by_last net L small last over =
     let r = refuted_at net L small over in
     elim (cases_lt (r.place + 1) (length L)) [
@@ -78,7 +77,7 @@ refuted_by_last net L small last over =
     ]
 
 -- where no entry but perhaps the last refutes, and the last doesn't, none does
-pub unrefuted : (net : Network) (L : List Entry) (e : Entry) → AreSmall L → IsRefutedLast net L → slice_get L (length L - 1) ≡ Some e →
+pub unrefuted : (net : Network) (L : List Entry) (e : Entry) → AreOnLetters L → IsRefutedLast net L → slice_get L (length L - 1) ≡ Some e →
     ¬ Refutes net e.bound → is_refuted net L ≡ false
 unrefuted net L e small last there not = elim (cases_Bool (is_refuted net L)) [
   | inr on ↦ on
@@ -89,25 +88,25 @@ unrefuted net L e small last there not = elim (cases_Bool (is_refuted net L)) [
       absurd (not (subst (λ (x : Entry). Refutes net x.bound) same l.refutes))
 ]
 
-stands_false : (net : Network) (b : Bound) → Small b.label → ¬ Refutes net b → refutes net b ≡ false
+stands_false : (net : Network) (b : Bound) → IsOnLetters b.label → ¬ Refutes net b → refutes net b ≡ false
 stands_false net b small not = elim (cases_Bool (refutes net b)) [
   | inl h ↦ absurd (not (true_refutes net b small h))
   | inr h ↦ h
 ]
 
 -- after growth again no entry but perhaps the last refutes
-pub grown_refuted_last : (net : Network) (L : List Entry) (n : ℕ) → AreSmall L → IsRefutedLast net L → IsRefutedLast net (grown net L n)
+pub grown_refuted_last : (net : Network) (L : List Entry) (n : ℕ) → AreOnLetters L → IsRefutedLast net L → IsRefutedLast net (grown net L n)
 grown_refuted_last net L n small last =
     only_refuted_last net (grown net L n)
     (grown_last net L n (λ k e there before. stands_false net e.bound (small k e there) (last.before k e there (omega arith))))
 
-pub kept_small : (net : Network) (L : List Entry) → HasLetters net → IsKept net L → AreSmall L
+pub kept_small : (net : Network) (L : List Entry) → HasLetters net → IsKept net L → AreOnLetters L
 kept_small net L letters kept k e there = good_small net e.bound letters (good_at net L k e kept.good there)
 
 -- ---- the list that is grown from one that growth can go on from
 
 module _ (net : Network) (start : List Entry) (wf : IsNetwork net) (letters : HasLetters net) (on : GoesOn net start) where
-  grown_small : AreSmall (grow net start)
+  grown_small : AreOnLetters (grow net start)
   grown_small = kept_small net (grow net start) letters (grown_kept net wf letters start (length start + most_entries net) on.kept)
 
   pub grown_derivation : IsDerivation net (grow net start)

@@ -16,15 +16,16 @@ use Rattle.cstn_rules.specs.Derivations.{Entry, IsEarlier, Follows, IsDerivation
 use Rattle.cstn_rules.specs.declared.entries.Why.{Why}
 use Rattle.cstn_rules.specs.declared.entries.Why.TheVariants.{Base, Chain, Wait}
 use Rattle.cstn_check.specs.Kept.{AllGood, IsBoundOf}
-use Rattle.cstn_check.specs.Tests.{chain_of, wait_for as wait_by, wait_of}
+use Rattle.cstn_rules.specs.Tests.{chain_of, wait_for as wait_by, wait_of}
 use Rattle.cstn_check.specs.Growth.{Instance, why_of, is_covered, is_refuted, premises_live, of_one, of_two, conclusion, with_conclusion, step, tried, turn, grown}
 use Rattle.cstn_log.specs.Entries.{bases}
 use Rattle.cstn_label.proofs.PlainLabels.{true_plain}
-use Rattle.cstn_check.proofs.Decided.{HasLetters, Small, false_absent}
+use Rattle.cstn_check.proofs.Decided.{HasLetters, false_absent}
 use Rattle.cstn_check.specs.Growth.Instance.{chain_at, wait_at}
 use Rattle.cstn_check.proofs.Lists.{Extends, get_kept}
 use Rattle.cstn_check.proofs.Grows.{Each, each_turn}
 use Rattle.cstn_check.proofs.GoodLemmas.{good_at, good_more, joined_observed, conclusion_good}
+use Rattle.cstn_label.specs.OnLetters.{IsOnLetters}
 
 abbrev pub OfNetwork : Network → Instance → Type 0
 OfNetwork net (chain_at c j) = Contains net.constraints c
@@ -100,13 +101,13 @@ derivation_more net L x d f k e there =
           (subst (λ y. Follows net (L ++ x ∷ []) (length L) y.why y.bound) last.1 f)
     ]
 
-pub small_of : (net : Network) (a : Label) → HasLetters net → IsOnObserved net a → Small a
+pub small_of : (net : Network) (a : Label) → HasLetters net → IsOnObserved net a → IsOnLetters a
 small_of net a letters h = λ p past. elim (absent_or_not (a p)) [
   | inl none ↦ none
   | inr marked ↦ let o = h p marked in let l = letters o.0 p o.1 in absurd (omega arith)
 ]
 
-pub chain_when : (net : Network) (c : Constraint) (b r : Bound) → Small b.label → Small (joined b.label c.label) →
+pub chain_when : (net : Network) (c : Constraint) (b r : Bound) → IsOnLetters b.label → IsOnLetters (joined b.label c.label) →
     chain_of net c b ≡ Some r → IsChain net c b r
 chain_when net c b r small joined_small e =
     let made = finished net (record { node = c.from; least = b.least -ℤ c.most; label = joined b.label c.label }) in

@@ -1,13 +1,14 @@
 -- Networks with some of their constraints.
-use Rattle.std.proofs.Common.{ℕ, zero, suc, ◌≡◌, ◌≢◌, ◌+◌, ◌<◌, Bool, true, false, not, cond, eqb, ◌&&◌, inl, inr, Option, Some, None, List, [], ◌∷◌, ◌++◌, length, get_or, map, take, arith, refl, sym, ap, ◌∙◌}
+use Rattle.std.proofs.Common.{ℕ, zero, suc, ◌≡◌, ◌≢◌, ◌+◌, ◌<◌, Bool, true, false, not, cond, eqb, inl, inr, Option, Some, None, List, [], ◌∷◌, ◌++◌, length, get_or, map, take, arith, refl, sym, ap, ◌∙◌}
 use Rattle.std.specs.Prelude.{◌↔◌, IsNone, IfNone, IfSome, slice_get}
 use Rattle.std.specs.List.{All, Contains, filter}
 use Rattle.std.proofs.lemmas.Bool.{cases_Bool}
 use Rattle.std.proofs.lemmas.List.{map_more}
-use Rattle.std.proofs.lemmas.List.Elements.{All-contains, All-contains_itself, All-filter, filter_passes}
+use Rattle.std.proofs.lemmas.List.Elements.{All-filter}
 use Rattle.std.proofs.lemmas.List.Filters.{length-filter_both}
 use Rattle.std.proofs.lemmas.List.Kept.{AllPairs-filter}
 use Rattle.std.proofs.lemmas.Option.{slice_get_within, get_or_from_slice_get}
+use Rattle.cstn_facts.proofs.Filters.{filter_contained}
 use Rattle.cstn_net.specs.Networks.{Network, Constraint, IsConstraint, IsValue, IsWellFormed}
 use Rattle.cstn_net.specs.Read.{NetworkParts, the_network, the_constraint, without_id}
 use Rattle.cstn_net.specs.declared.constraints.Constraint.{Constraint as DeclaredConstraint}
@@ -36,24 +37,6 @@ contains_passing p (y ∷ ys) x passes h = go (contains_passing p ys x passes) h
     go : (Contains ys x → Contains (filter p ys) x) → (k : ℕ) → k < length (y ∷ ys) → get_or (y ∷ ys) k x ≡ x → Contains (filter p (y ∷ ys)) x
     go rest zero inside at = let t : p y ≡ true = ap p at ∙ passes in rw t (0, omega arith, at)
     go rest (suc k) inside at = contains_behind y (filter p ys) (p y) x (rest (k, omega arith, at))
-
--- one of those that pass is an item
-pub passing_contained : {X : Type 0} (p : X → Bool) (xs : List X) (x : X) → Contains (filter p xs) x → Contains xs x
-passing_contained p xs x h = All-contains (Contains xs) (filter p xs) x (All-filter p (Contains xs) xs (All-contains_itself xs)) h
-
--- what passes a test passes a weaker one
-pub contains_more : {X : Type 0} (p q : X → Bool) → ((x : X) → p x ≡ true → q x ≡ true) → (xs : List X) (x : X) →
-    Contains (filter p xs) x → Contains (filter q xs) x
-contains_more p q more xs x h =
-    contains_passing q xs x (more x (All-contains (λ y. p y ≡ true) (filter p xs) x (filter_passes p xs) h)) (passing_contained p xs x h)
-
--- those that pass both tests
-pub filter_twice : {X : Type 0} (p q : X → Bool) (xs : List X) → filter p (filter q xs) ≡ filter (λ x. q x && p x) xs
-filter_twice p q [] = refl
-filter_twice p q (x ∷ xs) = elim (cases_Bool (q x)) [
-  | inl t ↦ rw (t, filter_twice p q xs) refl
-  | inr f ↦ rw (f, filter_twice p q xs) refl
-]
 
 -- ---- networks
 

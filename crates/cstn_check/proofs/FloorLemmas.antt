@@ -1,7 +1,8 @@
 -- Least values up to which the conclusions of wait are dominated.
-use Rattle.std.proofs.Common.{ℕ, zero, suc, arith, ◌≡◌, ◌⊎◌, inl, inr, ◌<◌, Bool, true, false, not, List, [], ◌∷◌, length, Option, Some, None, refl, sym, subst, ap, ◌∙◌}
+use Rattle.std.proofs.Common.{ℕ, arith, ◌≡◌, ◌⊎◌, inl, inr, ◌<◌, Bool, true, false, not, List, [], ◌∷◌, length, Option, Some, None, refl, sym, subst, ap, ◌∙◌}
 use Rattle.std.specs.Prelude.{ℤ, pos, ◌==◌, slice_index_or, replicate, Result, Ok, Err, IfOk}
 use Rattle.std.proofs.lemmas.Bool.{cases_Bool, cond-true, cond-false, and_right, eqb-true}
+use Rattle.cstn_facts.proofs.Places.{get_or_repeated}
 use Rattle.cstn_label.specs.declared.bounds.Bound.{Bound as DeclaredBound}
 use Rattle.cstn_label.specs.declared.marks.Mark.{Mark}
 use Rattle.cstn_label.specs.declared.marks.Mark.TheVariants.{Absent}
@@ -16,14 +17,20 @@ use Rattle.cstn_rules.specs.Rules.{base, without_own}
 use Rattle.cstn_log.specs.Entries.{State, IsBoundAt, the_entries}
 use Rattle.cstn_check.specs.Growth.{Instance, is_covered, premises_live, conclusion, with_conclusion, step}
 use Rattle.cstn_check.specs.Turns.{IsOpen, IsTaken}
+use Rattle.cstn_check.specs.Steps.{is_refutation}
+use Rattle.cstn_check.specs.declared.steps.Step.{Step}
+use Rattle.cstn_check.specs.declared.steps.Step.TheVariants.{Open}
+use Rattle.cstn_pool.specs.declared.pool.Full.{Full}
 use Rattle.cstn_check.specs.Waits.{HasBound}
 use Rattle.cstn_check.specs.Floors.{IsFloor, AreFloors, ground_floor}
 use Rattle.cstn_check.specs.declared.waits.Floor.{Floor}
-use Rattle.cstn_check.proofs.Lists.{Extends, covered_kept, covered_by, dominates_through}
+use Rattle.cstn_check.proofs.Lists.{Extends, covered_kept, covered_by}
 use Rattle.cstn_check.proofs.Bounded.{covered_at}
-use Rattle.cstn_check.proofs.Reading.{entry_at, entries_small}
+use Rattle.cstn_check.proofs.Reading.{entries_small}
 use Rattle.cstn_check.proofs.TurnLemmas.{idle, step_on}
 use Rattle.cstn_check.proofs.TryLemmas.{own_follows, taken_on}
+use Rattle.cstn_label.proofs.BoundLemmas.{dominates_through}
+use Rattle.cstn_log.proofs.StepLemmas.{entry_read}
 
 -- a floor stays one while the list grows
 pub floor_on : (net : Network) (L G : List TheEntry) (b : Bound) (p : ℕ) (floor : ℤ) → Extends L G → IsFloor net L b p floor → IsFloor net G b p floor
@@ -42,15 +49,10 @@ floor_at_ground net s b p ready inside = record {
       covered_at L d.place d.entry r d.there (dominates_through d.entry.bound (base b.node) r d.dominates (record { node = sym at; least = low; label = λ q. tt }));
 }
 
-get_same : {A : Type 0} (n p : ℕ) (x : A) → slice_index_or (replicate n x) p x ≡ x
-get_same zero p x = refl
-get_same (suc n) zero x = refl
-get_same (suc n) (suc p) x = get_same n p x
-
 pub floors_at_ground : (net : Network) (s : State) (b : Bound) → IsOpen net s → b.node < count net → AreFloors net (the_entries s.entries) b (replicate 52 ground_floor)
 floors_at_ground net s b ready inside = record {
   size = refl;
-  each = λ p small. subst (λ (z : Floor). IsFloor net (the_entries s.entries) b p z.least) (sym (get_same 52 p ground_floor)) (floor_at_ground net s b p ready inside);
+  each = λ p small. subst (λ (z : Floor). IsFloor net (the_entries s.entries) b p z.least) (sym (get_or_repeated 52 p ground_floor)) (floor_at_ground net s b p ready inside);
 }
 
 -- ---- an entry whose label is within that of the bound
@@ -86,14 +88,14 @@ floor_raised net L k over b p at node within clean = record {
         least = low;
         label = subst (λ (x : Bound). IsWithin (the_bound over).label x.label) (sym w.gives) wide;
       } in
-      covered_at (the_entries L) k (the_entry at.entry) r (entry_at L k at.entry at.there)
+      covered_at (the_entries L) k (the_entry at.entry) r (entry_read L k at.entry at.there)
       (subst (λ (z : DeclaredBound). Dominates (the_bound z) r) (sym at.is) d);
 }
 
 -- a bound of the list doesn't mark what its time-point observes
 pub own_absent : (net : Network) (s : State) (k : ℕ) (b : Bound) → IsOpen net s → HasBound s.entries k b → (q : ℕ) → Observes net b.node q → b.label q ≡ Absent
 own_absent net s k b ready has q own =
-    let at = entry_at s.entries k has.entry has.there in
+    let at = entry_read s.entries k has.entry has.there in
     subst (λ (z : Bound). slice_index_or net.observes z.node None ≡ Some q → z.label q ≡ Absent) has.is
     (own_follows net (the_entries s.entries) k (the_entry has.entry).why (the_bound has.entry.bound) q (ready.derivation k (the_entry has.entry) at)) own.what
 
@@ -108,8 +110,8 @@ idle_covered net s i r ready gives covered =
     ∙ cond-false _ _ _ (and_right (premises_live L i) (not (is_covered L r)) (ap not covered)))
 
 -- the floors stay ones where that of what x observes is replaced
-pub floors_then : {E : Type 0} (net : Network) (old new : State) (i : Instance) (b : Bound) (x : ℕ) (floors after : List Floor) (floor : Floor) (o : Result Bool E) →
-    IfOk o (λ r. IsTaken net old new (step net (the_entries old.entries) i) r) →
+pub floors_then : (net : Network) (old new : State) (i : Instance) (b : Bound) (x : ℕ) (floors after : List Floor) (floor : Floor) (o : Result Step Full) →
+    IfOk o (λ s. IsTaken net old new (step net (the_entries old.entries) i) (is_refutation s)) →
     IfOk o (λ r. (p : ℕ) → Observes net x p → IsFloor net (the_entries new.entries) b p floor.least) →
     AreFloors net (the_entries old.entries) b floors → length after ≡ 52 →
     ((p : ℕ) → p < 52 → (slice_index_or after p ground_floor ≡ slice_index_or floors p ground_floor)
@@ -120,24 +122,24 @@ floors_then net old new i b x floors after floor (Ok r) t f were size each = rec
   each = λ p small. elim (each p small) [
     | inl same ↦
         subst (λ (z : Floor). IsFloor net (the_entries new.entries) b p z.least) (sym same)
-        (floor_on net (the_entries old.entries) (the_entries new.entries) b p (slice_index_or floors p ground_floor).least (taken_on net old new (i ∷ []) r t) (were.each p small))
+        (floor_on net (the_entries old.entries) (the_entries new.entries) b p (slice_index_or floors p ground_floor).least (taken_on net old new (i ∷ []) (is_refutation r) t) (were.each p small))
     | inr set ↦ subst (λ (z : Floor). IsFloor net (the_entries new.entries) b p z.least) (sym set.1) (f p set.0)
   ];
 }
 floors_then net old new i b x floors after floor (Err e) t f were size each = tt
 
 -- a floor that was one of the old list, or raised from it, is one of the new list
-pub floor_rose : {E : Type 0} (net : Network) (old new : State) (i : Instance) (b : Bound) (x : ℕ) (low high : Floor) (o : Result Bool E) →
-    IfOk o (λ r. IsTaken net old new (step net (the_entries old.entries) i) r) →
+pub floor_rose : (net : Network) (old new : State) (i : Instance) (b : Bound) (x : ℕ) (low high : Floor) (o : Result Step Full) →
+    IfOk o (λ s. IsTaken net old new (step net (the_entries old.entries) i) (is_refutation s)) →
     ((p : ℕ) → Observes net x p → IsFloor net (the_entries old.entries) b p low.least) →
     ((p : ℕ) → Observes net x p → IsFloor net (the_entries new.entries) b p low.least → IsFloor net (the_entries new.entries) b p high.least) →
     IfOk o (λ r. (p : ℕ) → Observes net x p → IsFloor net (the_entries new.entries) b p high.least)
 floor_rose net old new i b x low high (Ok r) t f rose = λ p own.
-    rose p own (floor_on net (the_entries old.entries) (the_entries new.entries) b p low.least (taken_on net old new (i ∷ []) r t) (f p own))
+    rose p own (floor_on net (the_entries old.entries) (the_entries new.entries) b p low.least (taken_on net old new (i ∷ []) (is_refutation r) t) (f p own))
 floor_rose net old new i b x low high (Err e) t f rose = tt
 
-pub floors_after : {E : Type 0} (net : Network) (old new : State) (i : Instance) (b : Bound) (floors : List Floor) (o : Result Bool E) →
-    IfOk o (λ r. IsTaken net old new (step net (the_entries old.entries) i) r) → AreFloors net (the_entries old.entries) b floors →
-    IfOk o (λ r. r ≡ false → AreFloors net (the_entries new.entries) b floors)
-floors_after net old new i b floors (Ok r) t f = λ e. floors_on net (the_entries old.entries) (the_entries new.entries) b floors (taken_on net old new (i ∷ []) r t) f
+pub floors_after : (net : Network) (old new : State) (i : Instance) (b : Bound) (floors : List Floor) (o : Result Step Full) →
+    IfOk o (λ s. IsTaken net old new (step net (the_entries old.entries) i) (is_refutation s)) → AreFloors net (the_entries old.entries) b floors →
+    IfOk o (λ s. s ≡ Open → AreFloors net (the_entries new.entries) b floors)
+floors_after net old new i b floors (Ok r) t f = λ e. floors_on net (the_entries old.entries) (the_entries new.entries) b floors (taken_on net old new (i ∷ []) (is_refutation r) t) f
 floors_after net old new i b floors (Err e) t f = tt

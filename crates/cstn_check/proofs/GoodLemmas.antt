@@ -16,12 +16,13 @@ use Rattle.cstn_rules.specs.Rules.{finished}
 use Rattle.cstn_rules.specs.Derivations.{Entry}
 use Rattle.cstn_check.specs.Kept.{AllGood, IsBoundOf}
 use Rattle.cstn_plan.proofs.FinishLemmas.{kept_own}
-use Rattle.cstn_check.specs.Tests.{chain_of, wait_for as wait_by, wait_of}
+use Rattle.cstn_rules.specs.Tests.{chain_of, wait_for as wait_by, wait_of}
 use Rattle.cstn_check.specs.Growth.{Instance, why_of, is_covered, is_refuted, premises_live, of_one, of_two, conclusion, with_conclusion, step, tried, turn, grown}
 use Rattle.cstn_log.specs.Entries.{bases}
-use Rattle.cstn_check.proofs.Decided.{HasLetters, Small}
+use Rattle.cstn_check.proofs.Decided.{HasLetters}
 use Rattle.cstn_check.specs.Growth.Instance.{chain_at, wait_at}
 use Rattle.cstn_check.proofs.Grows.{Each, each_turn}
+use Rattle.cstn_label.specs.OnLetters.{IsOnLetters}
 
 pub good_at : (net : Network) (L : List Entry) (k : ℕ) (e : Entry) → AllGood net L → slice_get L k ≡ Some e → IsBoundOf net e.bound
 good_at net [] k e h there = let f : ⊥ = cc in absurd f
@@ -33,7 +34,7 @@ good_more net [] M h k = k
 good_more net (x ∷ xs) M h k = (h.0, good_more net xs M h.1 k)
 
 -- a bound of the network marks propositions from 0 to 51 alone
-pub good_small : (net : Network) (b : Bound) → HasLetters net → IsBoundOf net b → Small b.label
+pub good_small : (net : Network) (b : Bound) → HasLetters net → IsBoundOf net b → IsOnLetters b.label
 good_small net b letters good = λ p past. elim (absent_or_not (b.label p)) [
   | inl none ↦ none
   | inr marked ↦ let o = good.observed p marked in let l = letters o.0 p o.1 in absurd (omega arith)

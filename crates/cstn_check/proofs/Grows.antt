@@ -8,7 +8,8 @@ use Rattle.std.proofs.lemmas.Option.{slice_get_past}
 use Rattle.cstn_net.specs.Networks.{Network, Constraint}
 use Rattle.cstn_label.specs.Bounds.{Bound}
 use Rattle.cstn_rules.specs.Derivations.{Entry}
-use Rattle.cstn_check.specs.Tests.{dominates, refutes, chain_of, wait_of}
+use Rattle.cstn_rules.specs.Tests.{refutes, chain_of, wait_of}
+use Rattle.cstn_label.specs.Tests.{dominates}
 use Rattle.cstn_check.specs.Growth.{Instance, why_of, is_covered, is_live, is_refuted, premises_live, of_one, of_two, conclusion, with_conclusion, step, tried, waits_below, turn, grown}
 use Rattle.cstn_check.specs.Growth.Instance.{chain_at, wait_at}
 use Rattle.cstn_check.specs.Spent.{HasPremises, IsSpent}

@@ -9,7 +9,7 @@ use Rattle.cstn_net.specs.Networks.{Network, count, limit}
 use Rattle.cstn_label.specs.Bounds.{Bound}
 use Rattle.cstn_rules.specs.Derivations.{Entry}
 use Rattle.cstn_rules.specs.declared.entries.Why.TheVariants.{Base}
-use Rattle.cstn_check.specs.Tests.{refutes}
+use Rattle.cstn_rules.specs.Tests.{refutes}
 use Rattle.cstn_check.specs.Growth.{Instance, why_of, is_covered, is_refuted, conclusion, step, tried, turn, grown}
 use Rattle.cstn_check.specs.Turns.{IsRefutedLast, LastRefutes}
 use Rattle.cstn_log.specs.Entries.{bases}

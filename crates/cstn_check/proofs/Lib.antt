@@ -41,5 +41,12 @@ pub mod Deciding
 pub mod DeadlineLemmas
 pub mod Idle
 pub mod Fewer
+pub mod Parts
 pub mod Standing
 pub mod RoomLemmas
+-- Searches that take several checks.
+pub mod Said
+pub mod Marks
+pub mod Needed
+pub mod Leaving
+pub mod Halves

@@ -1,18 +1,19 @@
 -- Lists that grow at the end, and their live entries.
-use Rattle.std.proofs.Common.{ℕ, zero, suc, ◌≡◌, inl, inr, ◌<◌, ◌≤◌, Bool, true, false, not, List, [], ◌∷◌, ◌++◌, length, get_or, Some, arith, refl, sym, subst, ap, ◌∙◌, append_assoc, length-append}
+use Rattle.std.proofs.Common.{ℕ, zero, suc, ◌≡◌, inl, inr, ◌<◌, ◌≤◌, Bool, true, false, List, [], ◌∷◌, ◌++◌, length, get_or, Some, arith, refl, sym, subst, ap, ◌∙◌, append_assoc, length-append}
 use Rattle.std.specs.Prelude.{slice_get}
 use Rattle.std.specs.List.{Contains, list_any}
-use Rattle.std.proofs.lemmas.Int.{ints}
-use Rattle.std.proofs.lemmas.Bool.{cases_Bool, or_parts, or_left, or_cases, not-true, false≢true, cond-true, cond-false}
+use Rattle.std.proofs.lemmas.Bool.{cases_Bool, or_parts, or_left, or_cases, not-true, false≢true, cond-true, cond-false, not_from_false}
 use Rattle.std.proofs.lemmas.List.{append-nil}
 use Rattle.std.proofs.lemmas.List.Folds.{list_any-append}
-use Rattle.cstn_label.specs.declared.marks.Mark.{Mark}
-use Rattle.cstn_label.specs.Labels.{IsMarkWithin}
+use Rattle.cstn_facts.proofs.Members.{contains_tail}
 use Rattle.cstn_label.specs.Bounds.{Bound, Dominates}
 use Rattle.cstn_rules.specs.Derivations.{Entry}
-use Rattle.cstn_check.specs.Tests.{dominates}
+use Rattle.cstn_label.specs.Tests.{dominates}
 use Rattle.cstn_check.specs.Growth.{is_covered, is_live, live_bounds}
-use Rattle.cstn_check.proofs.Decided.{Small, true_dominates, dominates_true}
+use Rattle.cstn_check.proofs.Decided.{true_dominates, dominates_true}
+use Rattle.cstn_label.proofs.MarkLemmas.{mark_within_through}
+use Rattle.cstn_label.proofs.BoundLemmas.{dominates_through, dominates_itself}
+use Rattle.cstn_check.specs.Relations.{AreOnLetters}
 
 -- G is L with more at the end
 pub record Extends {A : Type 0} (L G : List A) : Type 0 where
@@ -51,18 +52,12 @@ none_before test L G e h =
 pub covered_kept : (L G : List Entry) (r : Bound) → Extends L G → is_covered L r ≡ true → is_covered G r ≡ true
 covered_kept L G r e h = any_kept (λ x. dominates x.bound r) L G e h
 
-not_false : (b : Bool) → not b ≡ true → b ≡ false
-not_false b h = not-true b h
-
-false_not : (b : Bool) → b ≡ false → not b ≡ true
-false_not b h = grind arith
-
 live_before_more : (L M : List Entry) (k : ℕ) → k < length L → is_live (L ++ M) k ≡ true → is_live L k ≡ true
 live_before_more [] M k h live = absurd (omega arith)
 live_before_more (x ∷ xs) M zero h live =
-    false_not (is_covered xs x.bound)
+    not_from_false (is_covered xs x.bound)
     (none_before (λ e. dominates e.bound x.bound) xs (xs ++ M) (record { more = M; is = refl })
-    (not_false (is_covered (xs ++ M) x.bound) live))
+    (not-true (is_covered (xs ++ M) x.bound) live))
 live_before_more (x ∷ xs) M (suc k) h live = live_before_more xs M k (omega arith) live
 
 pub live_before : (L G : List Entry) (k : ℕ) → Extends L G → k < length L → is_live G k ≡ true → is_live L k ≡ true
@@ -76,17 +71,13 @@ live_entry (x ∷ xs) (suc k) h = let r = live_entry xs k h in (let l = r.0 in o
 
 -- ---- each entry is dominated by a live one
 
--- no entry marks a proposition from 52 on
-abbrev pub AreSmall : List Entry → Type 0
-AreSmall L = (k : ℕ) (e : Entry) → slice_get L k ≡ Some e → Small e.bound.label
-
 pub record DominatedBy (L : List Entry) (r : Bound) : Type 0 where
   pub place : ℕ
   pub entry : Entry
   pub there : slice_get L place ≡ Some entry
   pub dominates : Dominates entry.bound r
 
-pub covered_by : (L : List Entry) (r : Bound) → AreSmall L →
+pub covered_by : (L : List Entry) (r : Bound) → AreOnLetters L →
     is_covered L r ≡ true → DominatedBy L r
 covered_by [] r small h = absurd (false≢true h)
 covered_by (x ∷ xs) r small h = elim (cases_Bool (dominates x.bound r)) [
@@ -100,16 +91,6 @@ covered_by (x ∷ xs) r small h = elim (cases_Bool (dominates x.bound r)) [
       record { place = suc d.place; entry = d.entry; there = d.there; dominates = d.dominates }
 ]
 
-mark_through : (m n o : Mark) → IsMarkWithin m n → IsMarkWithin n o → IsMarkWithin m o
-mark_through m n o h k = grind arith
-
-pub dominates_through : (a b c : Bound) → Dominates a b → Dominates b c → Dominates a c
-dominates_through a b c h k = record {
-  node = h.node ∙ k.node;
-  least = let x = h.least in let y = k.least in omega (arith, ints);
-  label = λ p. mark_through (a.label p) (b.label p) (c.label p) (h.label p) (k.label p);
-}
-
 pub record LiveOver (L : List Entry) (r : Bound) : Type 0 where
   pub place : ℕ
   pub entry : Entry
@@ -117,22 +98,16 @@ pub record LiveOver (L : List Entry) (r : Bound) : Type 0 where
   pub live : is_live L place ≡ true
   pub dominates : Dominates entry.bound r
 
-dominates_itself : (a : Bound) → Dominates a a
-dominates_itself a = record { node = refl; least = omega (arith, ints); label = λ p. mark_itself (a.label p) }
-  where
-    mark_itself : (m : Mark) → IsMarkWithin m m
-    mark_itself m = grind arith
-
 pub itself_true : (a : Bound) → dominates a a ≡ true
 itself_true a = dominates_true a a (dominates_itself a)
 
-live_over_at : (L : List Entry) → AreSmall L →
+live_over_at : (L : List Entry) → AreOnLetters L →
     (k : ℕ) (e : Entry) → slice_get L k ≡ Some e → LiveOver L e.bound
 live_over_at [] small k e h = let f : ⊥ = cc in absurd f
 live_over_at (x ∷ xs) small zero e h =
     let same : x ≡ e = cc in
     let first : LiveOver (x ∷ xs) x.bound = elim (cases_Bool (is_covered xs x.bound)) [
-      | inr free ↦ record { place = 0; entry = x; there = refl; live = false_not (is_covered xs x.bound) free; dominates = dominates_itself x.bound }
+      | inr free ↦ record { place = 0; entry = x; there = refl; live = not_from_false (is_covered xs x.bound) free; dominates = dominates_itself x.bound }
       | inl covered ↦
           let d = covered_by xs x.bound (λ k e there. small (suc k) e there) covered in
           let l = live_over_at xs (λ k e there. small (suc k) e there) d.place d.entry d.there in
@@ -149,7 +124,7 @@ live_over_at (x ∷ xs) small (suc k) e h =
     let l = live_over_at xs (λ k e there. small (suc k) e there) k e h in
     record { place = suc l.place; entry = l.entry; there = l.there; live = l.live; dominates = l.dominates }
 
-pub live_over : (L : List Entry) (r : Bound) → AreSmall L →
+pub live_over : (L : List Entry) (r : Bound) → AreOnLetters L →
     is_covered L r ≡ true → LiveOver L r
 live_over L r small h =
     let d = covered_by L r small h in
@@ -164,9 +139,6 @@ live_over L r small h =
 
 -- ---- the bounds of the live entries
 
-contains_later : (x b : Bound) (xs : List Bound) → Contains xs b → Contains (x ∷ xs) b
-contains_later x b xs h = (suc h.0, let l = h.1 in omega arith, h.2)
-
 pub live_listed : (L : List Entry) (k : ℕ) (e : Entry) → slice_get L k ≡ Some e → is_live L k ≡ true →
     Contains (live_bounds L) e.bound
 live_listed [] k e h live = let f : ⊥ = cc in absurd f
@@ -174,14 +146,14 @@ live_listed (x ∷ xs) zero e h live =
     let same : x ≡ e = cc in
     subst (λ y. Contains (live_bounds (x ∷ xs)) y.bound) same
     (subst (λ l. Contains l x.bound)
-    (sym (cond-false (is_covered xs x.bound) (live_bounds xs) (x.bound ∷ live_bounds xs) (not_false (is_covered xs x.bound) live)))
+    (sym (cond-false (is_covered xs x.bound) (live_bounds xs) (x.bound ∷ live_bounds xs) (not-true (is_covered xs x.bound) live)))
     (0, omega arith, refl))
 live_listed (x ∷ xs) (suc k) e h live =
     let tail = live_listed xs k e h live in
     elim (cases_Bool (is_covered xs x.bound)) [
       | inl covered ↦ subst (λ l. Contains l e.bound) (sym (cond-true (is_covered xs x.bound) (live_bounds xs) (x.bound ∷ live_bounds xs) covered)) tail
       | inr free ↦ subst (λ l. Contains l e.bound) (sym (cond-false (is_covered xs x.bound) (live_bounds xs) (x.bound ∷ live_bounds xs) free))
-          (contains_later x.bound e.bound (live_bounds xs) tail)
+          (contains_tail x.bound e.bound (live_bounds xs) tail)
     ]
 
 pub record LiveAt (L : List Entry) (b : Bound) : Type 0 where
@@ -206,7 +178,7 @@ listed_live (x ∷ xs) b h = elim (cases_Bool (is_covered xs x.bound)) [
   where
     go_at : (k : ℕ) → k < length (x.bound ∷ live_bounds xs) → get_or (x.bound ∷ live_bounds xs) k b ≡ b →
         is_covered xs x.bound ≡ false → (Contains (live_bounds xs) b → LiveAt xs b) → LiveAt (x ∷ xs) b
-    go_at zero l e free rest = record { place = 0; entry = x; there = refl; live = false_not (is_covered xs x.bound) free; bound = e }
+    go_at zero l e free rest = record { place = 0; entry = x; there = refl; live = not_from_false (is_covered xs x.bound) free; bound = e }
     go_at (suc k) l e free rest = later_at x xs b (rest (k, omega arith, e))
 
     go : Contains (x.bound ∷ live_bounds xs) b → is_covered xs x.bound ≡ false →

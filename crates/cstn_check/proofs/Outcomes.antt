@@ -1,12 +1,12 @@
 -- What growth came to, in the terms of its list.
-use Rattle.std.proofs.Common.{ℕ, ◌≡◌, ◌+◌, ◌-◌, ◌<◌, ◌≤◌, ◌^◌, Bool, true, false, List, ◌∷◌, ◌++◌, length, take, Some, arith, refl, sym, subst, ap, ◌∙◌, length-append}
+use Rattle.std.proofs.Common.{ℕ, ◌≡◌, ◌+◌, ◌-◌, ◌<◌, ◌≤◌, Bool, true, false, List, [], ◌∷◌, ◌++◌, length, take, Some, arith, refl, sym, subst, ap, ◌∙◌, length-append}
 use Rattle.std.specs.Prelude.{slice_get, ◌↔◌}
 use Rattle.std.proofs.lemmas.Bool.{false≢true}
 use Rattle.std.proofs.lemmas.List.{length-map}
 use Rattle.std.proofs.Math.Seq.{take-append_seam}
 use Rattle.cstn_label.specs.Read.{the_bound}
 use Rattle.cstn_net.specs.Limits.{most_load}
-use Rattle.cstn_net.specs.Networks.{Network, IsWellFormed, count}
+use Rattle.cstn_net.specs.Networks.{Network, IsWellFormed}
 use Rattle.cstn_rules.specs.declared.entries.Entry.{Entry as DeclaredEntry}
 use Rattle.cstn_rules.specs.Rules.{Refutes}
 use Rattle.cstn_rules.specs.Derivations.{Entry, IsDerivation}
@@ -14,16 +14,17 @@ use Rattle.cstn_rules.specs.Read.{the_entry}
 use Rattle.cstn_log.specs.Entries.{State, the_entries}
 use Rattle.cstn_check.specs.Growth.{is_refuted, grow, most_entries}
 use Rattle.cstn_check.specs.Kept.{IsKept}
-use Rattle.cstn_check.specs.Turns.{IsOpen, IsTaken, IsCut, IsLonger, IsGrown, IsRefutedLast, LastRefutes}
+use Rattle.cstn_check.specs.Turns.{IsOpen, IsTaken, IsCut, IsLonger, IsGrowable, IsOutcome, IsGrown, IsRefutedLast, LastRefutes}
 use Rattle.cstn_check.specs.declared.growth.Grown.{Grown}
 use Rattle.cstn_check.specs.declared.growth.Grown.TheVariants.{Closed, Refuted, Full}
 use Rattle.cstn_check.proofs.Decided.{refutes_true}
 use Rattle.cstn_check.proofs.Derives.{grown_derived}
 use Rattle.cstn_check.proofs.Last.{refuted_from_last, last_refuted}
 use Rattle.cstn_check.proofs.Decides.{refuted_by_last, unrefuted, grown_refuted_last}
-use Rattle.cstn_check.proofs.Reading.{entries_small, entry_at}
+use Rattle.cstn_check.proofs.Reading.{entries_small}
 use Rattle.cstn_check.proofs.TurnLemmas.{longer_itself}
 use Rattle.cstn_check.proofs.Ends.{grow_at_refuted}
+use Rattle.cstn_log.proofs.StepLemmas.{entry_read}
 
 -- a list whose last entry refutes doesn't grow
 pub refuted_itself : (net : Network) (s : State) (k : ℕ) (e : DeclaredEntry) → IsWellFormed net → IsKept net (the_entries s.entries) →
@@ -31,36 +32,45 @@ pub refuted_itself : (net : Network) (s : State) (k : ℕ) (e : DeclaredEntry) �
     IsTaken net s s (grow net (the_entries s.entries)) true
 refuted_itself net s k e good kept short there refutes =
     let L = the_entries s.entries in
-    let over = refuted_from_last net L k (the_entry e) (entry_at s.entries k e there) (refutes_true net (the_bound e.bound) refutes) in
+    let over = refuted_from_last net L k (the_entry e) (entry_read s.entries k e there) (refutes_true net (the_bound e.bound) refutes) in
     let same = grow_at_refuted net good.network good.letters L kept 0 over in
     record { entries = sym same; refuted_is = sym (ap (is_refuted net) same ∙ over); longer = longer_itself s short }
 
 -- a log in which no entry but perhaps the last refutes, and the last doesn't, is open
-pub open_from : (net : Network) (s : State) (e : DeclaredEntry) → s.nodes ≡ count net → IsDerivation net (the_entries s.entries) →
-    IsKept net (the_entries s.entries) → IsRefutedLast net (the_entries s.entries) → s.births < 2 ^ 61 →
+pub open_from : (net : Network) (s : State) (e : DeclaredEntry) → IsGrowable net s → IsKept net (the_entries s.entries) →
     length s.entries ≤ s.cap → s.cap ≤ most_load → slice_get s.entries (length s.entries - 1) ≡ Some e →
     ¬ Refutes net (the_bound e.bound) → IsOpen net s
-open_from net s e nodes derivation kept last births short few there not =
+open_from net s e growable kept short few there not =
     let L = the_entries s.entries in
+    let most = growable.births in
     let long : length L ≡ length s.entries = length-map s.entries the_entry in
     record {
-      nodes = nodes;
-      derivation = derivation;
+      nodes = growable.nodes;
+      derivation = growable.derivation;
       kept = kept;
-      unrefuted = unrefuted net L (the_entry e) (entries_small s.entries) last
-          (subst (λ n. slice_get L (n - 1) ≡ Some (the_entry e)) (sym long) (entry_at s.entries (length s.entries - 1) e there)) not;
+      unrefuted = unrefuted net L (the_entry e) (entries_small s.entries) growable.last
+          (subst (λ n. slice_get L (n - 1) ≡ Some (the_entry e)) (sym long) (entry_read s.entries (length s.entries - 1) e there)) not;
       short = short;
       births = omega arith;
     }
 
--- what each answer of growth says
-pub record Outcome (net : Network) (old new : State) (r : Grown) : Type 0 where
-  pub closed : r ≡ Closed → IsTaken net old new (grow net (the_entries old.entries)) false
-  pub refuted : r ≡ Refuted → IsTaken net old new (grow net (the_entries old.entries)) true
-  pub full : r ≡ Full → IsCut old new (grow net (the_entries old.entries))
+-- an empty log is open
+pub open_empty : (net : Network) (s : State) → IsGrowable net s → IsKept net (the_entries s.entries) → s.cap ≤ most_load → length s.entries ≡ 0 → IsOpen net s
+open_empty net s growable kept few none = record {
+  nodes = growable.nodes;
+  derivation = growable.derivation;
+  kept = kept;
+  unrefuted = none_refutes s.entries none;
+  short = omega (arith, none);
+  births = let most = growable.births in omega (arith, most, few, none);
+}
+  where
+    none_refutes : (entries : List DeclaredEntry) → length entries ≡ 0 → is_refuted net (the_entries entries) ≡ false
+    none_refutes [] is = refl
+    none_refutes (e ∷ entries) is = absurd (omega (arith, is))
 
 module _ (net : Network) (old new : State) where
-  longer_of : (r : Grown) → Outcome net old new r → IsLonger old new
+  longer_of : (r : Grown) → IsOutcome net old new r → IsLonger old new
   longer_of Closed o = (o.closed refl).longer
   longer_of Refuted o = (o.refuted refl).longer
   longer_of Full o = (o.full refl).longer
@@ -90,15 +100,15 @@ module _ (net : Network) (old new : State) where
       ∙ ap (λ n. take n (the_entries new.entries ++ k.front.next ∷ k.front.rest)) (sym long)
       ∙ take-append_seam (the_entries new.entries) (k.front.next ∷ k.front.rest))
 
-  full_is : (r : Grown) → Outcome net old new r → (r ≡ Full ↔ (old.cap < length (grow net (the_entries old.entries))))
+  full_is : (r : Grown) → IsOutcome net old new r → (r ≡ Full ↔ (old.cap < length (grow net (the_entries old.entries))))
   full_is Closed o = (λ e. cc, λ more. let s = taken_short (grow net (the_entries old.entries)) false (o.closed refl) in absurd (omega arith))
   full_is Refuted o = (λ e. cc, λ more. let s = taken_short (grow net (the_entries old.entries)) true (o.refuted refl) in absurd (omega arith))
   full_is Full o = (λ e. cut_long (grow net (the_entries old.entries)) (o.full refl), λ more. refl)
 
-  cut_is : (r : Grown) → Outcome net old new r → r ≡ Full → the_entries new.entries ≡ take old.cap (grow net (the_entries old.entries))
+  cut_is : (r : Grown) → IsOutcome net old new r → r ≡ Full → the_entries new.entries ≡ take old.cap (grow net (the_entries old.entries))
   cut_is r o e = cut_take (grow net (the_entries old.entries)) (o.full e)
 
-  grown_is : (r : Grown) → Outcome net old new r → (r ≡ Full → ⊥) → the_entries new.entries ≡ grow net (the_entries old.entries)
+  grown_is : (r : Grown) → IsOutcome net old new r → (r ≡ Full → ⊥) → the_entries new.entries ≡ grow net (the_entries old.entries)
   grown_is Closed o not = (o.closed refl).entries
   grown_is Refuted o not = (o.refuted refl).entries
   grown_is Full o not = absurd (not refl)
@@ -115,13 +125,13 @@ module _ (net : Network) (old new : State) where
   stands t l =
       false≢true (t.refuted_is ∙ ap (is_refuted net) (sym t.entries) ∙ last_refuted net (the_entries new.entries) l)
 
-  refuted_is : (r : Grown) → IsRefutedLast net (the_entries old.entries) → Outcome net old new r →
+  refuted_is : (r : Grown) → IsRefutedLast net (the_entries old.entries) → IsOutcome net old new r →
       (r ≡ Refuted ↔ ((r ≡ Full → ⊥) × LastRefutes net (the_entries new.entries)))
   refuted_is Closed last o = (λ e. cc, λ p. absurd (stands (o.closed refl) p.1))
   refuted_is Refuted last o = (λ e. (λ f. cc, refutes_last last (o.refuted refl)), λ p. refl)
   refuted_is Full last o = (λ e. cc, λ p. absurd (p.0 refl))
 
-  births_most : (r : Grown) → Outcome net old new r → new.births ≤ old.births + old.cap
+  births_most : (r : Grown) → IsOutcome net old new r → new.births ≤ old.births + old.cap
   births_most r o =
       let l = longer_of r o in
       let births = l.births in
@@ -134,14 +144,14 @@ FirstDerive = (net : Network) (steps more : List Entry) → IsDerivation net (st
 
 -- after growth, however it ended, the list of the log is a derivation
 derived_after : FirstDerive → (net : Network) (old new : State) (r : Grown) → IsWellFormed net → IsDerivation net (the_entries old.entries) →
-    IsKept net (the_entries old.entries) → Outcome net old new r → IsDerivation net (the_entries new.entries)
+    IsKept net (the_entries old.entries) → IsOutcome net old new r → IsDerivation net (the_entries new.entries)
 derived_after first net old new r good derivation kept o = by_answer r o
   where
     whole : IsDerivation net (grow net (the_entries old.entries))
     whole = grown_derived net good.network good.letters (the_entries old.entries)
         (length (the_entries old.entries) + most_entries net) kept.good derivation
 
-    by_answer : (r : Grown) → Outcome net old new r → IsDerivation net (the_entries new.entries)
+    by_answer : (r : Grown) → IsOutcome net old new r → IsDerivation net (the_entries new.entries)
     by_answer Closed o = subst (λ l. IsDerivation net l) (sym (o.closed refl).entries) whole
     by_answer Refuted o = subst (λ l. IsDerivation net l) (sym (o.refuted refl).entries) whole
     by_answer Full o =
@@ -149,16 +159,16 @@ derived_after first net old new r good derivation kept o = by_answer r o
         first net (the_entries new.entries) (f.next ∷ f.rest) (subst (λ l. IsDerivation net l) (sym f.is) whole)
 
 -- and it is what the answer says
-pub is_grown : FirstDerive → (net : Network) (old new : State) (r : Grown) → IsWellFormed net → IsDerivation net (the_entries old.entries) →
-    IsKept net (the_entries old.entries) → IsRefutedLast net (the_entries old.entries) → Outcome net old new r → IsGrown net old new r
-is_grown first net old new r good derivation kept last o =
+pub is_grown : FirstDerive → (net : Network) (old new : State) (r : Grown) → IsWellFormed net → IsGrowable net old →
+    IsKept net (the_entries old.entries) → IsOutcome net old new r → IsGrown net old new r
+is_grown first net old new r good growable kept o =
     let longer = longer_of net old new r o in
     record {
       full = full_is net old new r o;
       cut = cut_is net old new r o;
       whole = grown_is net old new r o;
-      refuted = refuted_is net old new r last o;
-      derivation = derived_after first net old new r good derivation kept o;
+      refuted = refuted_is net old new r growable.last o;
+      derivation = derived_after first net old new r good growable.derivation kept o;
       ids = longer.ids;
       births = births_most net old new r o;
       cap = longer.cap;

@@ -1,9 +1,8 @@
 -- The last entry of a list with its ancestors, as steps of a refutation.
-use Rattle.std.proofs.Common.{ℕ, zero, suc, ◌≡◌, ◌-◌, ◌<◌, ◌≤◌, inl, inr, Bool, false, List, length, get_or, Some, arith, sym, subst, ap, ◌∙◌}
-use Rattle.std.specs.Prelude.{slice_get, slice_index_or}
+use Rattle.std.proofs.Common.{ℕ, zero, suc, ◌≡◌, ◌-◌, ◌<◌, ◌≤◌, List, length, get_or, Some, arith, sym, subst, ap, ◌∙◌}
+use Rattle.std.specs.Prelude.{slice_get}
 use Rattle.std.specs.List.{All}
 use Rattle.std.proofs.lemmas.Int.{ints}
-use Rattle.std.proofs.lemmas.Bool.{cases_Bool}
 use Rattle.std.proofs.lemmas.List.{length-map}
 use Rattle.std.proofs.lemmas.Option.{slice_get_within, slice_get-get_or}
 use Rattle.cstn_label.specs.Bounds.{Bound}
@@ -13,8 +12,8 @@ use Rattle.cstn_rules.specs.declared.entries.Entry.{Entry as DeclaredEntry}
 use Rattle.cstn_rules.specs.Derivations.{Entry, IsRefutation}
 use Rattle.cstn_rules.specs.Read.{the_entry}
 use Rattle.cstn_log.specs.Entries.{the_entries}
-use Rattle.cstn_log.specs.Cuts.{rank, last_marked, with_ancestors, part}
-use Rattle.cstn_log.proofs.ChoiceLemmas.{rank_marked, rank_unmarked}
+use Rattle.cstn_log.specs.Cuts.{last_marked, with_ancestors, part}
+use Rattle.cstn_log.proofs.ChoiceLemmas.{rank_upto}
 use Rattle.cstn_log.proofs.CutLemmas.{length_cut, comes}
 use Rattle.cstn_log.proofs.MarkLemmas.{part_refutation}
 use Rattle.cstn_refute.specs.Refutations.{RefutationParts, IsStep, AreSteps, FitsText, the_steps}
@@ -23,16 +22,7 @@ use Rattle.cstn_check.specs.Kept.{IsKept, IsRanged}
 use Rattle.cstn_check.specs.Turns.{LastRefutes}
 use Rattle.cstn_check.proofs.Decides.{log_derived}
 use Rattle.cstn_check.proofs.GoodLemmas.{good_at}
-use Rattle.cstn_check.proofs.Reading.{entry_at}
-
-rank_upto : (marks : List Bool) (k : ℕ) → rank marks k ≤ k
-rank_upto marks zero = omega arith
-rank_upto marks (suc k) =
-    let upto = rank_upto marks k in
-    elim (cases_Bool (slice_index_or marks k false)) [
-      | inl t ↦ let e = rank_marked marks k t in omega arith
-      | inr f ↦ let e = rank_unmarked marks k f in omega arith
-    ]
+use Rattle.cstn_log.proofs.StepLemmas.{entry_read}
 
 pub part_short : (steps : List Entry) → length (part steps) ≤ length steps
 part_short steps =
@@ -85,7 +75,7 @@ module _ (net : Network) (good : IsWellFormed net) (list : List Entry) (kept : I
   step_there : (steps : List DeclaredEntry) → the_entries steps ≡ part list → (k : ℕ) (d : DeclaredEntry) → k < length steps →
       slice_get (part list) k ≡ Some (the_entry (get_or steps k d))
   step_there steps is k d inside =
-      ap (λ l. slice_get l k) (sym is) ∙ entry_at steps k (get_or steps k d) (slice_get-get_or steps k d inside)
+      ap (λ l. slice_get l k) (sym is) ∙ entry_read steps k (get_or steps k d) (slice_get-get_or steps k d inside)
 
   -- the part of a list that refutes has the form of steps
   pub part_steps : (steps : List DeclaredEntry) → IsRefutation net list → the_entries steps ≡ part list → length list ≤ most_load →

@@ -11,7 +11,8 @@ use Rattle.cstn_rules.specs.Derivations.{Entry}
 use Rattle.cstn_rules.specs.Read.{the_entry}
 use Rattle.cstn_log.specs.Entries.{the_entries, IsLive}
 use Rattle.cstn_check.specs.Growth.{is_covered, is_live, live_bounds}
-use Rattle.cstn_check.proofs.Reading.{entry_at, live_true, dead_false}
+use Rattle.cstn_check.proofs.Reading.{live_true, dead_false}
+use Rattle.cstn_log.proofs.StepLemmas.{entry_read}
 
 -- of a live entry the bound is listed before those of the later ones
 pub live_listed_next : (L : List Entry) (k : ℕ) (e : Entry) → slice_get L k ≡ Some e → is_live L k ≡ true →
@@ -52,7 +53,7 @@ listed_with entries bounds more k e there live pushed upto =
     let L = the_entries entries in
     let rest = live_bounds (drop (suc k) L) in
     let inside = slice_get_within entries k e there in
-    let here = live_listed_next L k (the_entry e) (entry_at entries k e there) (live_true entries k inside live) in
+    let here = live_listed_next L k (the_entry e) (entry_read entries k e there) (live_true entries k inside live) in
     listed_next more L k (record {
       all = ap (λ l. map the_bound l ++ rest) pushed
           ∙ ap (λ l. l ++ rest) (map-append the_bound bounds (e.bound ∷ []))

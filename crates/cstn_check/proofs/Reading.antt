@@ -2,7 +2,6 @@
 use Rattle.std.proofs.Common.{ℕ, zero, suc, ◌≡◌, ◌<◌, inl, inr, Bool, true, false, not, List, [], ◌∷◌, length, Some, arith, refl, sym, subst, ap, ◌∙◌}
 use Rattle.std.specs.Prelude.{slice_get, IsTrue, ◌↔◌}
 use Rattle.std.proofs.lemmas.Bool.{cases_Bool, false≢true}
-use Rattle.std.proofs.lemmas.Option.{slice_get-map}
 use Rattle.cstn_label.specs.declared.bounds.Bound.{Bound}
 use Rattle.cstn_label.specs.Bounds.{Dominates}
 use Rattle.cstn_label.specs.Read.{the_bound}
@@ -14,26 +13,25 @@ use Rattle.cstn_rules.specs.Rules.{Refutes}
 use Rattle.cstn_rules.specs.Read.{the_entry}
 use Rattle.cstn_log.specs.Entries.{the_entries, IsCoveredBy, IsLive}
 use Rattle.cstn_log.proofs.ListLemmas.{get_map}
-use Rattle.cstn_check.specs.Tests.{refutes}
+use Rattle.cstn_rules.specs.Tests.{refutes}
 use Rattle.cstn_check.specs.Growth.{is_covered, is_live}
-use Rattle.cstn_check.proofs.Decided.{Small, refutes_true}
+use Rattle.cstn_check.proofs.Decided.{refutes_true}
 use Rattle.cstn_check.proofs.Lists.{covered_by}
 use Rattle.cstn_check.proofs.Bounded.{covered_at}
 use Rattle.cstn_check.proofs.Decides.{true_refutes}
+use Rattle.cstn_label.specs.OnLetters.{IsOnLetters}
+use Rattle.cstn_log.proofs.StepLemmas.{entry_read}
 
-pub small_marks : (b : Bound) → Small (the_bound b).label
+pub small_marks : (b : Bound) → IsOnLetters (the_bound b).label
 small_marks b = λ p past. unmarked_above b.label p past
 
-pub entries_small : (L : List Entry) (k : ℕ) (e : TheEntry) → slice_get (the_entries L) k ≡ Some e → Small e.bound.label
+pub entries_small : (L : List Entry) (k : ℕ) (e : TheEntry) → slice_get (the_entries L) k ≡ Some e → IsOnLetters e.bound.label
 entries_small L k e there =
     let got = get_map the_entry L k e there in
-    subst (λ (z : TheEntry). Small z.bound.label) got.2 (small_marks got.0.bound)
-
-pub entry_at : (L : List Entry) (k : ℕ) (e : Entry) → slice_get L k ≡ Some e → slice_get (the_entries L) k ≡ Some (the_entry e)
-entry_at L k e there = slice_get-map the_entry L k ∙ rw there refl
+    subst (λ (z : TheEntry). IsOnLetters z.bound.label) got.2 (small_marks got.0.bound)
 
 pub covered_true : (L : List Entry) (b : Bound) → IsCoveredBy L b → is_covered (the_entries L) (the_bound b) ≡ true
-covered_true L b c = covered_at (the_entries L) c.0 (the_entry c.1) (the_bound b) (entry_at L c.0 c.1 c.2) c.3
+covered_true L b c = covered_at (the_entries L) c.0 (the_entry c.1) (the_bound b) (entry_read L c.0 c.1 c.2) c.3
 
 pub true_covered : (L : List Entry) (b : Bound) → is_covered (the_entries L) (the_bound b) ≡ true → IsCoveredBy L b
 true_covered L b h =

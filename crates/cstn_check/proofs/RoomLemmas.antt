@@ -1,7 +1,8 @@
 -- The bound on every log of a network, counted time-point by time-point.
 use Rattle.std.proofs.Common.{ℕ, zero, suc, ◌≡◌, ◌+◌, ◌*◌, ◌^◌, ◌<◌, ◌≤◌, List, [], ◌∷◌, Option, Some, None, take, length, arith, refl, sym, ap, ◌∙◌}
 use Rattle.std.specs.Prelude.{slice_index_or}
-use Rattle.std.proofs.Math.Nat.{mul_assoc, pow-suc}
+use Rattle.std.proofs.Math.Nat.{mul_assoc, mul-le-mul_left, pow-suc, pow-le-pow_right}
+use Rattle.std.proofs.lemmas.List.{take_all}
 use Rattle.std.proofs.lemmas.Nat.{mul-le}
 use Rattle.cstn_net.specs.Limits.{most_time_points, most_deadline}
 use Rattle.cstn_check.specs.Growth.{observed}
@@ -39,6 +40,19 @@ most_more n h os x p inside some =
     ap (λ (k : ℕ). most_by n h os k) (plus_one x) ∙ ap (λ (k : ℕ). n * (h + 2) * 4 ^ k) (observed_one os x p inside some)
     ∙ ap (λ (k : ℕ). n * (h + 2) * k) (pow-suc 4 (observed (take x os)))
     ∙ sym (mul_assoc (n * (h + 2)) (4 ^ observed (take x os)) 4)
+
+observed_upto : (os : List (Option ℕ)) (x : ℕ) → observed (take x os) ≤ observed os
+observed_upto os zero = omega arith
+observed_upto [] (suc x) = omega arith
+observed_upto (None ∷ os) (suc x) = observed_upto os x
+observed_upto (Some p ∷ os) (suc x) = let rest = observed_upto os x in omega (arith, rest)
+
+-- the bound by some of the time-points is no greater than that by all
+pub most_upto : (n h : ℕ) (os : List (Option ℕ)) (x : ℕ) → most_by n h os x ≤ n * (h + 2) * 4 ^ observed os
+most_upto n h os x = mul-le-mul_left (n * (h + 2)) (pow-le-pow_right {n = 4} (omega arith) (observed_upto os x))
+
+pub most_whole : (n h : ℕ) (os : List (Option ℕ)) (x : ℕ) → length os ≤ x → most_by n h os x ≡ n * (h + 2) * 4 ^ observed os
+most_whole n h os x all = ap (λ (l : List (Option ℕ)). n * (h + 2) * 4 ^ observed l) (take_all x os all)
 
 pub most_first : (n h : ℕ) (os : List (Option ℕ)) → n * (h + 2) ≡ most_by n h os 0
 most_first n h os = omega arith

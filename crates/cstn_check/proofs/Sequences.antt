@@ -1,17 +1,21 @@
 -- Instances that are tried one after the other.
 use Rattle.std.proofs.Common.{ℕ, zero, suc, ◌≡◌, ◌+◌, ◌<◌, ◌≤◌, inl, inr, Bool, true, false, List, [], ◌∷◌, ◌++◌, length, map, get_or, take, drop, arith, refl, sym, subst, ap, ◌∙◌, append_assoc}
-use Rattle.std.proofs.lemmas.Bool.{cases_lt}
+use Rattle.std.proofs.lemmas.Bool.{cases_lt, false≢true}
 use Rattle.std.proofs.lemmas.List.{map-append, take_more, take-append-drop, append-nil}
-use Rattle.std.specs.Prelude.{Result, Ok, Err, IfOk}
+use Rattle.std.specs.Prelude.{Result, Ok, Err, IfOk, IsErr}
 use Rattle.cstn_net.specs.declared.constraints.Constraint.{Constraint as DeclaredConstraint}
 use Rattle.cstn_net.specs.Networks.{Network, Constraint, IsWellFormed}
 use Rattle.cstn_net.specs.Read.{NetworkParts, the_network, the_constraint}
 use Rattle.cstn_rules.specs.Derivations.{Entry, IsDerivation}
+use Rattle.cstn_pool.specs.declared.pool.Full.{Full}
 use Rattle.cstn_log.specs.Entries.{State, the_entries}
 use Rattle.cstn_check.specs.Growth.{Instance, is_refuted, step, tried, chains_at, waits_below, turn}
 use Rattle.cstn_check.specs.Growth.Instance.{chain_at, wait_at}
 use Rattle.cstn_check.specs.Kept.{IsKept}
 use Rattle.cstn_check.specs.Turns.{IsOpen, IsTaken, IsFront, IsCut, KeepIds, IsLonger}
+use Rattle.cstn_check.specs.Steps.{is_refutation, IsStep}
+use Rattle.cstn_check.specs.declared.steps.Step.{Step}
+use Rattle.cstn_check.specs.declared.steps.Step.TheVariants.{Open, Refuted}
 use Rattle.cstn_check.proofs.Grows.{Each, tried_extends}
 use Rattle.cstn_check.proofs.Derives.{OfNetwork, tried_keeps, tried_derived}
 use Rattle.cstn_check.proofs.Bounded.{kept_more}
@@ -123,23 +127,55 @@ module _ (net : Network) (old mid new : State) (xs ys : List Instance)
       subst (λ l. IsCut old new (tried net (the_entries old.entries) l)) is
       (cut_first net old (xs ++ ys) rest new (cut_then net old xs ys mid new t k))
 
-pub taken_as : {net : Network} {old new : State} {list : List Entry} {r b : Bool} → r ≡ b → IsTaken net old new list r →
-    IsTaken net old new list b
-taken_as {net = net} {old = old} {new = new} {list = list} e t = subst (λ x. IsTaken net old new list x) e t
+-- ---- what steps answer
 
-pub ready_then : {E : Type 0} (net : Network) (old new : State) (is : List Instance) (o : Result Bool E) → IsWellFormed net →
-    Each (OfNetwork net) is → IsOpen net old → IfOk o (λ r. IsTaken net old new (tried net (the_entries old.entries) is) r) →
-    IfOk o (λ r. r ≡ false → IsOpen net new)
-ready_then net old new is (Ok r) good of ready t = λ e.
-    open_after net old new is good of ready (subst (λ b. IsTaken net old new (tried net (the_entries old.entries) is) b) e t)
+module _ (net : Network) (old new : State) (list : List Entry) where
+  pub open_step : IsTaken net old new list false → IsOpen net new → IsStep net old new list (Ok Open)
+  open_step t ready = record { taken = t; cut = λ is. absurd (false≢true is); ready = λ e. ready }
+
+  pub refuted_step : IsTaken net old new list true → IsStep net old new list (Ok Refuted)
+  refuted_step t = record { taken = t; cut = λ is. absurd (false≢true is); ready = λ e. cc }
+
+  pub step_open : (s : Step) → s ≡ Open → IsStep net old new list (Ok s) → IsTaken net old new list false
+  step_open s e told = subst (λ (x : Step). IsTaken net old new list (is_refutation x)) e told.taken
+
+  pub step_refuted : (s : Step) → s ≡ Refuted → IsStep net old new list (Ok s) → IsTaken net old new list true
+  step_refuted s e told = subst (λ (x : Step). IsTaken net old new list (is_refutation x)) e told.taken
+
+ready_then : (net : Network) (old new : State) (is : List Instance) (o : Result Step Full) → IsWellFormed net →
+    Each (OfNetwork net) is → IsOpen net old → IfOk o (λ s. IsTaken net old new (tried net (the_entries old.entries) is) (is_refutation s)) →
+    IfOk o (λ s. s ≡ Open → IsOpen net new)
+ready_then net old new is (Ok s) good of ready t = λ e.
+    open_after net old new is good of ready
+    (subst (λ (x : Step). IsTaken net old new (tried net (the_entries old.entries) is) (is_refutation x)) e t)
 ready_then net old new is (Err e) good of ready t = tt
 
-pub then_on : {E : Type 0} (net : Network) (old mid new : State) (xs ys zs : List Instance) (o : Result Bool E) → xs ++ ys ≡ zs →
+-- a conclusion that is put at the end of the list makes the step of its instance
+pub put_stepped : (net : Network) (old new : State) (i : Instance) (list : List Entry) (o : Result Step Full) → IsWellFormed net → OfNetwork net i →
+    IsOpen net old → list ≡ step net (the_entries old.entries) i → IfOk o (λ s. IsTaken net old new list (is_refutation s)) →
+    (IsErr o → IsCut old new list) → IsStep net old new (step net (the_entries old.entries) i) o
+put_stepped net old new i list o good of ready is taken cut =
+    let told = subst (λ (l : List Entry). IfOk o (λ s. IsTaken net old new l (is_refutation s))) is taken in
+    record {
+      taken = told;
+      cut = subst (λ (l : List Entry). IsErr o → IsCut old new l) is cut;
+      ready = ready_then net old new (i ∷ []) o good (of, tt) ready told;
+    }
+
+-- a step goes on from one after which growth can go on
+pub step_then : (net : Network) (old mid new : State) (xs ys zs : List Instance) (o : Result Step Full) → xs ++ ys ≡ zs →
     IsTaken net old mid (tried net (the_entries old.entries) xs) false →
-    IfOk o (λ r. IsTaken net mid new (tried net (the_entries mid.entries) ys) r) →
-    IfOk o (λ r. IsTaken net old new (tried net (the_entries old.entries) zs) r)
-then_on net old mid new xs ys zs (Ok r) is t u = go_on net old mid new xs ys t zs r is u
-then_on net old mid new xs ys zs (Err e) is t u = tt
+    IsStep net mid new (tried net (the_entries mid.entries) ys) o → IsStep net old new (tried net (the_entries old.entries) zs) o
+step_then net old mid new xs ys zs (Ok s) is t u = record {
+  taken = go_on net old mid new xs ys t zs (is_refutation s) is u.taken;
+  cut = λ e. absurd (false≢true e);
+  ready = u.ready;
+}
+step_then net old mid new xs ys zs (Err e) is t u = record {
+  taken = tt;
+  cut = λ h. subst (λ (l : List Instance). IsCut old new (tried net (the_entries old.entries) l)) is (cut_then net old xs ys mid new t (u.cut h));
+  ready = tt;
+}
 
 pub chains_next : (cs : List DeclaredConstraint) (j k : ℕ) (x : DeclaredConstraint) → x ≡ get_or cs k x → k < length cs →
     chains_at (map the_constraint (take k cs)) j ++ chain_at (the_constraint x) j ∷ []

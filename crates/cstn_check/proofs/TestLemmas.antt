@@ -12,9 +12,11 @@ use Rattle.cstn_label.specs.Bounds.{Bound, Dominates}
 use Rattle.cstn_net.specs.Networks.{Network, Constraint, IsConstraint, IsWellFormed}
 use Rattle.cstn_rules.specs.Rules.{Refutes, IsChain, IsWait}
 use Rattle.cstn_rules.specs.Derivations.{Entry}
-use Rattle.cstn_check.specs.Tests.{is_within, dominates, refutes, chain_of, wait_of}
+use Rattle.cstn_rules.specs.Tests.{refutes, chain_of, wait_of}
+use Rattle.cstn_label.specs.Tests.{is_within, dominates}
 use Rattle.cstn_check.specs.Growth.{is_covered, is_live, is_refuted, live_bounds}
-use Rattle.cstn_check.specs.Relations.{IsOnLetters, AreOnLetters, IsCovered, IsLive, IsRefuted}
+use Rattle.cstn_label.specs.OnLetters.{IsOnLetters}
+use Rattle.cstn_check.specs.Relations.{AreOnLetters, IsCovered, IsLive, IsRefuted}
 use Rattle.cstn_check.proofs.Decided.{within_true, true_within, dominates_true, true_dominates, refutes_true, chain_gives, wait_gives}
 use Rattle.cstn_check.proofs.Lists.{covered_by, live_entry, live_listed, listed_live}
 use Rattle.cstn_check.proofs.Derives.{small_of, chain_when, wait_is}

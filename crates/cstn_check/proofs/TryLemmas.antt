@@ -15,8 +15,8 @@ use Rattle.cstn_rules.specs.declared.entries.Why.{Why}
 use Rattle.cstn_rules.specs.declared.entries.Why.TheVariants.{Base, Chain, Wait}
 use Rattle.cstn_rules.specs.Read.{the_entry}
 use Rattle.cstn_log.specs.Entries.{State, the_entries}
-use Rattle.cstn_check.specs.Tests.{wait_for, wait_of}
-use Rattle.cstn_check.specs.Growth.{Instance, of_two, tried}
+use Rattle.cstn_rules.specs.Tests.{wait_for, wait_of}
+use Rattle.cstn_check.specs.Growth.{Instance, conclusion, of_two, tried}
 use Rattle.cstn_check.specs.Growth.Instance.{wait_at}
 use Rattle.cstn_check.specs.Tries.{total, how_many, concludes, concluding_pairs, concludes_with, concludes_upto}
 use Rattle.cstn_check.specs.Turns.{IsTaken}
@@ -91,6 +91,24 @@ none_alone net L k (Some x) derived e =
 -- wait of an entry with itself has no conclusion
 alone_none : (net : Network) (L : List Entry) (k : ℕ) → IsDerivation net L → concludes net L k k ≡ 0
 alone_none net L k derived = ap how_many (none_alone net L k (slice_get L k) derived refl)
+
+-- ---- how many at most
+
+one_most : (o : Option Bound) → how_many o ≤ 1
+one_most None = omega arith
+one_most (Some b) = omega arith
+
+withs_most : (net : Network) (L : List Entry) (j n : ℕ) → total (concludes_with net L j) n ≤ 2 * n
+withs_most net L j zero = omega arith
+withs_most net L j (suc n) =
+    let rest = withs_most net L j n in
+    let one : concludes net L n j ≤ 1 = one_most (conclusion net L (wait_at n j)) in
+    let other : concludes net L j n ≤ 1 = one_most (conclusion net L (wait_at j n)) in
+    omega (arith, rest, one, other)
+
+-- each wait of an entry with those up to it has at most one conclusion
+pub upto_most : (net : Network) (L : List Entry) (j : ℕ) → concludes_upto net L j ≤ 2 * (j + 1)
+upto_most net L j = let all = withs_most net L j (suc j) in omega (arith, all)
 
 -- ---- while the list grows
 

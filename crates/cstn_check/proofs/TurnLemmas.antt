@@ -18,16 +18,17 @@ use Rattle.cstn_rules.specs.Read.{the_entry}
 use Rattle.cstn_log.specs.Entries.{State, the_entries, IsBoundAt, IsCoveredBy, IsLive}
 use Rattle.cstn_log.proofs.DerivedLemmas.{chain_follows, wait_follows}
 use Rattle.cstn_log.proofs.ListLemmas.{get_map}
-use Rattle.cstn_check.specs.Tests.{refutes, chain_of, wait_of}
+use Rattle.cstn_rules.specs.Tests.{refutes, chain_of, wait_of}
 use Rattle.cstn_check.specs.Growth.{Instance, why_of, is_covered, is_refuted, premises_live, is_live, of_one, of_two, conclusion, with_conclusion, step}
 use Rattle.cstn_check.specs.Growth.Instance.{chain_at, wait_at}
 use Rattle.cstn_check.specs.Turns.{IsOpen, IsTaken, IsCut, IsLonger}
 use Rattle.cstn_check.specs.Waits.{HasBound}
 use Rattle.cstn_check.proofs.Lists.{Extends, get_kept}
-use Rattle.cstn_check.proofs.Reading.{entry_at, covered_true, uncovered_false, live_true, dead_false, refutes_is}
+use Rattle.cstn_check.proofs.Reading.{covered_true, uncovered_false, live_true, dead_false, refutes_is}
 use Rattle.cstn_check.proofs.Decided.{chain_gives, wait_gives}
 use Rattle.cstn_check.proofs.GoodLemmas.{good_at}
 use Rattle.cstn_check.proofs.Derives.{chain_is, wait_is}
+use Rattle.cstn_log.proofs.StepLemmas.{entry_read}
 
 -- the list with a conclusion, where no entry dominates it
 abbrev pub put_to : List TheEntry → TheEntry → List TheEntry
@@ -95,7 +96,7 @@ put_cut old new e free full is =
 pub bound_of : (net : Network) (s : State) (k : ℕ) (e : Entry) → IsOpen net s → slice_get s.entries k ≡ Some e →
     IsBoundOf net (the_bound e.bound)
 bound_of net s k e ready there =
-    let at = entry_at s.entries k e there in
+    let at = entry_read s.entries k e there in
     let good = good_at net (the_entries s.entries) k (the_entry e) ready.kept.good at in
     let ranged = ready.kept.ranged k (the_entry e) at in
     record { node = good.node; low = ranged.low; high = ranged.high }
@@ -164,16 +165,16 @@ module _ (net : Network) (s : State) (good : IsWellFormed net) (ready : IsOpen n
   pub chain_concludes : (c : Constraint) (j : ℕ) (e : Entry) (r : Bound) → slice_get s.entries j ≡ Some e →
       IsChain net c (the_bound e.bound) r → conclusion net (the_entries s.entries) (chain_at c j) ≡ Some r
   chain_concludes c j e r there chain =
-      ap (of_one (chain_of net c)) (entry_at s.entries j e there) ∙ chain_gives net c (the_bound e.bound) r chain
+      ap (of_one (chain_of net c)) (entry_read s.entries j e there) ∙ chain_gives net c (the_bound e.bound) r chain
 
   pub chain_ends : (c : Constraint) (j : ℕ) (e : Entry) → Contains net.constraints c → slice_get s.entries j ≡ Some e →
       ((r : Bound) → IsChain net c (the_bound e.bound) r → ⊥) → conclusion net (the_entries s.entries) (chain_at c j) ≡ None
   chain_ends c j e has there none =
-      ap (of_one (chain_of net c)) (entry_at s.entries j e there)
+      ap (of_one (chain_of net c)) (entry_read s.entries j e there)
       ∙ none_given (chain_of net c (the_bound e.bound)) (λ r gives.
       none r (chain_is net c (the_bound e.bound) r good.letters
       (All-contains (IsConstraint net) net.constraints c good.network.constraints has)
-      (good_at net (the_entries s.entries) j (the_entry e) ready.kept.good (entry_at s.entries j e there)) gives))
+      (good_at net (the_entries s.entries) j (the_entry e) ready.kept.good (entry_read s.entries j e there)) gives))
 
   pub live_wait : (i j : ℕ) → i < length s.entries → j < length s.entries → IsLive s.entries i → IsLive s.entries j →
       premises_live (the_entries s.entries) (wait_at i j) ≡ true
@@ -192,25 +193,21 @@ module _ (net : Network) (s : State) (good : IsWellFormed net) (ready : IsOpen n
       slice_get s.entries j ≡ Some f → IsWait net p (the_bound e.bound) (the_bound f.bound) r →
       conclusion net (the_entries s.entries) (wait_at i j) ≡ Some r
   wait_concludes i j e f p r at_i at_j wait =
-      ap (λ o. of_two (wait_of net) o (slice_get (the_entries s.entries) j)) (entry_at s.entries i e at_i)
-      ∙ ap (λ o. of_two (wait_of net) (Some (the_entry e)) o) (entry_at s.entries j f at_j)
+      ap (λ o. of_two (wait_of net) o (slice_get (the_entries s.entries) j)) (entry_read s.entries i e at_i)
+      ∙ ap (λ o. of_two (wait_of net) (Some (the_entry e)) o) (entry_read s.entries j f at_j)
       ∙ wait_gives net p (the_bound e.bound) (the_bound f.bound) r wait
 
   pub wait_ends : (i j : ℕ) (e f : Entry) → slice_get s.entries i ≡ Some e → slice_get s.entries j ≡ Some f →
       ((p : ℕ) (r : Bound) → IsWait net p (the_bound e.bound) (the_bound f.bound) r → ⊥) →
       conclusion net (the_entries s.entries) (wait_at i j) ≡ None
   wait_ends i j e f at_i at_j none =
-      ap (λ o. of_two (wait_of net) o (slice_get (the_entries s.entries) j)) (entry_at s.entries i e at_i)
-      ∙ ap (λ o. of_two (wait_of net) (Some (the_entry e)) o) (entry_at s.entries j f at_j)
+      ap (λ o. of_two (wait_of net) o (slice_get (the_entries s.entries) j)) (entry_read s.entries i e at_i)
+      ∙ ap (λ o. of_two (wait_of net) (Some (the_entry e)) o) (entry_read s.entries j f at_j)
       ∙ none_given (wait_of net (the_bound e.bound) (the_bound f.bound)) (λ r gives.
       let w = wait_is net (slice_index_or net.observes e.bound.node.0 None) (the_bound e.bound) (the_bound f.bound) r refl gives in
       none w.0 r w.1)
 
 -- ---- bounds that are read without their rules
-
--- the entry of a bound that is read
-pub entry_with : (entries : List Entry) (k : ℕ) (b : DeclaredBound) (at : IsBoundAt entries k b) → slice_get entries k ≡ Some (record { bound = b; why = at.entry.why })
-entry_with entries k b at = subst (λ z. slice_get entries k ≡ Some (record { bound = z; why = at.entry.why })) at.is at.there
 
 -- a bound at a place of the log is one of the network
 pub bound_in : (net : Network) (s : State) (k : ℕ) (b : DeclaredBound) → IsOpen net s → IsBoundAt s.entries k b → IsBoundOf net (the_bound b)
@@ -231,7 +228,7 @@ has_bound entries k b at = record { entry = at.entry; there = at.there; is = ap 
 -- an entry has its bound while the list grows
 pub bound_on : (L G : List Entry) (k : ℕ) (b : Bound) → Extends (the_entries L) (the_entries G) → k < length (the_entries L) → HasBound L k b → HasBound G k b
 bound_on L G k b more inside at =
-    let got = get_map the_entry G k (the_entry at.entry) (get_kept (the_entries L) (the_entries G) k more inside ∙ entry_at L k at.entry at.there) in
+    let got = get_map the_entry G k (the_entry at.entry) (get_kept (the_entries L) (the_entries G) k more inside ∙ entry_read L k at.entry at.there) in
     record { entry = got.0; there = got.1; is = ap (λ (y : TheEntry). y.bound) got.2 ∙ at.is }
 
 -- wait of the bounds at two places is wait of their entries

@@ -17,7 +17,8 @@ use Rattle.cstn_log.proofs.ListLemmas.{get_map, one_there, cases_same}
 use Rattle.cstn_label.specs.declared.bounds.Bound.{Bound as DeclaredBound}
 use Rattle.cstn_check.specs.Waits.{IsWaiting, IsAhead, Waits}
 use Rattle.cstn_check.proofs.Lists.{Extends, get_kept, live_before}
-use Rattle.cstn_check.proofs.Reading.{entry_at, live_true, true_live}
+use Rattle.cstn_check.proofs.Reading.{live_true, true_live}
+use Rattle.cstn_log.proofs.StepLemmas.{entry_read}
 
 -- before the first place
 pub ahead_of_all : (net : Network) (entries : List Entry) (j : ℕ) (block : List ℕ) → ((n : ℕ) → has_number block n ≡ false) → IsAhead net entries j 0 block 0 0
@@ -141,7 +142,7 @@ waiting_before net L G k j more in_k in_j w =
 
     back : (i : ℕ) (e : Entry) → slice_get G i ≡ Some e → i < length L → (f : Entry) × (slice_get L i ≡ Some f) × (the_entry f ≡ the_entry e)
     back i e at inside =
-        let got = get_map the_entry L i (the_entry e) (sym (get_kept (the_entries L) (the_entries G) i more (omega (arith, inside, size))) ∙ entry_at G i e at) in
+        let got = get_map the_entry L i (the_entry e) (sym (get_kept (the_entries L) (the_entries G) i more (omega (arith, inside, size))) ∙ entry_read G i e at) in
         (got.0, got.1, got.2)
 
     live : (i : ℕ) (e : Entry) → slice_get G i ≡ Some e → i < length L → IsLive G i → IsLive L i

@@ -7,7 +7,8 @@ use Rattle.cstn_rules.specs.Derivations.{Entry}
 use Rattle.cstn_rules.specs.declared.entries.Why.{Why}
 use Rattle.cstn_rules.specs.declared.entries.Why.TheVariants.{Chain, Wait}
 use Rattle.cstn_log.specs.Entries.{bases}
-use Rattle.cstn_check.specs.Tests.{dominates, refutes, chain_of, wait_of}
+use Rattle.cstn_rules.specs.Tests.{refutes, chain_of, wait_of}
+use Rattle.cstn_label.specs.Tests.{dominates}
 
 -- a rule with its constraint and the places of its premises
 pub data Instance : Type 0 where

@@ -1,15 +1,10 @@
 -- The relations that the tests on lists decide.
-use Rattle.std.specs.Prelude.{ℕ, ◌≡◌, ◌<◌, ◌≤◌, List, length, Some, slice_get}
-use Rattle.cstn_label.specs.declared.marks.Mark.TheVariants.{Absent}
-use Rattle.cstn_label.specs.Labels.{Label}
+use Rattle.std.specs.Prelude.{ℕ, ◌≡◌, ◌<◌, List, length, Some, slice_get}
 use Rattle.cstn_label.specs.Bounds.{Bound, Dominates}
+use Rattle.cstn_label.specs.OnLetters.{IsOnLetters}
 use Rattle.cstn_net.specs.Networks.{Network}
 use Rattle.cstn_rules.specs.Rules.{Refutes}
 use Rattle.cstn_rules.specs.Derivations.{Entry}
-
--- the label marks none but the 52 letters
-abbrev pub IsOnLetters : Label → Type 0
-IsOnLetters a = (p : ℕ) → 52 ≤ p → a p ≡ Absent
 
 -- the label of each entry marks none but the 52 letters
 abbrev pub AreOnLetters : List Entry → Type 0

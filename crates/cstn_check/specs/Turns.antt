@@ -1,12 +1,12 @@
 -- What the turns of growth make of a log.
-use Rattle.std.specs.Prelude.{ℕ, ◌≡◌, ◌<◌, ◌≤◌, ◌+◌, ◌-◌, ◌^◌, ◌↔◌, Bool, false, List, ◌∷◌, ◌++◌, length, take, Some, slice_get}
+use Rattle.std.specs.Prelude.{ℕ, ◌≡◌, ◌<◌, ◌≤◌, ◌+◌, ◌-◌, ◌^◌, ◌↔◌, Bool, true, false, List, ◌∷◌, ◌++◌, length, take, Some, slice_get}
 use Rattle.cstn_net.specs.Networks.{Network, count}
 use Rattle.cstn_rules.specs.Rules.{Refutes}
 use Rattle.cstn_rules.specs.Derivations.{Entry, IsDerivation}
 use Rattle.cstn_pool.specs.declared.slot_id.SlotId.{SlotId}
-use Rattle.cstn_log.specs.Entries.{State, the_entries}
+use Rattle.cstn_log.specs.Entries.{State, the_entries, bases}
 use Rattle.cstn_check.specs.declared.growth.Grown.{Grown}
-use Rattle.cstn_check.specs.declared.growth.Grown.TheVariants.{Refuted, Full}
+use Rattle.cstn_check.specs.declared.growth.Grown.TheVariants.{Closed, Refuted, Full}
 use Rattle.cstn_check.specs.Growth.{is_refuted, grow}
 use Rattle.cstn_check.specs.Kept.{IsKept}
 
@@ -62,6 +62,27 @@ pub record LastRefutes (net : Network) (list : List Entry) : Type 0 where
   pub last : Entry
   pub is_last : slice_get list (length list - 1) ≡ Some last
   pub refutes : Refutes net last.bound
+
+-- the log can be grown: it is a derivation that begins with the base bounds, no entry but perhaps its last refutes the network, and
+-- the pool has births left
+pub record IsGrowable (net : Network) (log : State) : Type 0 where
+  pub nodes : log.nodes ≡ count net
+  pub derivation : IsDerivation net (the_entries log.entries)
+  pub front : (more : List Entry) × (bases (count net) ++ more ≡ the_entries log.entries)
+  pub last : IsRefutedLast net (the_entries log.entries)
+  pub births : log.births < 2 ^ 61
+
+-- what came of growing the log, by each answer
+pub record IsOutcome (net : Network) (old new : State) (grown : Grown) : Type 0 where
+  pub closed : grown ≡ Closed → IsTaken net old new (grow net (the_entries old.entries)) false
+  pub refuted : grown ≡ Refuted → IsTaken net old new (grow net (the_entries old.entries)) true
+  pub full : grown ≡ Full → IsCut old new (grow net (the_entries old.entries))
+
+-- the count of tries has gone up, and unless the log is full by no more than either number
+pub record IsGrowthCounted (grown : Grown) (old new all fresh : ℕ) : Type 0 where
+  pub low : old ≤ new
+  pub most_tried : (grown ≡ Full → ⊥) → new ≤ old + all
+  pub most_tries : (grown ≡ Full → ⊥) → new ≤ old + fresh
 
 -- growth has made the new log of the old one: its list is the grown list, or as much of it as the cap allows where that is longer,
 -- which is what full says; refuted says that the last entry refutes the network; and the old entries have kept their ids

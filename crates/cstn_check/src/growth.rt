@@ -1,16 +1,14 @@
-ghost use Rattle.std.specs.Prelude.{◌≡◌, ◌+◌, ◌<◌, ◌≤◌, ◌^◌, ◌++◌, true, false, length, List};
+ghost use Rattle.std.specs.Prelude.{◌≡◌, ◌+◌, ◌≤◌, length};
 ghost use Rattle.cstn_check.specs.Spent.{AreSpent, fresh_count, most_tries};
-ghost use Rattle.cstn_net.specs.Networks.{count};
 ghost use Rattle.cstn_net.specs.Read.{the_network};
-ghost use Rattle.cstn_rules.specs.Derivations.{Entry as TheEntry, IsDerivation};
-ghost use Rattle.cstn_log.specs.Entries.{the_entries, bases};
-ghost use Rattle.cstn_check.specs.Growth.{grow};
+ghost use Rattle.cstn_log.specs.Entries.{the_entries};
 ghost use Rattle.cstn_check.specs.Kept.{IsKept};
 ghost use Rattle.cstn_check.specs.Tries.{most_tried};
-ghost use Rattle.cstn_check.specs.Turns.{IsOpen, IsTaken, IsCut, IsGrown, IsRefutedLast};
+ghost use Rattle.cstn_check.specs.Turns.{IsOpen, IsOutcome, IsGrowthCounted, IsGrowable, IsGrown};
 
+use crate::steps::Step;
 use crate::turns::take_turn;
-use cstn_log::Log;
+use cstn_log::{Log, log_is_well_formed};
 use cstn_net::{Network, network_is_well_formed};
 use cstn_rules::{Tries, derivations_move, refutes};
 
@@ -28,11 +26,7 @@ pub enum Grown {
 /// or after the last entry's turn. The log is full exactly where the list would have more entries than its cap. The entries that
 /// the log has keep their ids.
 pub fn grow(net: &Network, log: &mut Log, tries: &mut Tries) -> Grown
-    requires nodes { log.old.nodes ≡ count (the_network net.now) }
-    requires derivation { IsDerivation (the_network net.now) (the_entries log.old.entries) }
-    requires bases { (more : List TheEntry) × (bases (count (the_network net.now)) ++ more ≡ the_entries log.old.entries) }
-    requires last { IsRefutedLast (the_network net.now) (the_entries log.old.entries) }
-    requires births { log.old.births < 2 ^ 61 }
+    requires growable { IsGrowable (the_network net.now) log.old }
 
     ensures grown { IsGrown (the_network net.now) log.old log.new result }
     ensures tries { tries.old.count ≤ tries.new.count }
@@ -40,7 +34,7 @@ pub fn grow(net: &Network, log: &mut Log, tries: &mut Tries) -> Grown
 {
     network_is_well_formed(net);
     derivations_move();
-    let _all_new = log.len();
+    log_is_well_formed(log);
     grow_kept(net, log, &[], 0, tries)
 }
 
@@ -48,11 +42,7 @@ pub fn grow(net: &Network, log: &mut Log, tries: &mut Tries) -> Grown
 /// of constraints whose ids are in `fresh`. So what any other rule gives from live ones of these entries must be dominated by
 /// some entry already.
 pub fn grow_on(net: &Network, log: &mut Log, fresh: &[u32], tries: &mut Tries) -> Grown
-    requires nodes { log.old.nodes ≡ count (the_network net.now) }
-    requires derivation { IsDerivation (the_network net.now) (the_entries log.old.entries) }
-    requires bases { (more : List TheEntry) × (bases (count (the_network net.now)) ++ more ≡ the_entries log.old.entries) }
-    requires last { IsRefutedLast (the_network net.now) (the_entries log.old.entries) }
-    requires births { log.old.births < 2 ^ 61 }
+    requires growable { IsGrowable (the_network net.now) log.old }
     requires spent { AreSpent (the_network net.now) (the_entries log.old.entries) fresh.now (length log.old.entries) }
 
     ensures grown { IsGrown (the_network net.now) log.old log.new result }
@@ -74,21 +64,16 @@ fn grow_open(net: &Network, log: &mut Log, fresh: &[u32], old: u32, tries: &mut 
     requires ready { IsOpen (the_network net.now) log.old }
     requires front { old ≤ length log.old.entries }
     requires spent { AreSpent (the_network net.now) (the_entries log.old.entries) fresh.now old }
-    ensures closed { result ≡ Grown.Closed → IsTaken (the_network net.now) log.old log.new (grow (the_network net.now) (the_entries log.old.entries)) false }
-    ensures refuted { result ≡ Grown.Refuted → IsTaken (the_network net.now) log.old log.new (grow (the_network net.now) (the_entries log.old.entries)) true }
-    ensures full { result ≡ Grown.Full → IsCut log.old log.new (grow (the_network net.now) (the_entries log.old.entries)) }
-    ensures tries { tries.old.count ≤ tries.new.count }
-    ensures most_tried { (result ≡ Grown.Full → ⊥) → tries.new.count ≤ tries.old.count + most_tried (the_network net.now) (the_entries log.new.entries) }
-    ensures most_tries { (result ≡ Grown.Full → ⊥)
-        → tries.new.count ≤ tries.old.count + most_tries (length net.now.constraints) (fresh_count fresh.now (the_network net.now).constraints) old
-        (length log.new.entries) }
+    ensures outcome { IsOutcome (the_network net.now) log.old log.new result }
+    ensures counted { IsGrowthCounted result tries.old.count tries.new.count (most_tried (the_network net.now) (the_entries log.new.entries))
+        (most_tries (length net.now.constraints) (fresh_count fresh.now (the_network net.now).constraints) old (length log.new.entries)) }
 {
     network_is_well_formed(net);
     let mut j = 0;
     while j < log.len() {
         match take_turn(net, log, fresh, old, j, tries) {
-            Ok(true) => return Grown::Refuted,
-            Ok(false) => j += 1,
+            Ok(Step::Refuted) => return Grown::Refuted,
+            Ok(Step::Open) => j += 1,
             Err(_) => return Grown::Full,
         }
     }
@@ -100,19 +85,11 @@ fn grow_open(net: &Network, log: &mut Log, fresh: &[u32], old: u32, tries: &mut 
 fn grow_kept(net: &Network, log: &mut Log, fresh: &[u32], old: u32, tries: &mut Tries) -> Grown
     requires front { old ≤ length log.old.entries }
     requires spent { AreSpent (the_network net.now) (the_entries log.old.entries) fresh.now old }
-    requires nodes { log.old.nodes ≡ count (the_network net.now) }
-    requires derivation { IsDerivation (the_network net.now) (the_entries log.old.entries) }
+    requires growable { IsGrowable (the_network net.now) log.old }
     requires kept { IsKept (the_network net.now) (the_entries log.old.entries) }
-    requires last { IsRefutedLast (the_network net.now) (the_entries log.old.entries) }
-    requires births { log.old.births < 2 ^ 61 }
-    ensures closed { result ≡ Grown.Closed → IsTaken (the_network net.now) log.old log.new (grow (the_network net.now) (the_entries log.old.entries)) false }
-    ensures refuted { result ≡ Grown.Refuted → IsTaken (the_network net.now) log.old log.new (grow (the_network net.now) (the_entries log.old.entries)) true }
-    ensures full { result ≡ Grown.Full → IsCut log.old log.new (grow (the_network net.now) (the_entries log.old.entries)) }
-    ensures tries { tries.old.count ≤ tries.new.count }
-    ensures most_tried { (result ≡ Grown.Full → ⊥) → tries.new.count ≤ tries.old.count + most_tried (the_network net.now) (the_entries log.new.entries) }
-    ensures most_tries { (result ≡ Grown.Full → ⊥)
-        → tries.new.count ≤ tries.old.count + most_tries (length net.now.constraints) (fresh_count fresh.now (the_network net.now).constraints) old
-        (length log.new.entries) }
+    ensures outcome { IsOutcome (the_network net.now) log.old log.new result }
+    ensures counted { IsGrowthCounted result tries.old.count tries.new.count (most_tried (the_network net.now) (the_entries log.new.entries))
+        (most_tries (length net.now.constraints) (fresh_count fresh.now (the_network net.now).constraints) old (length log.new.entries)) }
 {
     network_is_well_formed(net);
     let count = log.len();

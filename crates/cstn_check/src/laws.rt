@@ -12,9 +12,11 @@ ghost use Rattle.cstn_rules.specs.Rules.{Refutes, IsBoundOf, IsChain, IsWait};
 ghost use Rattle.cstn_log.specs.Entries.{bases};
 ghost use Rattle.cstn_check.specs.Examples.{HasLog, Shows, of_two_marks, after, before, prompt, branch_and, crossed_and, unknown_mark, process, drawn};
 ghost use Rattle.cstn_check.specs.Examples.{crossed_lines, unknown_mark_lines, process_lines};
-ghost use Rattle.cstn_check.specs.Tests.{is_within, dominates, refutes, chain_of, wait_of};
+ghost use Rattle.cstn_rules.specs.Tests.{refutes, chain_of, wait_of};
+ghost use Rattle.cstn_label.specs.Tests.{is_within, dominates};
 ghost use Rattle.cstn_check.specs.Growth.{Instance, grown, grow, log_of, load_of, most_entries, is_covered, is_live, is_refuted, live_bounds};
-ghost use Rattle.cstn_check.specs.Relations.{IsOnLetters, AreOnLetters, IsCovered, IsLive, IsRefuted};
+ghost use Rattle.cstn_label.specs.OnLetters.{IsOnLetters};
+ghost use Rattle.cstn_check.specs.Relations.{AreOnLetters, IsCovered, IsLive, IsRefuted};
 ghost use Rattle.cstn_check.specs.Kept.{IsKept};
 ghost use Rattle.cstn_check.specs.Spent.{HasPremises, IsSpent, AreSpent};
 

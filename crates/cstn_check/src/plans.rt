@@ -17,7 +17,7 @@ pub(crate) fn live_bounds(log: &Log, room: Vec<Bound>) -> Vec<Bound>
     let mut bounds = room;
     for k in 0..log.len() {
         if log.live(k) {
-            bounds.push(log.entry(k).bound).unwrap();
+            bounds.push(log.bound(k)).unwrap();
         }
     }
     bounds

@@ -3,36 +3,51 @@ ghost use Rattle.std.specs.Prelude.{◌≡◌, ◌++◌, ◌∷◌, [], ◌<◌,
 ghost use Rattle.cstn_label.specs.Read.{the_bound};
 ghost use Rattle.cstn_net.specs.Networks.{count};
 ghost use Rattle.cstn_net.specs.Read.{the_network};
+ghost use Rattle.cstn_rules.specs.Rules.{Refutes};
 ghost use Rattle.cstn_rules.specs.Derivations.{Follows};
 ghost use Rattle.cstn_rules.specs.Read.{the_entry};
 ghost use Rattle.cstn_log.specs.Entries.{the_entries, IsCoveredBy};
 ghost use Rattle.cstn_check.specs.Growth.{is_covered};
 ghost use Rattle.cstn_check.specs.Turns.{IsOpen, IsTaken, IsCut};
+ghost use Rattle.cstn_check.specs.Steps.{is_refutation};
 
+use crate::steps::Step;
 use cstn_label::Bound;
 use cstn_log::Log;
 use cstn_net::Network;
 use cstn_pool::Full;
 use cstn_rules::{Entry, refutes};
 
-// Puts a conclusion at the end of the list, where no entry dominates it, and says whether the list is refuted then. The entry
-// at `near` is the first that is asked, and `near` becomes the place of the one that dominates it.
-pub fn put(net: &Network, log: &mut Log, e: Entry, near: &mut u32) -> Result<bool, Full>
+// Puts a conclusion at the end of the list, where no entry dominates it. The entry at `near` is the first that is asked, and
+// `near` becomes the place of the one that dominates it.
+pub fn put(net: &Network, log: &mut Log, e: Entry, near: &mut u32) -> Result<Step, Full>
     requires ready { IsOpen (the_network net.now) log.old }
     requires follows { Follows (the_network net.now) (the_entries log.old.entries) (length log.old.entries) e.why (the_bound e.bound) }
     requires node { e.bound.node.0 < count (the_network net.now) }
-    ensures taken { IfOk result (λ r. IsTaken (the_network net.now) log.old log.new
+    ensures taken { IfOk result (λ s. IsTaken (the_network net.now) log.old log.new
         (cond (is_covered (the_entries log.old.entries) (the_bound e.bound)) (the_entries log.old.entries)
-        (the_entries log.old.entries ++ the_entry e ∷ [])) r) }
+        (the_entries log.old.entries ++ the_entry e ∷ [])) (is_refutation s)) }
     ensures cut { IsErr result → IsCut log.old log.new
         (cond (is_covered (the_entries log.old.entries) (the_bound e.bound)) (the_entries log.old.entries)
         (the_entries log.old.entries ++ the_entry e ∷ [])) }
 {
     if covers(log, &e.bound, near) {
-        return Ok(false);
+        return Ok(Step::Open);
     }
     log.push(net, e)?;
-    Ok(refutes(net, &e.bound))
+    Ok(step_to(net, &e.bound))
+}
+
+// The step that ends at a new entry with this bound.
+fn step_to(net: &Network, b: &Bound) -> Step
+    requires node { b.now.node.0 < count (the_network net.now) }
+    ensures refutes { IsTrue (is_refutation result) ↔ Refutes (the_network net.now) (the_bound b.now) }
+{
+    if refutes(net, b) {
+        Step::Refuted
+    } else {
+        Step::Open
+    }
 }
 
 // Whether some entry dominates the bound. The one at `near` is asked first, and `near` becomes the place of one that is found.

@@ -1,5 +1,5 @@
 // Whether a log can be full at all.
-ghost use Rattle.std.specs.Prelude.{◌≡◌, ◌≤◌, true};
+ghost use Rattle.std.specs.Prelude.{◌≡◌, ◌<◌, ◌≤◌, true, false};
 ghost use Rattle.std.specs.Option.{option_map};
 ghost use Rattle.cstn_net.specs.Read.{the_network};
 ghost use Rattle.cstn_check.specs.Growth.{most_entries};
@@ -9,9 +9,11 @@ use cstn_label::{NodeId, Prop};
 use cstn_log::Cap;
 use cstn_net::Network;
 
-/// No log of the network, or of the network with fewer constraints, can have more than `cap` entries.
+/// No log of the network, or of the network with fewer constraints, can have more than `cap` entries: so many marks of the
+/// observed propositions and least values are there for its time-points.
 pub fn is_never_full(net: &Network, cap: Cap) -> bool
     ensures within { result ≡ true → most_entries (the_network net.now) ≤ cap.entries }
+    ensures beyond { result ≡ false → cap.entries < most_entries (the_network net.now) }
 {
     let mut most = net.count() as u64 * (net.deadline() as u64 + 2);
     for x in 0..net.count() {

@@ -1,4 +1,4 @@
-ghost use Rattle.std.specs.Prelude.{ℕ, ◌≡◌, ◌+◌, ◌*◌, ◌<◌, ◌≤◌, false, length, map, slice_index_or, cond, IfOk, IsErr};
+ghost use Rattle.std.specs.Prelude.{ℕ, ◌≡◌, ◌+◌, ◌*◌, ◌<◌, ◌≤◌, length, map, slice_index_or, cond};
 ghost use Rattle.std.specs.List.{Contains};
 ghost use Rattle.cstn_net.specs.Networks.{IsWellFormed, count};
 ghost use Rattle.cstn_net.specs.Links.{ends};
@@ -7,43 +7,42 @@ ghost use Rattle.cstn_log.specs.Entries.{the_entries};
 ghost use Rattle.cstn_check.specs.Growth.{step, tried, waits_below, turn, chains_at};
 ghost use Rattle.cstn_check.specs.Growth.Instance.{chain_at};
 ghost use Rattle.cstn_check.specs.Tries.{concludes_upto};
-ghost use Rattle.cstn_check.specs.Turns.{IsOpen, IsTaken, IsCut};
+ghost use Rattle.cstn_check.specs.Turns.{IsOpen};
+ghost use Rattle.cstn_check.specs.Steps.{IsStep, IsCounted};
 ghost use Rattle.cstn_check.specs.Spent.{AreSpent, is_fresh, fresh_count};
 
 use crate::puts::put;
-use crate::waits::{is_in_range, try_waits};
+use crate::steps::{Step, count_is_in_range};
+use crate::waits::try_waits;
 use cstn_label::NodeId;
 use cstn_log::Log;
 use cstn_net::{Constraint, Network, network_is_well_formed};
 use cstn_pool::Full;
 use cstn_rules::{Entry, Tries, Why, chain};
 
-// Tries chain of a constraint with the entry at a place, and says whether the list is refuted then.
+// Tries chain of a constraint with the entry at a place.
 fn try_chain(
     net: &Network,
     log: &mut Log,
     c: &Constraint,
     j: u32,
     tries: &mut Tries,
-) -> Result<bool, Full>
+) -> Result<Step, Full>
     requires ready { IsOpen (the_network net.now) log.old }
     requires constraint { Contains net.now.constraints c.now }
     requires place { j < length log.old.entries }
-    ensures taken { IfOk result (λ r. IsTaken (the_network net.now) log.old log.new
-        (step (the_network net.now) (the_entries log.old.entries) (chain_at (the_constraint c.now) j)) r) }
-    ensures cut { IsErr result → IsCut log.old log.new (step (the_network net.now) (the_entries log.old.entries) (chain_at (the_constraint c.now) j)) }
-    ensures ready { IfOk result (λ r. r ≡ false → IsOpen (the_network net.now) log.new) }
-    ensures tries { tries.old.count ≤ tries.new.count }
-    ensures most { tries.new.count ≤ tries.old.count + 1 }
+    ensures outcome { IsStep (the_network net.now) log.old log.new
+        (step (the_network net.now) (the_entries log.old.entries) (chain_at (the_constraint c.now) j)) result }
+    ensures counted { IsCounted tries.old.count tries.new.count 1 }
 {
-    is_of_network(net, c);
-    is_in_range(tries);
+    constraint_is_of_network(net, c);
+    count_is_in_range(tries);
     if !log.live(j) {
-        return Ok(false);
+        return Ok(Step::Open);
     }
     let premise = log.bound(j);
     let Some(bound) = chain(net, c, &premise, tries) else {
-        return Ok(false);
+        return Ok(Step::Open);
     };
     let why = Why::Chain {
         constraint: c.id,
@@ -53,9 +52,8 @@ fn try_chain(
     put(net, log, Entry { bound, why }, &mut near)
 }
 
-// Does nothing but tell the proof of its caller that a constraint of a network in memory stands for one of the network that the
-// definitions speak of.
-fn is_of_network(net: &Network, c: &Constraint)
+// Does nothing. A constraint of a network in memory stands for one of the network that the definitions speak of.
+fn constraint_is_of_network(net: &Network, c: &Constraint)
     requires { Contains net.now.constraints c.now }
     ensures network { IsWellFormed (the_network net.now) }
     ensures constraint { Contains (the_network net.now).constraints (the_constraint c.now) }
@@ -70,8 +68,8 @@ fn is_fresh(fresh: &[u32], id: u32) -> bool
     fresh.iter().any(|known| *known == id)
 }
 
-// Tries chain of a constraint with the entry at the place j, and says whether the list is refuted then. Where j is below `old`
-// and the constraint isn't fresh, that chain is spent, and it isn't tried.
+// Tries chain of a constraint with the entry at the place j. Where j is below `old` and the constraint isn't fresh, that chain
+// is spent, and it isn't tried.
 fn try_fresh(
     net: &Network,
     log: &mut Log,
@@ -80,17 +78,14 @@ fn try_fresh(
     c: &Constraint,
     j: u32,
     tries: &mut Tries,
-) -> Result<bool, Full>
+) -> Result<Step, Full>
     requires ready { IsOpen (the_network net.now) log.old }
     requires spent { AreSpent (the_network net.now) (the_entries log.old.entries) fresh.now old }
     requires constraint { Contains net.now.constraints c.now }
     requires place { j < length log.old.entries }
-    ensures taken { IfOk result (λ r. IsTaken (the_network net.now) log.old log.new
-        (step (the_network net.now) (the_entries log.old.entries) (chain_at (the_constraint c.now) j)) r) }
-    ensures cut { IsErr result → IsCut log.old log.new (step (the_network net.now) (the_entries log.old.entries) (chain_at (the_constraint c.now) j)) }
-    ensures ready { IfOk result (λ r. r ≡ false → IsOpen (the_network net.now) log.new) }
-    ensures tries { tries.old.count ≤ tries.new.count }
-    ensures most { tries.new.count ≤ tries.old.count + 1 }
+    ensures outcome { IsStep (the_network net.now) log.old log.new
+        (step (the_network net.now) (the_entries log.old.entries) (chain_at (the_constraint c.now) j)) result }
+    ensures counted { IsCounted tries.old.count tries.new.count 1 }
     ensures most_fresh { j < old → tries.new.count ≤ tries.old.count + cond (is_fresh fresh.now c.now.id) 1 0 }
 {
     if old <= j {
@@ -99,12 +94,12 @@ fn try_fresh(
     if is_fresh(fresh, c.id) {
         return try_chain(net, log, c, j, tries);
     }
-    is_of_network(net, c);
-    Ok(false)
+    constraint_is_of_network(net, c);
+    Ok(Step::Open)
 }
 
-// Tries chain of each constraint that ends at the time-point of the entry at the place j with that entry, unless it is spent,
-// and says whether the list is refuted then. Chain of other constraints with it has no conclusion.
+// Tries chain of each constraint that ends at the time-point of the entry at the place j with that entry, unless it is spent.
+// Chain of other constraints with it has no conclusion.
 fn try_chains(
     net: &Network,
     log: &mut Log,
@@ -112,31 +107,26 @@ fn try_chains(
     old: u32,
     j: u32,
     tries: &mut Tries,
-) -> Result<bool, Full>
+) -> Result<Step, Full>
     requires ready { IsOpen (the_network net.now) log.old }
     requires front { old ≤ length log.old.entries }
     requires spent { AreSpent (the_network net.now) (the_entries log.old.entries) fresh.now old }
     requires place { j < length log.old.entries }
-    ensures taken { IfOk result (λ r. IsTaken (the_network net.now) log.old log.new
-        (tried (the_network net.now) (the_entries log.old.entries) (chains_at (map the_constraint net.now.constraints) j)) r) }
-    ensures cut { IsErr result → IsCut log.old log.new
-        (tried (the_network net.now) (the_entries log.old.entries) (chains_at (map the_constraint net.now.constraints) j)) }
-    ensures ready { IfOk result (λ r. r ≡ false → IsOpen (the_network net.now) log.new) }
-    ensures tries { tries.old.count ≤ tries.new.count }
-    ensures most { tries.new.count ≤ tries.old.count + length net.now.constraints }
+    ensures outcome { IsStep (the_network net.now) log.old log.new
+        (tried (the_network net.now) (the_entries log.old.entries) (chains_at (map the_constraint net.now.constraints) j)) result }
+    ensures counted { IsCounted tries.old.count tries.new.count (length net.now.constraints) }
     ensures most_fresh { j < old → tries.new.count ≤ tries.old.count + fresh_count fresh.now (the_network net.now).constraints }
 {
     network_is_well_formed(net);
     let x = log.bound(j).node;
     let mut place = first_ending(net, x);
     while place < constraint_count(net) {
-        match try_fresh(net, log, fresh, old, constraint_at(net, place), j, tries) {
-            Ok(true) => return Ok(true),
-            Ok(false) => place = next_ending(net, place),
-            Err(full) => return Err(full),
+        match try_fresh(net, log, fresh, old, constraint_at(net, place), j, tries)? {
+            Step::Refuted => return Ok(Step::Refuted),
+            Step::Open => place = next_ending(net, place),
         }
     }
-    Ok(false)
+    Ok(Step::Open)
 }
 
 fn constraint_count(net: &Network) -> usize
@@ -180,7 +170,7 @@ fn next_ending(net: &Network, at: usize) -> usize
     }
 }
 
-// Tries these waits unless j is below `old`, where they are spent, and says whether the list is refuted then.
+// Tries these waits unless j is below `old`, where they are spent.
 fn try_new_waits(
     net: &Network,
     log: &mut Log,
@@ -188,27 +178,23 @@ fn try_new_waits(
     old: u32,
     j: u32,
     tries: &mut Tries,
-) -> Result<bool, Full>
+) -> Result<Step, Full>
     requires ready { IsOpen (the_network net.now) log.old }
     requires spent { AreSpent (the_network net.now) (the_entries log.old.entries) fresh.now old }
     requires place { j < length log.old.entries }
-    ensures taken { IfOk result (λ r. IsTaken (the_network net.now) log.old log.new
-        (tried (the_network net.now) (the_entries log.old.entries) (waits_below (j + 1) j)) r) }
-    ensures cut { IsErr result → IsCut log.old log.new (tried (the_network net.now) (the_entries log.old.entries) (waits_below (j + 1) j)) }
-    ensures ready { IfOk result (λ r. r ≡ false → IsOpen (the_network net.now) log.new) }
-    ensures tries { tries.old.count ≤ tries.new.count }
-    ensures most { tries.new.count ≤ tries.old.count + 2 * (j + 1) }
-    ensures concluding { tries.new.count ≤ tries.old.count + concludes_upto (the_network net.now) (the_entries log.old.entries) j }
+    ensures outcome { IsStep (the_network net.now) log.old log.new
+        (tried (the_network net.now) (the_entries log.old.entries) (waits_below (j + 1) j)) result }
+    ensures counted { IsCounted tries.old.count tries.new.count (concludes_upto (the_network net.now) (the_entries log.old.entries) j) }
     ensures most_fresh { j < old → tries.new.count ≡ tries.old.count }
 {
     if j < old {
-        return Ok(false);
+        return Ok(Step::Open);
     }
     try_waits(net, log, j, tries)
 }
 
-// Takes the turn of the entry at the place j, and says whether the list is refuted then. On the first `old` entries all rules
-// but chains of fresh constraints are spent, and no spent rule on them is tried.
+// Takes the turn of the entry at the place j. On the first `old` entries all rules but chains of fresh constraints are spent,
+// and no spent rule on them is tried.
 pub(crate) fn take_turn(
     net: &Network,
     log: &mut Log,
@@ -216,25 +202,20 @@ pub(crate) fn take_turn(
     old: u32,
     j: u32,
     tries: &mut Tries,
-) -> Result<bool, Full>
+) -> Result<Step, Full>
     requires ready { IsOpen (the_network net.now) log.old }
     requires front { old ≤ length log.old.entries }
     requires spent { AreSpent (the_network net.now) (the_entries log.old.entries) fresh.now old }
     requires place { j < length log.old.entries }
-    ensures taken { IfOk result (λ r. IsTaken (the_network net.now) log.old log.new
-        (tried (the_network net.now) (the_entries log.old.entries) (turn (the_network net.now) j)) r) }
-    ensures cut { IsErr result → IsCut log.old log.new (tried (the_network net.now) (the_entries log.old.entries) (turn (the_network net.now) j)) }
-    ensures ready { IfOk result (λ r. r ≡ false → IsOpen (the_network net.now) log.new) }
-    ensures tries { tries.old.count ≤ tries.new.count }
-    ensures most { tries.new.count ≤ tries.old.count + (length net.now.constraints + 2 * (j + 1)) }
-    ensures concluding { tries.new.count ≤ tries.old.count +
-        (length net.now.constraints + concludes_upto (the_network net.now) (the_entries log.old.entries) j) }
+    ensures outcome { IsStep (the_network net.now) log.old log.new
+        (tried (the_network net.now) (the_entries log.old.entries) (turn (the_network net.now) j)) result }
+    ensures counted { IsCounted tries.old.count tries.new.count (length net.now.constraints
+        + concludes_upto (the_network net.now) (the_entries log.old.entries) j) }
     ensures most_fresh { j < old → tries.new.count ≤ tries.old.count + fresh_count fresh.now (the_network net.now).constraints }
 {
     network_is_well_formed(net);
-    match try_chains(net, log, fresh, old, j, tries) {
-        Ok(true) => Ok(true),
-        Ok(false) => try_new_waits(net, log, fresh, old, j, tries),
-        Err(full) => Err(full),
+    match try_chains(net, log, fresh, old, j, tries)? {
+        Step::Refuted => Ok(Step::Refuted),
+        Step::Open => try_new_waits(net, log, fresh, old, j, tries),
     }
 }

@@ -1,5 +1,5 @@
 // Tries wait of the entry whose turn it is with the entries up to it.
-ghost use Rattle.std.specs.Prelude.{ℕ, ◌≡◌, ◌⊎◌, ◌+◌, ◌*◌, ◌^◌, ◌<◌, ◌≤◌, ◌≤ℤ◌, [], ◌∷◌, length, IfOk, IsErr, IsTrue, ◌↔◌, false, slice_index_or};
+ghost use Rattle.std.specs.Prelude.{ℕ, ◌≡◌, ◌⊎◌, ◌+◌, ◌*◌, ◌<◌, ◌≤◌, ◌≤ℤ◌, [], ◌∷◌, length, IfOk, IsTrue, ◌↔◌, false, slice_index_or};
 ghost use Rattle.cstn_label.specs.Read.{marks, the_bound};
 ghost use Rattle.cstn_label.specs.declared.marks.Mark.TheVariants.{Absent};
 ghost use Rattle.cstn_net.specs.Networks.{Observes, count};
@@ -8,14 +8,16 @@ ghost use Rattle.cstn_log.specs.Entries.{the_entries};
 ghost use Rattle.cstn_check.specs.Growth.{step, tried, waits_below};
 ghost use Rattle.cstn_check.specs.Growth.Instance.{wait_at};
 ghost use Rattle.cstn_check.specs.Tries.{concludes, concludes_with, concludes_upto};
-ghost use Rattle.cstn_check.specs.Turns.{IsOpen, IsTaken, IsCut};
+ghost use Rattle.cstn_check.specs.Turns.{IsOpen};
+ghost use Rattle.cstn_check.specs.Steps.{IsStep, IsCounted};
 ghost use Rattle.cstn_check.specs.Waits.{HasBound, Waits};
 ghost use Rattle.cstn_check.specs.Floors.{IsFloor, AreFloors, ground_floor};
 
 use crate::puts::put;
+use crate::steps::{Step, count_is_in_range};
 use crate::walks::{Walk, may_wait, next_waiting};
 use cstn_label::{Bound, Mark, NodeId};
-use cstn_log::Log;
+use cstn_log::{Log, log_is_well_formed};
 use cstn_net::{Network, network_is_well_formed};
 use cstn_pool::Full;
 use cstn_rules::{Entry, Tries, Why, wait};
@@ -33,8 +35,8 @@ pub struct Floor {
     pub least: i32,
 }
 
-// Tries wait of the entry `seen`, as the one at the observer, and the entry `premise`, and says whether the list is refuted
-// then. A conclusion up to `floor` is dominated, and isn't looked for.
+// Tries wait of the entry `seen`, as the one at the observer, and the entry `premise`. A conclusion up to `floor` is dominated,
+// and isn't looked for.
 fn try_wait(
     net: &Network,
     log: &mut Log,
@@ -42,7 +44,7 @@ fn try_wait(
     premise: Placed,
     tries: &mut Tries,
     floor: &mut Floor,
-) -> Result<bool, Full>
+) -> Result<Step, Full>
     requires ready { IsOpen (the_network net.now) log.old }
     requires seen { seen.place < length log.old.entries }
     requires place { premise.place < length log.old.entries }
@@ -51,19 +53,15 @@ fn try_wait(
     requires bound { HasBound log.old.entries premise.place (the_bound premise.bound) }
     requires floor { (p : ℕ) → Observes (the_network net.now) seen.bound.node.0 p
         → IsFloor (the_network net.now) (the_entries log.old.entries) (the_bound premise.bound) p floor.old.least }
-    ensures taken { IfOk result (λ r. IsTaken (the_network net.now) log.old log.new
-        (step (the_network net.now) (the_entries log.old.entries) (wait_at seen.place premise.place)) r) }
-    ensures cut { IsErr result → IsCut log.old log.new (step (the_network net.now) (the_entries log.old.entries) (wait_at seen.place premise.place)) }
-    ensures ready { IfOk result (λ r. r ≡ false → IsOpen (the_network net.now) log.new) }
-    ensures tries { tries.old.count ≤ tries.new.count }
-    ensures most { tries.new.count ≤ tries.old.count + 1 }
-    ensures concluding { tries.new.count ≤ tries.old.count + concludes (the_network net.now) (the_entries log.old.entries) seen.place premise.place }
+    ensures outcome { IsStep (the_network net.now) log.old log.new
+        (step (the_network net.now) (the_entries log.old.entries) (wait_at seen.place premise.place)) result }
+    ensures counted { IsCounted tries.old.count tries.new.count (concludes (the_network net.now) (the_entries log.old.entries) seen.place premise.place) }
     ensures floor { IfOk result (λ r. (p : ℕ) → Observes (the_network net.now) seen.bound.node.0 p
         → IsFloor (the_network net.now) (the_entries log.new.entries) (the_bound premise.bound) p floor.new.least) }
 {
     if !waits(net, &seen.bound, &premise.bound) {
         network_is_well_formed(net);
-        return Ok(false);
+        return Ok(Step::Open);
     }
     try_concluding(net, log, seen, premise, tries, floor)
 }
@@ -77,7 +75,7 @@ fn try_concluding(
     premise: Placed,
     tries: &mut Tries,
     floor: &mut Floor,
-) -> Result<bool, Full>
+) -> Result<Step, Full>
     requires waits { Waits (the_network net.now) (the_bound seen.bound) (the_bound premise.bound) }
     requires ready { IsOpen (the_network net.now) log.old }
     requires seen { seen.place < length log.old.entries }
@@ -87,32 +85,28 @@ fn try_concluding(
     requires bound { HasBound log.old.entries premise.place (the_bound premise.bound) }
     requires floor { (p : ℕ) → Observes (the_network net.now) seen.bound.node.0 p
         → IsFloor (the_network net.now) (the_entries log.old.entries) (the_bound premise.bound) p floor.old.least }
-    ensures taken { IfOk result (λ r. IsTaken (the_network net.now) log.old log.new
-        (step (the_network net.now) (the_entries log.old.entries) (wait_at seen.place premise.place)) r) }
-    ensures cut { IsErr result → IsCut log.old log.new (step (the_network net.now) (the_entries log.old.entries) (wait_at seen.place premise.place)) }
-    ensures ready { IfOk result (λ r. r ≡ false → IsOpen (the_network net.now) log.new) }
-    ensures tries { tries.old.count ≤ tries.new.count }
-    ensures most { tries.new.count ≤ tries.old.count + 1 }
-    ensures concluding { tries.new.count ≤ tries.old.count + concludes (the_network net.now) (the_entries log.old.entries) seen.place premise.place }
+    ensures outcome { IsStep (the_network net.now) log.old log.new
+        (step (the_network net.now) (the_entries log.old.entries) (wait_at seen.place premise.place)) result }
+    ensures counted { IsCounted tries.old.count tries.new.count (concludes (the_network net.now) (the_entries log.old.entries) seen.place premise.place) }
     ensures floor { IfOk result (λ r. (p : ℕ) → Observes (the_network net.now) seen.bound.node.0 p
         → IsFloor (the_network net.now) (the_entries log.new.entries) (the_bound premise.bound) p floor.new.least) }
 {
     network_is_well_formed(net);
-    is_in_range(tries);
+    count_is_in_range(tries);
     let mut counted = *tries;
     let Some(bound) = wait(net, &seen.bound, &premise.bound, &mut counted) else {
-        return Ok(false);
+        return Ok(Step::Open);
     };
     if is_upto(&bound, *floor) {
-        return Ok(false);
+        return Ok(Step::Open);
     }
     if !log.live(seen.place) {
         log.leave_out(seen.place);
-        return Ok(false);
+        return Ok(Step::Open);
     }
     if !log.live(premise.place) {
         log.leave_out(premise.place);
-        return Ok(false);
+        return Ok(Step::Open);
     }
     *tries = counted;
     let why = Why::Wait {
@@ -190,8 +184,8 @@ fn waits(net: &Network, seen: &Bound, b: &Bound) -> bool
     }
 }
 
-// Tries wait of an entry `seen`, as the one at the observer, and the entry whose turn it is, and says whether the list is
-// refuted then. `floors` has the floor of each proposition.
+// Tries wait of an entry `seen`, as the one at the observer, and the entry whose turn it is. `floors` has the floor of each
+// proposition.
 fn try_seen(
     net: &Network,
     log: &mut Log,
@@ -199,7 +193,7 @@ fn try_seen(
     own: Placed,
     tries: &mut Tries,
     floors: &mut [Floor],
-) -> Result<bool, Full>
+) -> Result<Step, Full>
     requires ready { IsOpen (the_network net.now) log.old }
     requires seen { seen.place < length log.old.entries }
     requires place { own.place < length log.old.entries }
@@ -207,13 +201,9 @@ fn try_seen(
     requires seen_bound { HasBound log.old.entries seen.place (the_bound seen.bound) }
     requires bound { HasBound log.old.entries own.place (the_bound own.bound) }
     requires floors { AreFloors (the_network net.now) (the_entries log.old.entries) (the_bound own.bound) floors.old }
-    ensures taken { IfOk result (λ r. IsTaken (the_network net.now) log.old log.new
-        (step (the_network net.now) (the_entries log.old.entries) (wait_at seen.place own.place)) r) }
-    ensures cut { IsErr result → IsCut log.old log.new (step (the_network net.now) (the_entries log.old.entries) (wait_at seen.place own.place)) }
-    ensures ready { IfOk result (λ r. r ≡ false → IsOpen (the_network net.now) log.new) }
-    ensures tries { tries.old.count ≤ tries.new.count }
-    ensures most { tries.new.count ≤ tries.old.count + 1 }
-    ensures concluding { tries.new.count ≤ tries.old.count + concludes (the_network net.now) (the_entries log.old.entries) seen.place own.place }
+    ensures outcome { IsStep (the_network net.now) log.old log.new
+        (step (the_network net.now) (the_entries log.old.entries) (wait_at seen.place own.place)) result }
+    ensures counted { IsCounted tries.old.count tries.new.count (concludes (the_network net.now) (the_entries log.old.entries) seen.place own.place) }
     ensures floors { IfOk result (λ r. AreFloors (the_network net.now) (the_entries log.new.entries) (the_bound own.bound) floors.new) }
 {
     let mut floor = floors[observed_index(net, seen.bound.node)];
@@ -235,8 +225,7 @@ fn set_floor(net: &Network, x: NodeId, floor: Floor, floors: &mut [Floor])
     }
 }
 
-// Tries wait of the entry at a place and the entry whose turn it is, either way round, and says whether the list is refuted
-// then.
+// Tries wait of the entry at a place and the entry whose turn it is, either way round.
 fn try_both(
     net: &Network,
     log: &mut Log,
@@ -244,55 +233,44 @@ fn try_both(
     own: Placed,
     tries: &mut Tries,
     floors: &mut [Floor],
-) -> Result<bool, Full>
+) -> Result<Step, Full>
     requires ready { IsOpen (the_network net.now) log.old }
     requires first { i < length log.old.entries }
     requires place { own.place < length log.old.entries }
     requires bound { HasBound log.old.entries own.place (the_bound own.bound) }
     requires floors { AreFloors (the_network net.now) (the_entries log.old.entries) (the_bound own.bound) floors.old }
-    ensures taken { IfOk result (λ r. IsTaken (the_network net.now) log.old log.new
-        (tried (the_network net.now) (the_entries log.old.entries) (wait_at i own.place ∷ (wait_at own.place i ∷ []))) r) }
-    ensures cut { IsErr result → IsCut log.old log.new
-        (tried (the_network net.now) (the_entries log.old.entries) (wait_at i own.place ∷ (wait_at own.place i ∷ []))) }
-    ensures ready { IfOk result (λ r. r ≡ false → IsOpen (the_network net.now) log.new) }
-    ensures tries { tries.old.count ≤ tries.new.count }
-    ensures most { tries.new.count ≤ tries.old.count + 2 }
-    ensures concluding { tries.new.count ≤ tries.old.count + concludes_with (the_network net.now) (the_entries log.old.entries) own.place i }
-    ensures floors { IfOk result (λ r. r ≡ false → AreFloors (the_network net.now) (the_entries log.new.entries) (the_bound own.bound) floors.new) }
+    ensures outcome { IsStep (the_network net.now) log.old log.new
+        (tried (the_network net.now) (the_entries log.old.entries) (wait_at i own.place ∷ (wait_at own.place i ∷ []))) result }
+    ensures counted { IsCounted tries.old.count tries.new.count (concludes_with (the_network net.now) (the_entries log.old.entries) own.place i) }
+    ensures floors { IfOk result (λ s. s ≡ Step.Open → AreFloors (the_network net.now) (the_entries log.new.entries) (the_bound own.bound) floors.new) }
 {
     network_is_well_formed(net);
     let other = Placed {
         place: i,
         bound: log.bound(i),
     };
-    match try_seen(net, log, other, own, tries, floors) {
-        Ok(true) => Ok(true),
-        Ok(false) => {
+    match try_seen(net, log, other, own, tries, floors)? {
+        Step::Refuted => Ok(Step::Refuted),
+        Step::Open => {
             let mut floor = Floor { least: 0 };
             try_wait(net, log, own, other, tries, &mut floor)
         }
-        Err(full) => Err(full),
     }
 }
 
-// Tries wait of the entry at the place j with each entry up to it, in both orders, where it has a conclusion, and says whether
-// the list is refuted then.
-pub fn try_waits(net: &Network, log: &mut Log, j: u32, tries: &mut Tries) -> Result<bool, Full>
+// Tries wait of the entry at the place j with each entry up to it, in both orders, where it has a conclusion.
+pub fn try_waits(net: &Network, log: &mut Log, j: u32, tries: &mut Tries) -> Result<Step, Full>
     requires ready { IsOpen (the_network net.now) log.old }
     requires place { j < length log.old.entries }
-    ensures taken { IfOk result (λ r. IsTaken (the_network net.now) log.old log.new
-        (tried (the_network net.now) (the_entries log.old.entries) (waits_below (j + 1) j)) r) }
-    ensures cut { IsErr result → IsCut log.old log.new (tried (the_network net.now) (the_entries log.old.entries) (waits_below (j + 1) j)) }
-    ensures ready { IfOk result (λ r. r ≡ false → IsOpen (the_network net.now) log.new) }
-    ensures tries { tries.old.count ≤ tries.new.count }
-    ensures most { tries.new.count ≤ tries.old.count + 2 * (j + 1) }
-    ensures concluding { tries.new.count ≤ tries.old.count + concludes_upto (the_network net.now) (the_entries log.old.entries) j }
+    ensures outcome { IsStep (the_network net.now) log.old log.new
+        (tried (the_network net.now) (the_entries log.old.entries) (waits_below (j + 1) j)) result }
+    ensures counted { IsCounted tries.old.count tries.new.count (concludes_upto (the_network net.now) (the_entries log.old.entries) j) }
 {
     network_is_well_formed(net);
     if !may_wait(net, log, j) {
-        return Ok(false);
+        return Ok(Step::Open);
     }
-    let _room = log.len();
+    log_is_well_formed(log);
     let own = Placed {
         place: j,
         bound: log.bound(j),
@@ -301,18 +279,10 @@ pub fn try_waits(net: &Network, log: &mut Log, j: u32, tries: &mut Tries) -> Res
     let mut walk = Walk::start();
     let mut i = next_waiting(net, log, 0, j, &mut walk);
     while i <= j {
-        match try_both(net, log, i, own, tries, &mut floors) {
-            Ok(true) => return Ok(true),
-            Ok(false) => i = next_waiting(net, log, i + 1, j, &mut walk),
-            Err(full) => return Err(full),
+        match try_both(net, log, i, own, tries, &mut floors)? {
+            Step::Refuted => return Ok(Step::Refuted),
+            Step::Open => i = next_waiting(net, log, i + 1, j, &mut walk),
         }
     }
-    Ok(false)
-}
-
-// Does nothing but tell the proof of its caller that a count is a number of 64 bits.
-pub fn is_in_range(tries: &Tries)
-    ensures { tries.now.count < 2 ^ 64 }
-{
-    let _count = tries.count;
+    Ok(Step::Open)
 }

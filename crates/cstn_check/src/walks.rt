@@ -11,7 +11,7 @@ ghost use Rattle.cstn_log.specs.Entries.{IsLive};
 ghost use Rattle.cstn_check.specs.Waits.{IsWaiting, IsAhead};
 
 use cstn_label::{Label, NodeId, Prop};
-use cstn_log::{Block, Log};
+use cstn_log::{Block, Log, log_is_well_formed};
 use cstn_net::{Network, network_is_well_formed};
 
 // How many places a stretch of the list has whose partners are found together.
@@ -66,7 +66,7 @@ pub fn next_waiting(net: &Network, log: &Log, from: u32, j: u32, walk: &mut Walk
     ensures none { (k : ℕ) → from ≤ k → k < result → IsWaiting (the_network net.now) log.now.entries k j → ⊥ }
     ensures ahead { result ≤ j → IsAhead (the_network net.now) log.now.entries j (result + 1) walk.new.block walk.new.start walk.new.end }
 {
-    let _room = log.len();
+    log_is_well_formed(log);
     match walk.block.take_first() {
         Some(number) => least(walk.start + number, j + 1),
         None => next_behind(net, log, j, walk),
@@ -84,7 +84,7 @@ fn next_behind(net: &Network, log: &Log, j: u32, walk: &mut Walk) -> u32
     ensures none { (k : ℕ) → walk.old.end ≤ k → k < result → IsWaiting (the_network net.now) log.now.entries k j → ⊥ }
     ensures ahead { result ≤ j → IsAhead (the_network net.now) log.now.entries j (result + 1) walk.new.block walk.new.start walk.new.end }
 {
-    let _room = log.len();
+    log_is_well_formed(log);
     if !log.live(j) {
         return j + 1;
     }

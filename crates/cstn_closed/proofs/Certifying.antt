@@ -6,7 +6,7 @@ use Rattle.cstn_net.specs.Networks.{Network}
 use Rattle.cstn_rules.specs.Closed.{IsClosed}
 use Rattle.cstn_closed.specs.Faults.{Fault, IsFirstFault, IsFaultless}
 use Rattle.cstn_closed.specs.Certificates.{fault_words, IsCertificate}
-use Rattle.cstn_reply.specs.Texts.{say}
+use Rattle.cstn_reply.specs.Texts.{say, Said}
 use Rattle.cstn_reply.specs.Read.{the_said}
 use Rattle.cstn_reply.specs.declared.output.Said.{Said as SaidText}
 use Rattle.cstn_reply.specs.declared.output.Outcome.TheVariants.{Good, Bad}
@@ -22,3 +22,7 @@ fault_said names bounds net f (Ok said) first is = inr (f, first, is)
 -- two numbers at the end of a line
 pub two_numbers : (front : List ℕ) (n m : ℕ) → front ++ (decimal n ++ 32 ∷ (decimal m ++ 10 ∷ [])) ≡ front ++ ((decimal n ++ 32 ∷ decimal m) ++ 10 ∷ [])
 two_numbers front n m = ap (λ (xs : List ℕ). front ++ xs) (sym (append_assoc (decimal n) (32 ∷ decimal m) (10 ∷ [])))
+
+-- the text of a refusal
+abbrev pub refusal_text : List ℕ → Said
+refusal_text text = record { outcome = Bad; text = text }

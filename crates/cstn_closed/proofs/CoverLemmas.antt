@@ -5,33 +5,17 @@ use Rattle.std.specs.List.{Contains, items_where_true}
 use Rattle.std.specs.List.Retain.{IsFiltered, ReturnsInTurn}
 use Rattle.std.specs.declared.alloc.Global.{Global}
 use Rattle.std.proofs.lemmas.Bool.{cases_lt, cases_eq}
-use Rattle.std.proofs.lemmas.Int.{ints}
 use Rattle.std.proofs.lemmas.List.{get_or-set_same, get_or-set_other, get_or_append_left, get_or-append_right, get_or_default, get_or_past, get_or-map, length-map, map-append, map-set}
-use Rattle.std.proofs.lemmas.List.Elements.{Contains-append_left, Contains-append_right, Contains-append_cases}
+use Rattle.std.proofs.lemmas.List.Elements.{Contains-append_left, Contains-append_cases, Contains-push}
+use Rattle.cstn_facts.proofs.Members.{there_is, is_there, contains_tail, contains_one}
+use Rattle.cstn_facts.proofs.Places.{get_map}
 use Rattle.cstn_label.specs.declared.bounds.Bound.{Bound as Declared}
-use Rattle.cstn_label.specs.declared.marks.Mark.{Mark}
-use Rattle.cstn_label.specs.Labels.{IsMarkWithin}
 use Rattle.cstn_label.specs.Bounds.{Bound, Dominates}
 use Rattle.cstn_label.specs.Read.{the_bound}
 use Rattle.cstn_rules.specs.Closed.{IsCovered}
 use Rattle.cstn_closed.specs.Minimal.{held, kept_at, AreKept, IsPut}
-use Rattle.cstn_closed.proofs.ListLemmas.{there_is, is_there, get_map, image_there}
-
-pub dominates_through : (a b c : Bound) → Dominates a b → Dominates b c → Dominates a c
-dominates_through a b c one two = record {
-  node = one.node ∙ two.node;
-  least = let high = one.least in let low = two.least in omega (arith, ints);
-  label = λ p. mark_through (a.label p) (b.label p) (c.label p) (one.label p) (two.label p);
-}
-  where
-    mark_through : (m n o : Mark) → IsMarkWithin m n → IsMarkWithin n o → IsMarkWithin m o
-    mark_through m n o h k = grind arith
-
-pub dominates_itself : (a : Bound) → Dominates a a
-dominates_itself a = record { node = refl; least = omega (arith, ints); label = λ p. mark_itself (a.label p) }
-  where
-    mark_itself : (m : Mark) → IsMarkWithin m m
-    mark_itself m = grind arith
+use Rattle.cstn_closed.proofs.ListLemmas.{image_there}
+use Rattle.cstn_label.proofs.BoundLemmas.{dominates_through}
 
 -- what is dominated by something covered is covered
 pub covered_through : (bounds : List Bound) (a r : Bound) → IsCovered bounds a → Dominates a r → IsCovered bounds r
@@ -41,19 +25,9 @@ covered_through bounds a r covered over = record {
   dominates = dominates_through covered.by a r covered.dominates over;
 }
 
-later : {X : Type 0} (x c : X) (xs : List X) → Contains xs c → Contains (x ∷ xs) c
-later x c xs has = (suc has.0, omega (arith, has.1), has.2)
-
-the_one : {X : Type 0} (b x : X) → Contains (b ∷ []) x → b ≡ x
-the_one b x (zero, inside, at) = at
-the_one b x (suc i, inside, at) = absurd (omega arith)
-
-last_there : {X : Type 0} (xs : List X) (x : X) → Contains (xs ++ x ∷ []) x
-last_there xs x = Contains-append_right xs (x ∷ []) x (0, omega arith, refl)
-
 -- with one more bound, what it dominates is covered too
 pub covered_by_last : (bounds : List Bound) (b r : Bound) → Dominates b r → IsCovered (bounds ++ b ∷ []) r
-covered_by_last bounds b r over = record { by = b; in_list = last_there bounds b; dominates = over }
+covered_by_last bounds b r over = record { by = b; in_list = Contains-push bounds b; dominates = over }
 
 pub covered_still : (bounds : List Bound) (b r : Bound) → IsCovered bounds r → IsCovered (bounds ++ b ∷ []) r
 covered_still bounds b r covered = record {
@@ -65,7 +39,7 @@ covered_still bounds b r covered = record {
 pub covered_cases : (bounds : List Bound) (b r : Bound) → IsCovered (bounds ++ b ∷ []) r → IsCovered bounds r ⊎ Dominates b r
 covered_cases bounds b r covered = elim (Contains-append_cases bounds (b ∷ []) covered.by covered.in_list) [
   | inl has ↦ inl (record { by = covered.by; in_list = has; dominates = covered.dominates })
-  | inr last ↦ inr (subst (λ x. Dominates x r) (sym (the_one b covered.by last)) covered.dominates)
+  | inr last ↦ inr (subst (λ x. Dominates x r) (sym (contains_one b covered.by last)) covered.dominates)
 ]
 
 -- the bound of the program by which a list covers r
@@ -91,7 +65,7 @@ module _ {F : Type 0} (R : F → Declared → Bool → F → Type 0) (d : Bound)
   stays (true ∷ vs) (x ∷ xs) q c many turns (zero, inside, at) = inl (0, omega arith, at)
   stays (true ∷ vs) (x ∷ xs) q c many turns (suc i, inside, at) =
       elim (stays vs xs q c (omega arith) (subst (λ g. ReturnsInTurn R g vs xs q) (h x true turns.0 turns.1).1 turns.2) (i, omega arith, at)) [
-        | inl has ↦ inl (later x c (items_where_true vs xs) has)
+        | inl has ↦ inl (contains_tail x c (items_where_true vs xs) has)
         | inr under ↦ inr under
       ]
   stays (false ∷ vs) (x ∷ xs) q c many turns (zero, inside, at) =
@@ -103,8 +77,8 @@ module _ {F : Type 0} (R : F → Declared → Bool → F → Type 0) (d : Bound)
   was [] xs c has = absurd (let none = has.1 in omega arith)
   was (v ∷ vs) [] c has = absurd (let none = has.1 in omega arith)
   was (true ∷ vs) (x ∷ xs) c (zero, inside, at) = (0, omega arith, at)
-  was (true ∷ vs) (x ∷ xs) c (suc i, inside, at) = later x c xs (was vs xs c (i, omega arith, at))
-  was (false ∷ vs) (x ∷ xs) c has = later x c xs (was vs xs c has)
+  was (true ∷ vs) (x ∷ xs) c (suc i, inside, at) = contains_tail x c xs (was vs xs c (i, omega arith, at))
+  was (false ∷ vs) (x ∷ xs) c has = contains_tail x c xs (was vs xs c has)
 
   -- with d at the end, such a rest covers what the list covered, and what d dominates
   pub put_covers : (old rest new : List Declared) (b : Declared) → IsFiltered R f old rest → new ≡ rest ++ b ∷ [] → the_bound b ≡ d →
@@ -118,14 +92,14 @@ module _ {F : Type 0} (R : F → Declared → Bool → F → Type 0) (d : Bound)
       by_new c has over = covered_by new r c (subst (λ (xs : List Declared). Contains xs c) (sym put) has) over
 
       by_last : Dominates d r → IsCovered (map the_bound new) r
-      by_last over = by_new b (last_there rest b) (subst (λ x. Dominates x r) (sym same) over)
+      by_last over = by_new b (Contains-push rest b) (subst (λ x. Dominates x r) (sym same) over)
 
       forth : IsCovered (map the_bound new) r → IsCovered (map the_bound old) r ⊎ Dominates d r
       forth covered =
           let c = covering new r covered in
           elim (Contains-append_cases rest (b ∷ []) c.0 (subst (λ (xs : List Declared). Contains xs c.0) put c.1)) [
             | inl has ↦ inl (covered_by old r c.0 (was kept.0 old c.0 (subst (λ (xs : List Declared). Contains xs c.0) rest_is has)) c.2)
-            | inr last ↦ inr (subst (λ x. Dominates x r) same (subst (λ x. Dominates (the_bound x) r) (sym (the_one b c.0 last)) c.2))
+            | inr last ↦ inr (subst (λ x. Dominates x r) same (subst (λ x. Dominates (the_bound x) r) (sym (contains_one b c.0 last)) c.2))
           ]
 
       back : IsCovered (map the_bound old) r ⊎ Dominates d r → IsCovered (map the_bound new) r

@@ -3,6 +3,7 @@ use Rattle.std.proofs.Common.{ℕ, ◌≡◌, ◌<◌, ◌⊎◌, ◌↔◌, Lis
 use Rattle.std.specs.Prelude.{slice_get}
 use Rattle.std.specs.List.{Contains}
 use Rattle.std.proofs.lemmas.Bool.{cases_lt}
+use Rattle.cstn_facts.proofs.Members.{is_there}
 use Rattle.cstn_label.specs.Bounds.{Bound}
 use Rattle.cstn_net.specs.Networks.{Network, count}
 use Rattle.cstn_rules.specs.Rules.{IsBoundOf, base}
@@ -11,7 +12,6 @@ use Rattle.cstn_closed.specs.declared.answers.ClosedAnswer.{ClosedAnswer}
 use Rattle.cstn_closed.specs.declared.answers.ClosedAnswer.TheVariants.{Accepted}
 use Rattle.cstn_closed.specs.Faults.{Fault, bad, no_base, no_chain, no_wait, IsFault, IsFit, IsBefore, IsFirstFault, IsFaultless, kind, place, other}
 use Rattle.cstn_closed.specs.Instances.{AreFit, AreBasesCovered, AreChainsCovered, AreWaitsCovered, IsSoBefore, IsFirstOfKind, IsFirstThere}
-use Rattle.cstn_closed.proofs.ListLemmas.{is_there}
 
 -- a bound that fits isn't bad, and a chain or a wait that is covered is no fault
 module _ (net : Network) (bounds : List Bound) where

@@ -6,12 +6,13 @@ use Rattle.std.proofs.Math.Seq.{get_or-append_seam}
 use Rattle.std.proofs.lemmas.Bool.{cases_lt, cases_eq}
 use Rattle.std.proofs.lemmas.List.{get_or_append_left, get_or_default, length-append}
 use Rattle.std.proofs.lemmas.Option.{slice_get_within}
+use Rattle.cstn_facts.proofs.Members.{there_is}
+use Rattle.cstn_facts.proofs.Places.{get_left, get_last, get_more}
 use Rattle.cstn_label.specs.Bounds.{Bound, Dominates}
 use Rattle.cstn_rules.specs.Closed.{IsCovered}
 use Rattle.cstn_closed.specs.Instances.{IsSoBefore, IsSoAt}
 use Rattle.cstn_closed.specs.Minimal.{IsFreshOver, AreFresh}
-use Rattle.cstn_closed.proofs.CoverLemmas.{dominates_itself, dominates_through}
-use Rattle.cstn_closed.proofs.ListLemmas.{there_is, get_left, get_last, get_more}
+use Rattle.cstn_label.proofs.BoundLemmas.{dominates_through, dominates_itself}
 
 pub none_fresh : AreFresh [] []
 none_fresh = record {

@@ -5,6 +5,8 @@ use Rattle.std.specs.List.{AllPairs}
 use Rattle.std.proofs.lemmas.Bool.{cases_lt, cases_eq}
 use Rattle.std.proofs.lemmas.List.{get_or-map, get_or_default, length-map}
 use Rattle.std.proofs.lemmas.Option.{slice_get-map, slice_get_within, get_or_from_slice_get, same_Some}
+use Rattle.cstn_facts.proofs.Members.{there_is, is_there}
+use Rattle.cstn_facts.proofs.Places.{one_there, get_map}
 use Rattle.cstn_label.specs.declared.bounds.Bound.{Bound as DeclaredBound}
 use Rattle.cstn_label.specs.Bounds.{Bound}
 use Rattle.cstn_label.specs.Labels.{IsMarked}
@@ -18,7 +20,6 @@ use Rattle.cstn_rules.specs.Closed.{IsCovered}
 use Rattle.cstn_closed.specs.Faults.{Fault, bad, no_base, no_chain, no_wait, IsFault, kind, place, other}
 use Rattle.cstn_closed.specs.Instances.{IsChainCovered, AreChainsCovered, IsWaitCovered, AreWaitsCovered, IsSoBefore, IsFirstThere}
 use Rattle.cstn_closed.specs.Marking.{marking}
-use Rattle.cstn_closed.proofs.ListLemmas.{there_is, is_there, one_there, get_map}
 use Rattle.cstn_closed.proofs.MarkingLemmas.{place_inside, marked_at, marked_before}
 use Rattle.cstn_closed.proofs.WalkLemmas.{IsWalked}
 

@@ -1,47 +1,18 @@
 -- What a list has, and where.
-use Rattle.std.proofs.Common.{ℕ, zero, suc, ◌≡◌, ◌⊎◌, ◌+◌, ◌≤◌, ◌<◌, List, [], ◌∷◌, ◌++◌, Some, length, get_or, arith, inl, inr, refl, ap, sym, ◌∙◌, subst}
+use Rattle.std.proofs.Common.{ℕ, ◌≡◌, ◌+◌, ◌≤◌, ◌<◌, List, Some, length, get_or, arith, inl, inr, ap, ◌∙◌, subst}
 use Rattle.std.specs.Prelude.{slice_get, map, option_map}
 use Rattle.std.specs.List.{Contains}
 use Rattle.std.proofs.lemmas.Bool.{cases_lt}
 use Rattle.std.proofs.lemmas.List.{get_or_default}
-use Rattle.std.proofs.lemmas.Option.{slice_get-map, slice_get_within, slice_get-get_or, get_or_from_slice_get, none-some, same_Some}
+use Rattle.std.proofs.lemmas.Option.{slice_get-map, slice_get_within}
+use Rattle.cstn_facts.proofs.Members.{there_is, is_there}
+use Rattle.cstn_facts.proofs.Places.{one_there}
 use Rattle.cstn_label.specs.declared.bounds.Bound.{Bound as Declared}
 use Rattle.cstn_label.specs.Bounds.{Bound}
 use Rattle.cstn_label.specs.Read.{the_bound}
 use Rattle.cstn_net.specs.Networks.{Network}
 use Rattle.cstn_closed.specs.Faults.{IsFit}
 use Rattle.cstn_closed.specs.Instances.{AreFit, IsSoBefore, IsSoAt}
-
-pub there_is : {X : Type 0} (xs : List X) (x : X) → Contains xs x → (k : ℕ) × (slice_get xs k ≡ Some x)
-there_is xs x has = (has.0, slice_get-get_or xs has.0 x has.1 ∙ ap Some has.2)
-
-pub is_there : {X : Type 0} (xs : List X) (k : ℕ) (x : X) → slice_get xs k ≡ Some x → Contains xs x
-is_there xs k x there = (k, slice_get_within xs k x there, get_or_from_slice_get xs k x x there)
-
-pub one_there : {X : Type 0} (xs : List X) (k : ℕ) (x y : X) → slice_get xs k ≡ Some x → slice_get xs k ≡ Some y → x ≡ y
-one_there xs k x y is also = same_Some x y (sym is ∙ also)
-
--- what stands in a list of images is the image of what stands there
-pub get_map : {X Y : Type 0} (f : X → Y) (xs : List X) (k : ℕ) (y : Y) → slice_get (map f xs) k ≡ Some y → (x : X) × (slice_get xs k ≡ Some x) × (f x ≡ y)
-get_map f [] k y is = absurd (none-some y is)
-get_map f (x ∷ xs) zero y is = (x, refl, same_Some (f x) y is)
-get_map f (x ∷ xs) (suc k) y is = get_map f xs k y is
-
--- what stands in a list with one more at the end
-pub get_left : {X : Type 0} (xs : List X) (y : X) (k : ℕ) (x : X) → slice_get xs k ≡ Some x → slice_get (xs ++ y ∷ []) k ≡ Some x
-get_left [] y k x is = absurd (none-some x is)
-get_left (z ∷ xs) y zero x is = is
-get_left (z ∷ xs) y (suc k) x is = get_left xs y k x is
-
-pub get_last : {X : Type 0} (xs : List X) (y : X) → slice_get (xs ++ y ∷ []) (length xs) ≡ Some y
-get_last [] y = refl
-get_last (z ∷ xs) y = get_last xs y
-
-pub get_more : {X : Type 0} (xs : List X) (y : X) (k : ℕ) (x : X) → slice_get (xs ++ y ∷ []) k ≡ Some x → (slice_get xs k ≡ Some x) ⊎ ((k ≡ length xs) × (y ≡ x))
-get_more [] y zero x is = inr (refl, same_Some y x is)
-get_more [] y (suc k) x is = absurd (none-some x is)
-get_more (z ∷ xs) y zero x is = inl is
-get_more (z ∷ xs) y (suc k) x is = elim (get_more xs y k x is) [ inl p ↦ inl p | inr p ↦ inr (ap suc p.0, p.1) ]
 
 pub so_none : (P : Bound → Type 0) (bounds : List Bound) → IsSoBefore P bounds 0
 so_none P bounds j b h there = absurd (omega arith)

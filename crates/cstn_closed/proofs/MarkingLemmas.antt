@@ -7,13 +7,12 @@ use Rattle.std.proofs.lemmas.Bool.{cases_lt, cases_eq}
 use Rattle.std.proofs.lemmas.List.{length-map, length-take, map_more, get_or-map, append-nil, map-append}
 use Rattle.std.proofs.lemmas.List.FromFn.{length-map-range_with_len, get_or-map-range_with_len, map-range_with_len_more}
 use Rattle.cstn_label.specs.declared.bounds.Bound.{Bound as Declared}
-use Rattle.cstn_label.specs.declared.marks.Mark.{Mark}
-use Rattle.cstn_label.specs.declared.marks.Mark.TheVariants.{Absent, Yes, No, Unknown}
 use Rattle.cstn_label.specs.Bounds.{Bound}
 use Rattle.cstn_label.specs.Labels.{IsMarked}
 use Rattle.cstn_label.specs.Read.{the_bound}
 use Rattle.cstn_label.specs.Marks.{is_marked}
 use Rattle.cstn_closed.specs.Marking.{put_if, marking_from, marking, markings, items}
+use Rattle.cstn_label.proofs.MarkLemmas.{marked_true}
 
 put_append : (m : Bool) (k : ℕ) (xs ys : List ℕ) → put_if m k (xs ++ ys) ≡ put_if m k xs ++ ys
 put_append true k xs ys = refl
@@ -140,18 +139,12 @@ put_later : (m : Bool) (k n : ℕ) (places : List ℕ) → IsAt places n → IsA
 put_later true k n places at = (suc at.0, omega (arith, at.1), at.2)
 put_later false k n places at = at
 
-marks_it : (m : Mark) → (m ≡ Absent → ⊥) → is_marked m ≡ true
-marks_it Absent marked = absurd (marked refl)
-marks_it Yes marked = refl
-marks_it No marked = refl
-marks_it Unknown marked = refl
-
 from_has : (p k : ℕ) (bounds : List Bound) (j : ℕ) (b : Bound) → slice_get bounds j ≡ Some b → IsMarked b.label p → IsAt (marking_from p k bounds) (k + j)
 from_has p k [] j b there marked = absurd (cc)
 from_has p k (x ∷ bounds) zero b there marked =
     let same : x ≡ b = cc in
     subst (IsAt (put_if (is_marked (x.label p)) k (marking_from p (k + 1) bounds))) (let e : k ≡ k + 0 = omega arith in e)
-    (put_here (is_marked (x.label p)) k (marking_from p (k + 1) bounds) (marks_it (x.label p) (subst (λ (y : Bound). IsMarked y.label p) (sym same) marked)))
+    (put_here (is_marked (x.label p)) k (marking_from p (k + 1) bounds) (marked_true (x.label p) (subst (λ (y : Bound). IsMarked y.label p) (sym same) marked)))
 from_has p k (x ∷ bounds) (suc j) b there marked =
     put_later (is_marked (x.label p)) k (k + suc j) (marking_from p (k + 1) bounds)
     (subst (IsAt (marking_from p (k + 1) bounds)) (let e : k + 1 + j ≡ k + suc j = omega arith in e) (from_has p (k + 1) bounds j b there marked))

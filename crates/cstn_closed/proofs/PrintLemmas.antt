@@ -1,42 +1,20 @@
 -- Texts, bound by bound.
-use Rattle.std.proofs.Common.{ℕ, ◌≡◌, ◌+◌, ◌<◌, ◌≤◌, List, [], ◌∷◌, ◌++◌, length, get_or, take, map, arith, refl, sym, subst, ap, ◌∙◌, codes}
+use Rattle.std.proofs.Common.{ℕ, ◌≡◌, List, [], ◌∷◌, ◌++◌, get_or, map, arith, sym, subst, ap, ◌∙◌, codes}
 use Rattle.std.specs.List.{All}
-use Rattle.std.proofs.lemmas.List.{append_assoc, map_more, length-map}
+use Rattle.std.proofs.lemmas.List.{length-map}
 use Rattle.std.proofs.lemmas.List.Elements.{All-nil, All-cons, All-get_or, All-tail}
 use Rattle.cstn_label.specs.declared.bounds.Bound.{Bound as Declared}
-use Rattle.cstn_label.specs.declared.labels.Label.{Label}
-use Rattle.cstn_label.specs.declared.marks.Mark.TheVariants.{Absent}
-use Rattle.cstn_label.specs.Bounds.{Bound}
 use Rattle.cstn_label.specs.Read.{marks, the_bound}
 use Rattle.cstn_text.specs.Names.{AreNames}
-use Rattle.cstn_text.specs.Numbers.{printed_number, printed_value}
+use Rattle.cstn_text.specs.Numbers.{printed_value}
 use Rattle.cstn_text.specs.PrintedNames.{printed_name}
 use Rattle.cstn_text.specs.PrintedLabels.{printed_label}
 use Rattle.cstn_refute.specs.Steps.{printed_bound}
 use Rattle.cstn_closed.specs.Closed.{ClosedParts, the_bounds}
-use Rattle.cstn_closed.specs.Texts.{printed_bounds, shown, told, tells}
+use Rattle.cstn_closed.specs.Texts.{shown, told, tells}
 use Rattle.cstn_closed.specs.Written.{FitsText, IsNamed, IsPrintableBound, AreWritten}
 use Rattle.cstn_closed.proofs.BackLemmas.{shown_back}
-
--- the lines of some bounds and of a further one
-lines_of_more : (names : List (List ℕ)) (bounds : List Bound) (b : Bound) →
-    printed_bounds names (bounds ++ b ∷ []) ≡ printed_bounds names bounds ++ (codes "bound " ++ printed_bound names b ++ 10 ∷ [])
-lines_of_more names [] b = refl
-lines_of_more names (x ∷ xs) b =
-    ap (λ (t : List ℕ). codes "bound " ++ printed_bound names x ++ 10 ∷ t) (lines_of_more names xs b)
-    ∙ sym (append_assoc (codes "bound " ++ printed_bound names x) (10 ∷ printed_bounds names xs) (codes "bound " ++ printed_bound names b ++ 10 ∷ []))
-
--- a text of some bounds goes on with the line of the next
-pub one_more : (names : List (List ℕ)) (load : ℕ) (xs : List Declared) (k : ℕ) (x : Declared) (old : List ℕ) →
-    k < length xs → x ≡ get_or xs k x → old ≡ shown names load (map the_bound (take k xs)) →
-    old ++ (codes "bound " ++ printed_bound names (the_bound x) ++ 10 ∷ []) ≡ shown names load (map the_bound (take (k + 1) xs))
-one_more names load xs k x old inside there before =
-    let more = map_more the_bound xs k x inside ∙ ap (λ y. map the_bound (take k xs) ++ the_bound y ∷ []) (sym there) in
-    let line = codes "bound " ++ printed_bound names (the_bound x) ++ 10 ∷ [] in
-    ap (λ t. t ++ line) before
-    ∙ append_assoc (codes "yes " ++ printed_number load) (10 ∷ printed_bounds names (map the_bound (take k xs))) line
-    ∙ ap (λ t. codes "yes " ++ printed_number load ++ 10 ∷ t)
-    (sym (lines_of_more names (map the_bound (take k xs)) (the_bound x)) ∙ ap (printed_bounds names) (sym more))
+use Rattle.cstn_label.proofs.LetterLemmas.{MarksEnd}
 
 -- the line of a bound, by the text of its name
 pub line_of : (names : List (List ℕ)) (b : Declared) (text old new : List ℕ) → text ≡ printed_name (get_or names b.node.0 []) →
@@ -48,10 +26,6 @@ line_of names b text old new is pushed =
 
 first : (P : Declared → Type 0) (x : Declared) (xs : List Declared) → All P (x ∷ xs) → P x
 first P x xs all = All-get_or P (x ∷ xs) 0 x (omega arith) all
-
--- no proposition above 51 is marked
-abbrev pub MarksEnd : Type 0
-MarksEnd = (a : Label) (p : ℕ) → 52 ≤ p → marks a p ≡ Absent
 
 -- bounds that have names can be written
 are_written : MarksEnd → (names : List (List ℕ)) (xs : List Declared) → All (IsNamed names) xs → All (IsPrintableBound names) (map the_bound xs)

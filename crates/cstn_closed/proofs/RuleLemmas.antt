@@ -4,18 +4,13 @@ use Rattle.std.specs.Prelude.{slice_index_or}
 use Rattle.std.proofs.lemmas.Bool.{cases_eq, eq-eqb, ne_eqb}
 use Rattle.std.proofs.lemmas.Int.{ints, clamps}
 use Rattle.cstn_label.specs.declared.marks.Mark.{Mark}
-use Rattle.cstn_label.specs.Labels.{Label, IsMarkPlain, IsMarkWithin, IsPlain, IsWithin, joined_mark, joined, without}
+use Rattle.cstn_label.specs.Labels.{Label, IsMarkWithin, IsWithin, joined_mark, joined, without}
 use Rattle.cstn_label.specs.Bounds.{Bound, Dominates}
 use Rattle.cstn_net.specs.Networks.{Network, Observes, limit}
 use Rattle.cstn_rules.specs.Rules.{without_own, finished, carried, awaited}
 use Rattle.cstn_closed.specs.Instances.{AreChainsCovered, AreWaitsCovered}
 use Rattle.cstn_closed.proofs.CoverLemmas.{covered_through}
-
-plain_within : (a b : Label) → IsWithin a b → IsPlain b → IsPlain a
-plain_within a b within plain p = mark_plain (a p) (b p) (within p) (plain p)
-  where
-    mark_plain : (m n : Mark) → IsMarkWithin m n → IsMarkPlain n → IsMarkPlain m
-    mark_plain m n h k = grind arith
+use Rattle.cstn_label.proofs.LabelLemmas.{plain_within}
 
 mark_joined : (m n o : Mark) → IsMarkWithin m n → IsMarkWithin (joined_mark m o) (joined_mark n o)
 mark_joined m n o within = grind arith

@@ -1,22 +1,21 @@
 -- What a text says can be written, and the text is the printed one, but for the order of marks.
-use Rattle.std.proofs.Common.{ℕ, ◌≡◌, ◌+◌, ◌<◌, ◌≤◌, true, List, [], ◌∷◌, ◌++◌, length, arith, ap, ◌∙◌, length-append}
+use Rattle.std.proofs.Common.{ℕ, ◌≡◌, ◌<◌, true, List, ◌∷◌, ◌++◌, arith, ap, ◌∙◌}
 use Rattle.std.specs.Prelude.{◌&&◌, nat_lt, bytes_eq, Some, codes}
-use Rattle.std.specs.List.{All}
 use Rattle.std.proofs.lemmas.Bool.{and_parts}
-use Rattle.std.proofs.lemmas.List.Elements.{All-nil, All-cons}
 use Rattle.std.proofs.lemmas.Slice.Eq.{bytes_eq-Decides}
+use Rattle.cstn_facts.proofs.Options.{then_read, if_read}
 use Rattle.cstn_label.specs.Bounds.{Bound}
 use Rattle.cstn_net.specs.Limits.{most_load}
 use Rattle.cstn_text.specs.PrintedLabels.{label_read}
 use Rattle.cstn_text.specs.Parts.{part}
-use Rattle.cstn_listing.specs.Listings.{AreLines as AreLinesOf}
-use Rattle.cstn_text.proofs.ReadingLemmas.{then_read, if_read, part_said}
-use Rattle.cstn_listing.proofs.ListingLemmas.{some_ends, text_said as listing_said}
+use Rattle.cstn_text.proofs.ReadingLemmas.{part_said}
+use Rattle.cstn_text.proofs.PlaceLemmas.{AreSaid, listing_said}
+pub use Rattle.cstn_text.proofs.ListingLemmas.{told_first, first_wrong, told_viewed, wrong_viewed, told_last}
 use Rattle.cstn_refute.specs.Steps.{named_bound_read}
 use Rattle.cstn_refute.specs.Orders.{bound_with}
 use Rattle.cstn_refute.proofs.BoundLemmas.{named_said}
-use Rattle.cstn_closed.specs.Texts.{line_read, tells, told, bound_lines}
-use Rattle.cstn_closed.specs.Orders.{AreLines, IsTextOfBounds}
+use Rattle.cstn_closed.specs.Texts.{line_read, tells, told}
+use Rattle.cstn_closed.specs.Orders.{IsBoundLine, IsTextOfBounds}
 use Rattle.cstn_closed.specs.Written.{IsPrintableBound, AreWritten}
 
 few_said : (k : ℕ) → nat_lt k most_load ≡ true → k < most_load
@@ -46,32 +45,18 @@ line_said names k line b e =
           ∙ ap (λ (t : List ℕ). codes "bound" ++ 32 ∷ t) said.text;
     }
 
--- what the lines that are left say can be written, and there are few enough
-lines_written : (names : List (List ℕ)) (before bounds : List Bound) (text : List ℕ) → length before ≤ most_load → AreLinesOf (bound_lines names) before bounds text →
-    (length before + length bounds ≤ most_load) × All (IsPrintableBound names) bounds
-lines_written names before [] text few lines = (omega (arith, few), All-nil (IsPrintableBound names))
-lines_written names before (b ∷ bounds) text few (line, rest, read, free, whole, lines) =
-    let is = line_said names (length before) line b read in
-    let longer = length-append before (b ∷ []) in
-    let more = lines_written names (before ++ b ∷ []) bounds rest (omega (arith, longer, is.few)) lines in
-    (omega (arith, longer, more.0), All-cons (IsPrintableBound names) b bounds is.written more.1)
+bounds_said : (names : List (List ℕ)) → AreSaid most_load (line_read names) (IsPrintableBound names) (IsBoundLine names)
+bounds_said names = λ k line b is. let said = line_said names k line b is in (said.few, said.written, (said.label, said.read, said.text))
+
+text_says : (names : List (List ℕ)) (bytes : List ℕ) (load : ℕ) (bounds : List Bound) → told names bytes ≡ tells load bounds →
+    AreWritten names load bounds × IsTextOfBounds names load bounds bytes
+text_says names bytes load bounds e =
+    listing_said (codes "yes") most_load (line_read names) (IsPrintableBound names) (IsBoundLine names) (bounds_said names) bytes load bounds e
 
 -- what a text says can be written
 pub text_said : (names : List (List ℕ)) (bytes : List ℕ) (load : ℕ) (bounds : List Bound) → told names bytes ≡ tells load bounds → AreWritten names load bounds
-text_said names bytes load bounds e =
-    let is = listing_said (bound_lines names) bytes load bounds e in
-    let written = lines_written names [] bounds is.lines (omega arith) is.each in
-    record { load_low = is.low; load_high = is.high; some = some_ends bounds is.ends; few = omega (arith, written.0); each = written.1 }
-
--- the lines of bounds are as they are printed, but for the order of marks
-lines_text : (names : List (List ℕ)) (before bounds : List Bound) (text : List ℕ) → AreLinesOf (bound_lines names) before bounds text → AreLines names bounds text
-lines_text names before [] text lines = lines
-lines_text names before (b ∷ bounds) text (line, rest, read, free, whole, lines) =
-    let is = line_said names (length before) line b read in
-    (is.label, rest, is.read, whole ∙ ap (λ (t : List ℕ). t ++ 10 ∷ rest) is.text, lines_text names (before ++ b ∷ []) bounds rest lines)
+text_said names bytes load bounds e = (text_says names bytes load bounds e).0
 
 -- a text that says a load and bounds is the one that is printed, but for the order of the marks in the labels
 pub text_is : (names : List (List ℕ)) (bytes : List ℕ) (load : ℕ) (bounds : List Bound) → told names bytes ≡ tells load bounds → IsTextOfBounds names load bounds bytes
-text_is names bytes load bounds e =
-    let is = listing_said (bound_lines names) bytes load bounds e in
-    (is.lines, is.text, lines_text names [] bounds is.lines is.each)
+text_is names bytes load bounds e = (text_says names bytes load bounds e).1

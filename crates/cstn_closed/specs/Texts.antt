@@ -1,11 +1,10 @@
 -- Texts of lists of bounds.
-use Rattle.std.specs.Prelude.{ℕ, ◌++◌, ◌&&◌, nat_lt, if◌then◌else◌, List, [], ◌∷◌, length, Option, None, codes, bytes_eq}
+use Rattle.std.specs.Prelude.{ℕ, ◌++◌, ◌&&◌, nat_lt, if◌then◌else◌, List, Option, None, codes, bytes_eq}
 use Rattle.cstn_label.specs.Bounds.{Bound}
 use Rattle.cstn_net.specs.Limits.{most_load}
-use Rattle.cstn_text.specs.Numbers.{printed_number}
 use Rattle.cstn_text.specs.Parts.{part}
-use Rattle.cstn_listing.specs.Listings.{Told as ToldBy, Kind, is_some_listed, told as told_by}
-pub use Rattle.cstn_listing.specs.Listings.{tells, wrong}
+use Rattle.cstn_text.specs.Listings.{Told as ToldBy, Kind, by_places, printed_lines, printed_listing, told as told_by}
+pub use Rattle.cstn_text.specs.Listings.{tells, wrong}
 use Rattle.cstn_refute.specs.Steps.{◌>>=◌, named_bound_read, printed_bound}
 
 -- the line of a bound: `bound`, a space, and the bound as in a refutation. There are at most 4,194,304 of them
@@ -17,18 +16,21 @@ line_read names k line =
 abbrev pub Told : Type 0
 Told = ToldBy Bound
 
--- lists of bounds are listings behind the word `yes`, with a bound at least
+-- lists of bounds are listings of bounds, each by its place, behind the word `yes`
 abbrev pub bound_lines : List (List ℕ) → Kind Bound
-bound_lines names = record { word = codes "yes"; line_read = λ bounds line. line_read names (length bounds) line; may_end = is_some_listed }
+bound_lines names = by_places (codes "yes") most_load (line_read names)
 
 abbrev pub told : List (List ℕ) → List ℕ → Told
 told names bytes = told_by (bound_lines names) bytes
 
--- the lines of the bounds
-abbrev pub printed_bounds : List (List ℕ) → List Bound → List ℕ
-printed_bounds names [] = []
-printed_bounds names (b ∷ bounds) = codes "bound " ++ printed_bound names b ++ 10 ∷ printed_bounds names bounds
+-- the line of a bound, at any place
+abbrev pub printed_line : List (List ℕ) → ℕ → Bound → List ℕ
+printed_line names k b = codes "bound " ++ printed_bound names b
+
+-- the lines of the bounds from the place k on, each with its LF
+abbrev pub printed_bounds : List (List ℕ) → ℕ → List Bound → List ℕ
+printed_bounds names k bounds = printed_lines (printed_line names) k bounds
 
 -- the text of a load and bounds
 abbrev pub shown : List (List ℕ) → ℕ → List Bound → List ℕ
-shown names load bounds = codes "yes " ++ printed_number load ++ 10 ∷ printed_bounds names bounds
+shown names load bounds = printed_listing (codes "yes") (printed_line names) load bounds

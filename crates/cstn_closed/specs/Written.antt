@@ -1,9 +1,9 @@
 -- What a text can say.
 use Rattle.std.specs.Prelude.{ℕ, ◌<◌, ◌≤◌, List, length, pos, ◌≤ℤ◌}
-use Rattle.std.specs.List.{All}
 use Rattle.cstn_label.specs.declared.bounds.Bound.{Bound as Declared}
 use Rattle.cstn_label.specs.Bounds.{Bound}
 use Rattle.cstn_net.specs.Limits.{most_load}
+use Rattle.cstn_text.specs.Listings.{AreListable}
 use Rattle.cstn_refute.specs.Limits.{most_least}
 pub use Rattle.cstn_refute.specs.Written.{IsPrintableBound}
 use Rattle.cstn_closed.specs.Closed.{ClosedParts}
@@ -22,9 +22,5 @@ pub record FitsText (c : ClosedParts) : Type 0 where
   pub few : length c.bounds ≤ most_load
 
 -- a load and bounds that a text can say
-pub record AreWritten (names : List (List ℕ)) (load : ℕ) (bounds : List Bound) : Type 0 where
-  pub load_low : 1 ≤ load
-  pub load_high : load ≤ most_load
-  pub some : 1 ≤ length bounds
-  pub few : length bounds ≤ most_load
-  pub each : All (IsPrintableBound names) bounds
+abbrev pub AreWritten : List (List ℕ) → ℕ → List Bound → Type 0
+AreWritten names load bounds = AreListable most_load (IsPrintableBound names) load bounds

@@ -12,8 +12,7 @@ ghost use Rattle.cstn_closed.specs.Written.{FitsText, IsNamed};
 
 use crate::lists::Closed;
 use cstn_label::{Bound, labels_are_their_marks};
-use cstn_listing::{print_names, push_load};
-use cstn_text::{Names, push_label, push_value};
+use cstn_text::{Names, print_names, push_label, push_load, push_value};
 use std::alloc::{AllocError, Global};
 
 // The bytes that are reserved for each line. Where lines are longer, more memory is taken as they come.

@@ -1,25 +1,23 @@
 // Lists of bounds read from their texts.
-ghost use Rattle.std.specs.Prelude.{ℕ, ◌≡◌, ◌<◌, ◌≤◌, ◌+◌, ◌≤ℤ◌, pos, Some, [], length, map, IfOk, IfErr, IfSome};
+ghost use Rattle.std.specs.Prelude.{◌≡◌, ◌<◌, ◌≤◌, [], length, map, IfOk, IfErr, IfSome};
 ghost use Rattle.std.specs.List.{All};
 ghost use Rattle.std.specs.Option.{option_map};
 ghost use Rattle.cstn_label.specs.Limits.{most_ids};
-ghost use Rattle.cstn_label.specs.Bounds.{Bound as TheBound};
 ghost use Rattle.cstn_label.specs.Read.{the_bound};
 ghost use Rattle.cstn_net.specs.Limits.{most_load};
 ghost use Rattle.cstn_text.specs.Parts.{parts_at};
-ghost use Rattle.cstn_listing.specs.Listings.{at_end, is_some_listed, or_wrong, told_after};
+ghost use Rattle.cstn_text.specs.Listings.{at_end, is_some_listed, told_after};
 ghost use Rattle.cstn_closed.specs.Closed.{the_bounds};
-ghost use Rattle.cstn_closed.specs.Texts.{Told, tells, wrong, bound_lines, told, line_read};
-ghost use Rattle.cstn_closed.specs.Written.{AreWritten, FitsText, IsNamed};
+ghost use Rattle.cstn_closed.specs.Texts.{tells, bound_lines, told, line_read};
+ghost use Rattle.cstn_closed.specs.Written.{FitsText, IsNamed};
 ghost use Rattle.cstn_closed.specs.Read.{IsWrong};
 
 use crate::errors::ClosedError;
 use crate::lists::Closed;
 use cstn_label::Bound;
-use cstn_listing::{part, read_load};
 use cstn_net::MAX_LOAD;
 use cstn_refute::read_named_bound;
-use cstn_text::{Names, cut_at};
+use cstn_text::{Names, cut_at, part, read_start};
 use std::alloc::{AllocError, Global};
 
 impl Closed {
@@ -34,10 +32,7 @@ impl Closed {
         ensures named { IfOk result (λ c. All (IsNamed names.now) c.bounds) }
         ensures fits { IfOk result FitsText }
     {
-        let Some((line, rest)) = cut_at(bytes, b'\n') else {
-            return Err(ClosedError::Line { line: 1 });
-        };
-        let Some(load) = read_load("yes", line) else {
+        let Some((load, rest)) = read_start("yes", MAX_LOAD, bytes) else {
             return Err(ClosedError::Line { line: 1 });
         };
         read_bounds(alloc, names, load, rest)
@@ -55,31 +50,15 @@ fn read_bounds(alloc: Global, names: &Names, load: u32, bytes: &[u8]) -> Result<
     let mut left = bytes;
     while let Some((line, rest)) = cut_at(left, b'\n') {
         let k = bounds.len() as u32;
-        match read_next(names, k, line) {
-            Ok(bound) => {
-                let Ok(()) = bounds.push(bound) else {
-                    return Err(ClosedError::Memory(AllocError));
-                };
-                left = rest;
-            }
-            Err(e) => return Err(e),
-        }
+        let Some(bound) = read_line(names, k, line) else {
+            return Err(ClosedError::Line { line: k + 2 });
+        };
+        let Ok(()) = bounds.push(bound) else {
+            return Err(ClosedError::Memory(AllocError));
+        };
+        left = rest;
     }
     finish(load, bounds, left)
-}
-
-// The bound at the place k, read from its line, or `Line` with the number of the line where that isn't of the form.
-fn read_next(names: &Names, k: u32, line: &[u8]) -> Result<Bound, ClosedError>
-    requires few { length names.now ≤ most_ids }
-    requires place { k ≤ most_load }
-    ensures bound { IfOk result (λ b. line_read names.now k line.now ≡ Some (the_bound b)) }
-    ensures few { IfOk result (λ b. k < most_load) }
-    ensures line { (next : TheBound → Told) → IfErr result (IsWrong (or_wrong (line_read names.now k line.now) (k + 2) next)) }
-{
-    match read_line(names, k, line) {
-        Some(bound) => Ok(bound),
-        None => Err(ClosedError::Line { line: k + 2 }),
-    }
 }
 
 // The bound on a line, if the line is of the form and k is below the greatest number of bounds.

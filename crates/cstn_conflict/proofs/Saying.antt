@@ -1,74 +1,72 @@
 -- What is said of a network whose constraints are to blame.
-use Rattle.std.proofs.Common.{◌≡◌, ℕ, ◌≤◌, Bool, true, false, List, [], ◌∷◌, ◌++◌, refl, sym, ap, subst, ◌∙◌, arith}
-use Rattle.std.specs.Prelude.{◌↔◌, nat_lt, if◌then◌else◌, Result, Ok, Err, IfOk}
-use Rattle.std.specs.List.{list_any}
+use Rattle.std.proofs.Common.{◌≡◌, ℕ, ◌<◌, ◌≤◌, Bool, true, false, inl, inr, List, ◌++◌, refl, sym, ap, ◌∙◌}
+use Rattle.std.specs.Prelude.{Result, Ok, Err, IfOk, None, Some, if◌then◌else◌}
+use Rattle.std.proofs.lemmas.Bool.{cases_lt, cond-true, cond-false, lt-ltb, le-ltb}
 use Rattle.cstn_net.specs.Networks.{Network, IsWellFormed}
 use Rattle.cstn_net.specs.Strategies.{IsConsistent}
 use Rattle.cstn_rules.specs.Derivations.{Entry}
-use Rattle.cstn_log.specs.Cuts.{part}
-use Rattle.cstn_check.specs.Growth.{log_of, load_of}
+use Rattle.cstn_check.specs.Decisions.{verdict}
+use Rattle.cstn_check.specs.Givers.{with_ids}
+use Rattle.cstn_check.specs.Growth.{is_refuted, log_of, load_of}
+use Rattle.cstn_check.specs.Verdicts.{IsRefutationOf}
+use Rattle.cstn_check.specs.declared.verdicts.Verdict.TheVariants.{Yes, No, Full as IsFull}
+use Rattle.cstn_check.proofs.Decides.{log_decides}
+use Rattle.cstn_refute.specs.Refutations.{RefutationParts, the_steps}
 use Rattle.cstn_refute.specs.Texts.{shown}
-use Rattle.cstn_check.specs.Verdicts.{is_consistent}
-use Rattle.cstn_conflict.specs.Sets.{ids_of, with_ids}
-use Rattle.cstn_conflict.specs.Conflicts.{conflict_set, is_above, is_conflict_full, tried_from}
+use Rattle.cstn_conflict.specs.Conflicts.{conflict_set, IsConflictFull}
+use Rattle.cstn_conflict.specs.Texts.{ids_line, blamed_after_no, blamed_by, blamed}
 use Rattle.cstn_reply.specs.Texts.{Said, yes_line, full_line}
 use Rattle.cstn_reply.specs.Read.{the_said}
 use Rattle.cstn_reply.specs.declared.output.Said.{Said as SaidText}
 use Rattle.cstn_reply.specs.declared.output.Outcome.TheVariants.{Good, Bad, Full}
-use Rattle.cstn_conflict.specs.Texts.{ids_line, blame_text, blamed}
 
--- the laws of sets that are needed here
-abbrev pub Whole : Type 0
-Whole = (net : Network) → with_ids net (ids_of net) ≡ net
+module _ (cap : ℕ) (names : List (List ℕ)) (net : Network) (good : IsWellFormed net) where
+  within : load_of net ≤ cap → verdict cap net ≡ (if is_refuted net (log_of net) then No (load_of net) else Yes (load_of net))
+  within below = cond-false _ IsFull _ (le-ltb cap (load_of net) below)
 
-abbrev pub Decided : Type 0
-Decided = (net : Network) (set : List ℕ) → IsWellFormed net → (is_consistent (with_ids net set) ≡ true) ↔ IsConsistent (with_ids net set)
+  after_yes : load_of net ≤ cap → IsConsistent net → blamed cap names net ≡ record { outcome = Good; text = yes_line (load_of net) }
+  after_yes below consistent =
+      ap (blamed_by cap names net) (within below
+      ∙ cond-false _ (No (load_of net)) (Yes (load_of net)) ((log_decides net good.network good.letters).0 consistent))
 
-pub decided_whole : (net : Network) → IsWellFormed net → Whole → Decided → (is_consistent net ≡ true) ↔ IsConsistent net
-decided_whole net good whole decided = subst (λ (n : Network). (is_consistent n ≡ true) ↔ IsConsistent n) (whole net) (decided net (ids_of net) good)
+  after_no : load_of net ≤ cap → (IsConsistent net → ⊥) → blamed cap names net ≡ blamed_after_no cap names net (conflict_set cap net)
+  after_no below never = ap (blamed_by cap names net) (within below ∙ cond-true _ (No (load_of net)) (Yes (load_of net)) (by (is_refuted net (log_of net)) refl))
+    where
+      by : (b : Bool) → is_refuted net (log_of net) ≡ b → b ≡ true
+      by true is = refl
+      by false is = absurd (never ((log_decides net good.network good.letters).1 is))
 
-pub not_true : (b : Bool) → (b ≡ true → ⊥) → b ≡ false
-not_true true never = absurd (never refl)
-not_true false never = refl
+  over : cap < load_of net → blamed cap names net ≡ record { outcome = Full; text = full_line cap }
+  over above = ap (blamed_by cap names net) (cond-true _ IsFull _ (lt-ltb cap (load_of net) above))
 
--- no log is too long where the first check says yes
-within_cap : (cap : ℕ) (net : Network) → Whole → load_of net ≤ cap → is_consistent net ≡ true → is_conflict_full cap net ≡ false
-within_cap cap net whole below is =
-    ap (λ (b : Bool). list_any (is_above cap net) (ids_of net ∷ (if b then [] else tried_from net (ids_of net) (ids_of net)))) is
-    ∙ or_none (is_above cap net (ids_of net))
-    ∙ ap (λ (n : Network). nat_lt cap (load_of n)) (whole net)
-    ∙ not_above cap (load_of net) below
-  where
-    or_none : (b : Bool) → list_any (λ (x : Bool). x) (b ∷ []) ≡ b
-    or_none true = refl
-    or_none false = refl
+  is_full : IsConflictFull cap net → blamed cap names net ≡ record { outcome = Full; text = full_line cap }
+  is_full (inl above) = over above
+  is_full (inr (never, none)) = elim (cases_lt cap (load_of net)) [
+    | inl above ↦ over above
+    | inr below ↦ after_no below never ∙ ap (blamed_after_no cap names net) none
+  ]
 
-    not_above : (n m : ℕ) → m ≤ n → nat_lt n m ≡ false
-    not_above n m le = grind arith
+  module _ {E : Type 0} where
+    -- what is said where the network is consistent
+    pub yes_blamed : (load : ℕ) (r : Result SaidText E) → (load ≡ load_of net) × (load_of net ≤ cap) × IsConsistent net →
+        IfOk r (λ said. the_said said ≡ record { outcome = Good; text = yes_line load }) → IfOk r (λ said. the_said said ≡ blamed cap names net)
+    yes_blamed load (Err e) tells is = tt
+    yes_blamed load (Ok said) tells is = is ∙ ap (λ n. record { outcome = Good; text = yes_line n }) tells.0 ∙ sym (after_yes tells.1 tells.2)
 
--- what is said where the network is consistent
-pub yes_blamed : {E : Type 0} (cap load : ℕ) (names : List (List ℕ)) (net : Network) (r : Result SaidText E) → IsWellFormed net → Whole → Decided → (load ≡ load_of net) × (load_of net ≤ cap) × IsConsistent net → IfOk r (λ said. the_said said ≡ record { outcome = Good; text = yes_line load }) → IfOk r (λ said. the_said said ≡ blamed cap names net)
-yes_blamed cap load names net (Err e) good whole decided tells is = tt
-yes_blamed cap load names net (Ok said) good whole decided tells is =
-    let consistent : is_consistent net ≡ true = (decided_whole net good whole decided).1 tells.2 in
-    let full : Said = record { outcome = Full; text = full_line cap } in
-    let no : Said = record { outcome = Bad; text = blame_text names net (conflict_set net) } in
-    let yes' : Said = record { outcome = Good; text = yes_line (load_of net) } in
-    is ∙ ap (λ (n : ℕ). record { outcome = Good; text = yes_line n }) tells.0
-    ∙ sym (ap (λ (b : Bool). if b then full else if is_consistent net then yes' else no) (within_cap cap net whole tells.1 consistent)
-    ∙ ap (λ (b : Bool). if b then yes' else no) consistent)
+    -- what is said where it isn't
+    pub no_blamed : (ids : List ℕ) (refutation : RefutationParts) (r : Result SaidText E) → (IsConsistent net → ⊥) × (load_of net ≤ cap) →
+        conflict_set cap net ≡ Some ids → IsRefutationOf (with_ids net ids) refutation →
+        IfOk r (λ said. the_said said ≡ record { outcome = Bad; text = ids_line ids ++ shown names refutation.load (the_steps refutation) }) →
+        IfOk r (λ said. the_said said ≡ blamed cap names net)
+    no_blamed ids refutation (Err e) tells set of is = tt
+    no_blamed ids refutation (Ok said) tells set of is =
+        is
+        ∙ ap (λ n. record { outcome = Bad; text = ids_line ids ++ shown names n (the_steps refutation) }) of.load
+        ∙ ap (λ (es : List Entry). record { outcome = Bad; text = ids_line ids ++ shown names (load_of (with_ids net ids)) es }) of.part
+        ∙ sym (after_no tells.1 tells.0 ∙ ap (blamed_after_no cap names net) set)
 
--- what is said where the network isn't consistent
-pub no_blamed : {E : Type 0} (cap load : ℕ) (names : List (List ℕ)) (net : Network) (ids : List ℕ) (steps : List Entry) (r : Result SaidText E) → IsWellFormed net → Whole → Decided → (IsConsistent net → ⊥) × (is_conflict_full cap net ≡ false) → ids ≡ conflict_set net → steps ≡ part (log_of (with_ids net (conflict_set net))) → load ≡ load_of (with_ids net (conflict_set net)) → IfOk r (λ said. the_said said ≡ record { outcome = Bad; text = ids_line ids ++ shown names load steps }) → IfOk r (λ said. the_said said ≡ blamed cap names net)
-no_blamed cap load names net ids steps (Err e) good whole decided tells ids_are steps_are load_is is = tt
-no_blamed cap load names net ids steps (Ok said) good whole decided tells ids_are steps_are load_is is =
-    let inconsistent : is_consistent net ≡ false = not_true (is_consistent net) (λ so. tells.0 ((decided_whole net good whole decided).0 so)) in
-    let full : Said = record { outcome = Full; text = full_line cap } in
-    let no : Said = record { outcome = Bad; text = blame_text names net (conflict_set net) } in
-    let yes' : Said = record { outcome = Good; text = yes_line (load_of net) } in
-    is
-    ∙ ap (λ (xs : List ℕ). record { outcome = Bad; text = ids_line xs ++ shown names load steps }) ids_are
-    ∙ ap (λ (n : ℕ). record { outcome = Bad; text = ids_line (conflict_set net) ++ shown names n steps }) load_is
-    ∙ ap (λ (es : List Entry). record { outcome = Bad; text = ids_line (conflict_set net) ++ shown names (load_of (with_ids net (conflict_set net))) es }) steps_are
-    ∙ sym (ap (λ (b : Bool). if b then full else if is_consistent net then yes' else no) tells.1
-    ∙ ap (λ (b : Bool). if b then yes' else no) inconsistent)
+    -- what is said where a log is full
+    pub full_blamed : (r : Result SaidText E) → IsConflictFull cap net → IfOk r (λ said. the_said said ≡ record { outcome = Full; text = full_line cap }) →
+        IfOk r (λ said. the_said said ≡ blamed cap names net)
+    full_blamed (Err e) full is = tt
+    full_blamed (Ok said) full is = is ∙ sym (is_full full)

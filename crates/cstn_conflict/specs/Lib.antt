@@ -1,6 +1,3 @@
--- Sets of constraints, and which of them conflict.
-pub mod Sets
+-- Which constraints conflict, and what is said of them.
 pub mod Conflicts
--- The search for them, and what is said.
-pub mod Trials
 pub mod Texts

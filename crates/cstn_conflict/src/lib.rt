@@ -3,14 +3,12 @@
 
 mod conflicts;
 mod errors;
-mod givers;
 mod ids;
 mod laws;
-mod search;
 mod texts;
 
 pub use conflicts::{Conflict, smallest};
 pub use errors::ConflictError;
 pub use ids::Ids;
-pub use laws::{refutations_stand, sets_are_decided};
+pub use laws::{conflict_sets_are_minimal, refutations_stand, sets_are_decided};
 pub use texts::conflict_text;

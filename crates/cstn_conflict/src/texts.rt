@@ -9,7 +9,7 @@ ghost use Rattle.cstn_reply.specs.Texts.{yes_line};
 ghost use Rattle.cstn_reply.specs.Read.{the_said};
 ghost use Rattle.cstn_conflict.specs.Texts.{ids_line, blamed};
 
-use crate::{Conflict, ConflictError, sets_are_decided, smallest};
+use crate::{Conflict, ConflictError, smallest};
 use cstn_check::{full, yes_line};
 use cstn_log::Cap;
 use cstn_net::Network;
@@ -31,7 +31,6 @@ pub fn conflict_text(
     requires named { length names.now ≡ count (the_network network) }
     ensures said { IfOk result (λ said. the_said said ≡ blamed cap.entries names.now (the_network network)) }
 {
-    sets_are_decided();
     match smallest(alloc, network, cap) {
         Ok(conflict) => conflict_said(alloc, &conflict, names),
         Err(ConflictError::Consistent { load }) => consistent(alloc, load),

@@ -1,23 +1,19 @@
 -- `IsSession` still holds after a constraint is added.
-use Rattle.std.proofs.Common.{inl, inr, ℕ, suc, ◌≡◌, ◌+◌, ◌<◌, ◌≤◌, List, [], ◌∷◌, ◌++◌, length, map, Option, Some, None, arith, sym, subst, ap, ◌∙◌}
+use Rattle.std.proofs.Common.{ℕ, ◌≡◌, ◌+◌, ◌<◌, ◌≤◌, List, [], ◌∷◌, ◌++◌, length, map, Option, Some, None, arith, sym, subst, ap, ◌∙◌}
 use Rattle.std.specs.Prelude.{slice_get}
 use Rattle.std.specs.List.{All, Contains}
-use Rattle.std.specs.Coded.{le_prop}
-use Rattle.std.proofs.lemmas.Bool.{cases_lt}
 use Rattle.std.proofs.lemmas.List.{length-append, map-append}
 use Rattle.std.proofs.lemmas.List.Elements.{All-push, All-weaker, Contains-append_left}
-use Rattle.cstn_label.specs.declared.props.Prop.{Prop}
-use Rattle.cstn_label.specs.Labels.{Label}
 use Rattle.cstn_net.specs.Limits.{most_edits}
 use Rattle.cstn_net.specs.declared.constraints.Constraint.{Constraint}
-use Rattle.cstn_net.specs.Networks.{Network, Constraint as TheConstraint, IsLeastUnobserved}
+use Rattle.cstn_net.specs.Networks.{Network, Constraint as TheConstraint}
 use Rattle.cstn_net.specs.Read.{NetworkParts, the_network, the_constraint}
 use Rattle.cstn_label.specs.Bounds.{Bound}
 use Rattle.cstn_rules.specs.declared.entries.Why.TheVariants.{Chain}
 use Rattle.cstn_rules.specs.Derivations.{Entry, IsDerivation}
 use Rattle.cstn_log.specs.Entries.{State, the_entries}
 use Rattle.cstn_edit.specs.declared.outcomes.Outcome.{Outcome}
-use Rattle.cstn_edit.specs.Sessions.{next_id, most_births, IsKeptLog, IsSession}
+use Rattle.cstn_edit.specs.Sessions.{most_births, IsKeptLog, IsSession}
 
 -- a derivation of a network is one of the network with other constraints too, if those that it uses are among them
 abbrev pub DeriveElsewhere : Type 0
@@ -52,11 +48,11 @@ more_births births edits None few = omega arith
 more_births births edits (Some o) few = omega arith
 
 -- a session with a further constraint is a session
-pub added_session : DeriveElsewhere → (old new : NetworkParts) (c : Constraint) (log : State) (room edits : ℕ) (highest : Option ℕ) (last : Option Outcome) →
-    IsSession old log room edits highest last →
+pub added_session : DeriveElsewhere → (old new : NetworkParts) (c : Constraint) (log : State) (room edits next : ℕ) (last : Option Outcome) →
+    IsSession old log room edits next last →
     new ≡ record old { constraints = old.constraints ++ c ∷ []; spare = new.spare } → new.spare + 1 ≡ old.spare →
-    edits < most_edits → length old.constraints < room → c.id ≡ next_id highest → IsSession new log room (edits + 1) (Some c.id) None
-added_session elsewhere old new c log room edits highest last session is spare few more id =
+    edits < most_edits → length old.constraints < room → c.id ≡ next → IsSession new log room (edits + 1) (next + 1) None
+added_session elsewhere old new c log room edits next last session is spare few more id =
     let all : new.constraints ≡ old.constraints ++ c ∷ [] = ap (λ n. n.constraints) is in
     let long : length new.constraints ≡ length old.constraints + 1 = ap length all ∙ length-append old.constraints (c ∷ []) in
     record {
@@ -67,30 +63,10 @@ added_session elsewhere old new c log room edits highest last session is spare f
       fits = omega arith;
       most_room = session.most_room;
       spare = let room_there = session.spare in omega arith;
-      below = subst (All (λ d. d.id < suc c.id)) (sym all) (All-push (λ d. d.id < suc c.id) old.constraints c
-          (All-weaker (λ d. d.id < next_id highest) (λ d. d.id < suc c.id) (λ d below. omega arith) old.constraints session.below)
+      below = subst (All (λ d. d.id < next + 1)) (sym all) (All-push (λ d. d.id < next + 1) old.constraints c
+          (All-weaker (λ d. d.id < next) (λ d. d.id < next + 1) (λ d below. omega arith) old.constraints session.below)
           (omega arith));
       small = let small = session.small in omega arith;
       refuted = tt;
       consistent = tt;
     }
-
--- at most one proposition is the least that the label names and nothing observes
-least_once : (net : Network) (a : Label) (p q : ℕ) → IsLeastUnobserved net a p → IsLeastUnobserved net a q → p ≡ q
-least_once net a p q one other = elim (cases_lt p q) [
-  | inl below ↦ absurd (other.1 p below one.0)
-  | inr upto ↦ elim (cases_lt q p) [
-    | inl above ↦ absurd (one.1 q above other.0)
-    | inr same ↦ omega arith
-  ]
-]
-
-same_built : (i : ℕ) (h k : i < 52) → ◌≡◌ {A = Prop} (record { index = i; in_range = h }) (record { index = i; in_range = k })
-same_built i h k = let e : h ≡ k = le_prop h k in cc
-
-same_prop : (p q : Prop) → p.index ≡ q.index → p ≡ q
-same_prop p q e =
-    subst (λ i. (k : i < 52) → p ≡ record { index = i; in_range = k }) e (λ k. same_built p.index p.in_range k) q.in_range
-
-pub least_prop : (net : Network) (a : Label) (p q : Prop) → IsLeastUnobserved net a p.index → IsLeastUnobserved net a q.index → p ≡ q
-least_prop net a p q one other = same_prop p q (least_once net a p.index q.index one other)

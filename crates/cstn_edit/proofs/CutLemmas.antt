@@ -1,7 +1,7 @@
 -- `IsSession` still holds after a constraint is taken out or changed, and its entries are dropped from the log.
 use Rattle.std.proofs.Common.{ℕ, zero, suc, ◌≡◌, ◌+◌, ◌<◌, ◌≤◌, inl, inr, Bool, true, false, List, [], ◌∷◌, ◌++◌, length, map, Option, Some, None, arith, refl, sym, subst, ap, ◌∙◌, length-append}
 use Rattle.std.specs.Option.{is_some}
-use Rattle.std.specs.Prelude.{IfSome, ℤ, slice_get, slice_index_or, nat_lt, if◌then◌else◌}
+use Rattle.std.specs.Prelude.{IfSome, IsNone, ◌↔◌, ℤ, slice_get, slice_index_or, nat_lt, if◌then◌else◌}
 use Rattle.std.specs.List.{All, AllPairs, Contains}
 use Rattle.std.proofs.lemmas.Bool.{cases_Bool, cases_lt, false≢true, cond-true, cond-false, eqb-true, ne_eqb}
 use Rattle.std.proofs.lemmas.List.{append-nil, get_or_append_left}
@@ -26,7 +26,7 @@ use Rattle.cstn_log.proofs.CutLemmas.{cut_marked, length_cut, comes}
 use Rattle.cstn_log.proofs.MarkLemmas.{staying_more, dropped_derivation}
 use Rattle.cstn_check.specs.Turns.{IsRefutedLast}
 use Rattle.cstn_edit.specs.declared.outcomes.Outcome.{Outcome}
-use Rattle.cstn_edit.specs.Sessions.{IsKeptLog, IsSession, kept_list, most_births, next_id}
+use Rattle.cstn_edit.specs.Sessions.{IsKeptLog, IsSession, kept_list, most_births}
 
 -- each entry is a base bound
 abbrev pub AllBase : List Entry → Type 0
@@ -175,15 +175,15 @@ births_after before left entries cap edits None few more short most = omega arit
 births_after before left entries cap edits (Some o) few more short most = omega arith
 
 -- a session is still one after the constraint with this id was taken out or changed, and its entries were dropped
-pub cut_session : (old new : NetworkParts) (log left : State) (room edits id : ℕ) (highest : Option ℕ) (last : Option Outcome) →
-    IsSession old log room edits highest last → edits < most_edits → length log.entries ≤ log.cap →
+pub cut_session : (old new : NetworkParts) (log left : State) (room edits id next : ℕ) (last : Option Outcome) →
+    IsSession old log room edits next last → edits < most_edits → length log.entries ≤ log.cap →
     the_network new ≡ with_constraints (the_network old) (map the_constraint new.constraints) →
     ((c : TheConstraint) → Contains (map the_constraint old.constraints) c → (c.id ≡ id → ⊥) → Contains (map the_constraint new.constraints) c) →
     length new.constraints ≤ length old.constraints → room ≤ length new.constraints + new.spare →
-    All (λ c. c.id < next_id highest) new.constraints →
+    All (λ c. c.id < next) new.constraints →
     the_entries left.entries ≡ dropped (the_entries log.entries) id → left.births ≤ log.births + length log.entries →
-    left.cap ≡ log.cap → left.nodes ≡ log.nodes → IsSession new left room (edits + 1) highest None
-cut_session old new log left room edits id highest last s few short is others fewer spare below list births cap nodes =
+    left.cap ≡ log.cap → left.nodes ≡ log.nodes → IsSession new left room (edits + 1) next None
+cut_session old new log left room edits id next last s few short is others fewer spare below list births cap nodes =
     let most = s.kept.most in
     let fits = s.fits in
     let small = s.small in
@@ -200,6 +200,11 @@ cut_session old new log left room edits id highest last s few short is others fe
       refuted = tt;
       consistent = tt;
     }
+
+-- an option that has none only where a fact holds has a value where the fact doesn't
+pub some_where : {A P : Type 0} (o : Option A) → IsNone o ↔ P → (P → ⊥) → is_some o ≡ true
+some_where None is never = absurd (never (is.0 refl))
+some_where (Some x) is never = refl
 
 -- what holds if an option has a value, where it does
 pub where_some : {A : Type 0} (P : Type 0) (o : Option A) → is_some o ≡ true → IfSome o (λ x. P) → P

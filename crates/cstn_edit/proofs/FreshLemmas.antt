@@ -10,7 +10,7 @@ use Rattle.cstn_net.specs.Networks.{Network, Constraint}
 use Rattle.cstn_net.specs.Read.{NetworkParts, the_network, the_constraint}
 use Rattle.cstn_rules.specs.Derivations.{Entry}
 use Rattle.cstn_check.specs.Spent.{AreSpent, is_fresh, fresh_count}
-use Rattle.cstn_edit.specs.Edits.{with_value, without}
+use Rattle.cstn_change.specs.Changes.{with_value, without}
 use Rattle.cstn_log.specs.Entries.{State, the_entries}
 use Rattle.cstn_log.proofs.ListLemmas.{take_step}
 use Rattle.cstn_edit.specs.Fresh.{ids_of, fresh_with, AreSome, IsFreshened}

@@ -9,13 +9,13 @@ use Rattle.std.proofs.lemmas.List.Elements.{All-map, All-push, All-filter, All-w
 use Rattle.std.proofs.lemmas.List.Filters.{length-filter_both}
 use Rattle.std.proofs.lemmas.List.Kept.{AllPairs-filter}
 use Rattle.std.proofs.lemmas.List.Quantifiers.{all_pairs_push}
+use Rattle.cstn_facts.proofs.Pairs.{pairs_map}
 use Rattle.cstn_label.specs.Marks.{is_plain}
 use Rattle.cstn_label.specs.Labels.{Label}
 use Rattle.cstn_label.specs.Bounds.{Dominates}
 use Rattle.cstn_net.specs.Limits.{most_constraints, most_edits}
 use Rattle.cstn_net.specs.Networks.{Network, Constraint, IsConstraint, IsValue, IsWellFormed, count}
 use Rattle.cstn_net.specs.Strategies.{IsConsistent}
-use Rattle.cstn_net.proofs.ListLemmas.{pairs_map}
 use Rattle.cstn_net.proofs.WellFormed.{well_formed_with}
 use Rattle.cstn_rules.specs.Derivations.{Entry}
 use Rattle.cstn_rules.proofs.Derived.{with_constraints, derivation_elsewhere}
@@ -31,7 +31,6 @@ use Rattle.cstn_check.specs.Growth.{is_refuted, grow, load_of, most_entries}
 use Rattle.cstn_check.specs.Kept.{IsKept}
 use Rattle.cstn_check.specs.Turns.{IsRefutedLast}
 use Rattle.cstn_label.proofs.PlainLabels.{true_plain}
-use Rattle.cstn_check.proofs.Decided.{Small}
 use Rattle.cstn_check.proofs.Lists.{extends_through}
 use Rattle.cstn_check.proofs.Derives.{grown_keeps}
 use Rattle.cstn_check.proofs.Bounded.{kept_more}
@@ -39,13 +38,15 @@ use Rattle.cstn_check.proofs.Decides.{grown_derivation, grown_by_last, grown_dec
 use Rattle.cstn_check.proofs.Ends.{grow_from}
 use Rattle.cstn_check.proofs.Starts.{GoesOn, bases_go_on, kept_from}
 use Rattle.cstn_edit.specs.declared.outcomes.Outcome.{Outcome}
-use Rattle.cstn_edit.specs.Sessions.{next_id, kept_after, outcome_of, verdict_by}
-use Rattle.cstn_edit.specs.Edits.{Session, Refusal, NotObserved, is_value, unobserved, has_constraint, add_refusal, change_refusal, begun, without, with_value, with_added, with_others, with_removed, with_changed, outcome_at, kept_at, with_verdict}
+use Rattle.cstn_change.specs.Changes.{Refusal, NotObserved, adds, removes, revalues, is_value, least_unobserved, has_constraint, refusal, without, with_value}
+use Rattle.cstn_change.proofs.IdLemmas.{above_each}
+use Rattle.cstn_change.proofs.RefusalLemmas.{true_value, on_observed}
+use Rattle.cstn_edit.specs.Sessions.{kept_after, outcome_of, verdict_by}
+use Rattle.cstn_edit.specs.Edits.{Session, begun, edited_of, with_edited, with_change, outcome_at, kept_at, with_verdict}
 use Rattle.cstn_edit.specs.Sound.{AreApart, IsTrueOf, IsLastTrue, IsSound}
-use Rattle.cstn_edit.proofs.StartLemmas.{highest_above}
-use Rattle.cstn_edit.proofs.EditLemmas.{true_value, on_observed}
 use Rattle.cstn_edit.proofs.CutLemmas.{dropped_front, dropped_last}
 use Rattle.cstn_edit.proofs.VerdictLemmas.{outcome_when, after_grown, after_log, after_bases}
+use Rattle.cstn_label.specs.OnLetters.{IsOnLetters}
 
 -- a session starts soundly
 pub begun_is_sound : (net : Network) → IsWellFormed net → IsSound (begun net)
@@ -53,7 +54,7 @@ begun_is_sound net good =
     let on = bases_go_on net good.network good.letters in
     record {
       well_formed = good;
-      below = highest_above None net.constraints;
+      below = above_each net.constraints;
       derivation = on.derivation;
       based = record { rest = []; is = append-nil (bases (count net)) };
       refuted = on.last;
@@ -86,10 +87,10 @@ record IsAccepted (net : Network) (room : ℕ) (most : ℤ) (a : Label) : Type 0
   few : length net.constraints < room
   value : is_value most ≡ true
   plain : is_plain a ≡ true
-  observed : unobserved net a ≡ None
+  observed : least_unobserved net a ≡ None
 
-accepted : (room : ℕ) (s : Session) (most : ℤ) (a : Label) → add_refusal room s most a ≡ None → IsAccepted s.net room most a
-accepted room s most a none =
+accepted : (room : ℕ) (s : Session) (x y : ℕ) (most : ℤ) (a : Label) → refusal room (edited_of s) (adds x y most a) ≡ None → IsAccepted s.net room most a
+accepted room s x y most a none =
     let one = none_refused (nat_le most_edits s.edits) _ _ none in
     let two = none_refused (nat_le room (length s.net.constraints)) _ _ one.1 in
     let three = none_refused (not (is_value most)) _ _ two.1 in
@@ -98,17 +99,17 @@ accepted room s most a none =
       few = leb-false room (length s.net.constraints) two.0;
       value = not-false (is_value most) three.0;
       plain = not-false (is_plain a) four.0;
-      observed = none_mapped NotObserved (unobserved s.net a) four.1;
+      observed = none_mapped NotObserved (least_unobserved s.net a) four.1;
     }
 
 -- a session is sound after a constraint is added
-pub added_is_sound : (room : ℕ) (s : Session) (x y : ℕ) (most : ℤ) (a : Label) → room ≤ most_constraints → Small a → x < count s.net → y < count s.net →
-    add_refusal room s most a ≡ None → IsSound s → IsSound (with_added s x y most a)
+pub added_is_sound : (room : ℕ) (s : Session) (x y : ℕ) (most : ℤ) (a : Label) → room ≤ most_constraints → IsOnLetters a → x < count s.net → y < count s.net →
+    refusal room (edited_of s) (adds x y most a) ≡ None → IsSound s → IsSound (with_change s (adds x y most a))
 added_is_sound room s x y most a few small from to none sound =
     let cs = s.net.constraints in
-    let c : Constraint = record { id = next_id s.highest; from = x; to = y; most = most; label = a } in
+    let c : Constraint = record { id = s.next; from = x; to = y; most = most; label = a } in
     let good = sound.well_formed in
-    let ok = accepted room s most a none in
+    let ok = accepted room s x y most a none in
     record {
       well_formed = well_formed_with s.net (cs ++ c ∷ []) good
           (let long = length-append cs (c ∷ []) in let less = ok.few in omega arith)
@@ -116,8 +117,8 @@ added_is_sound room s x y most a few small from to none sound =
           (record { from = from; to = to; plain = true_plain a small ok.plain; observed = on_observed s.net a small ok.observed }))
           (all_pairs_push (λ b d. b.id < d.id) cs c good.ascending sound.below)
           (All-push (λ d. IsValue d.most) cs c good.values (true_value most ok.value));
-      below = All-push (λ d. d.id < suc (next_id s.highest)) cs c
-          (All-weaker (λ d. d.id < next_id s.highest) (λ d. d.id < suc (next_id s.highest)) (λ d below. omega arith) cs sound.below)
+      below = All-push (λ d. d.id < s.next + 1) cs c
+          (All-weaker (λ d. d.id < s.next) (λ d. d.id < s.next + 1) (λ d below. omega arith) cs sound.below)
           (omega arith);
       derivation = derivation_elsewhere s.net (cs ++ c ∷ []) s.kept (λ d b k i has there. Contains-append_left cs (c ∷ []) d has) sound.derivation;
       based = sound.based;
@@ -148,8 +149,8 @@ dropped_apart list id a = record {
 
 -- a sound session stays sound when one constraint is taken out or changed, and the entries that it gave are dropped
 others_sound : (s : Session) (id : ℕ) (cs : List Constraint) → IsSound s → IsWellFormed (with_constraints s.net cs) →
-    ((c : Constraint) → Contains s.net.constraints c → (c.id ≡ id → ⊥) → Contains cs c) → All (λ c. c.id < next_id s.highest) cs →
-    IsSound (with_others s id cs)
+    ((c : Constraint) → Contains s.net.constraints c → (c.id ≡ id → ⊥) → Contains cs c) → All (λ c. c.id < s.next) cs →
+    IsSound (with_edited (record { net = with_constraints s.net cs; fresh = s.next; edits = s.edits + 1 }) (dropped s.kept id))
 others_sound s id cs sound good others below =
     let left = dropped_front (count s.net) id sound.based.rest in
     record {
@@ -176,7 +177,7 @@ contains_filter test xs x has passes = go xs has.0 has.1 has.2
         ]
 
 -- a session is sound after a constraint is taken out
-pub removed_is_sound : (s : Session) (id : ℕ) → IsSound s → IsSound (with_removed s id)
+pub removed_is_sound : (s : Session) (id : ℕ) → IsSound s → IsSound (with_change s (removes id))
 removed_is_sound s id sound =
     let cs = s.net.constraints in
     let good = sound.well_formed in
@@ -188,7 +189,7 @@ removed_is_sound s id sound =
     (AllPairs-filter (λ b c. b.id < c.id) test cs good.ascending)
     (All-filter test (λ c. IsValue c.most) cs good.values))
     (λ c has other. contains_filter test cs c has (ap not (ne_eqb c.id id other)))
-    (All-filter test (λ c. c.id < next_id s.highest) cs sound.below)
+    (All-filter test (λ c. c.id < s.next) cs sound.below)
 
 -- a constraint with another value keeps its id, and is one of the network
 same_id : (id : ℕ) (most : ℤ) (c : Constraint) → (with_value id most c).id ≡ c.id
@@ -204,7 +205,7 @@ value_with : (id : ℕ) (most : ℤ) (c : Constraint) → IsValue most → IsVal
 value_with id most c new old = elim (cases_Bool (c.id == id)) [ inl t ↦ rw t new | inr f ↦ rw f old ]
 
 -- a session is sound after a constraint gets another value
-value_is_sound : (s : Session) (id : ℕ) (most : ℤ) → IsValue most → IsSound s → IsSound (with_changed s id most)
+value_is_sound : (s : Session) (id : ℕ) (most : ℤ) → IsValue most → IsSound s → IsSound (with_change s (revalues id most))
 value_is_sound s id most value sound =
     let cs = s.net.constraints in
     let good = sound.well_formed in
@@ -220,12 +221,12 @@ value_is_sound s id most value sound =
     omega arith))
     (All-map (λ c. IsValue c.most) f cs (All-weaker _ _ (λ c. value_with id most c value) cs good.values)))
     (λ c has other. subst (Contains (map f cs)) (cond-false _ _ _ (ne_eqb c.id id other)) (contains_map f cs c has))
-    (All-map (λ c. c.id < next_id s.highest) f cs
-    (All-weaker (λ c. c.id < next_id s.highest) (λ c. (f c).id < next_id s.highest)
+    (All-map (λ c. c.id < s.next) f cs
+    (All-weaker (λ c. c.id < s.next) (λ c. (f c).id < s.next)
     (λ c below. (let same = same_id id most c in omega arith)) cs sound.below))
 
-pub changed_is_sound : (s : Session) (id : ℕ) (most : ℤ) → change_refusal s id most ≡ None → IsSound s → IsSound (with_changed s id most)
-changed_is_sound s id most none sound =
+pub changed_is_sound : (room : ℕ) (s : Session) (id : ℕ) (most : ℤ) → refusal room (edited_of s) (revalues id most) ≡ None → IsSound s → IsSound (with_change s (revalues id most))
+changed_is_sound room s id most none sound =
     let one = none_refused (nat_le most_edits s.edits) _ _ none in
     let two = none_refused (not (has_constraint s.net id)) _ _ one.1 in
     value_is_sound s id most (true_value most (refused_unless (is_value most) _ two.1)) sound

@@ -1,27 +1,24 @@
 -- What is answered to edit lines.
-use Rattle.std.specs.Prelude.{◌≤◌, ℕ, ℤ, Bool, false, ◌||◌, if◌then◌else◌, List, [], ◌∷◌, ◌++◌, length, ◌≡◌, Option, None, Some, codes, decimal, bytes_eq}
-use Rattle.cstn_label.specs.Labels.{Label}
-use Rattle.cstn_label.specs.Letters.{letter_of}
+use Rattle.std.specs.Prelude.{◌≤◌, ℕ, Bool, false, ◌||◌, if◌then◌else◌, List, [], ◌∷◌, ◌++◌, length, ◌≡◌, Option, None, Some, Result, Ok, Err, codes, bytes_eq}
 use Rattle.cstn_net.specs.Limits.{most_time_points, most_constraints}
 use Rattle.cstn_net.specs.Networks.{Network, count}
 use Rattle.cstn_net.specs.Read.{the_network}
-use Rattle.cstn_text.specs.Names.{number_of}
-use Rattle.cstn_text.specs.Numbers.{printed_value}
-use Rattle.cstn_text.specs.PrintedNames.{printed_name}
 use Rattle.cstn_rules.specs.Derivations.{Entry}
 use Rattle.cstn_log.specs.Cuts.{part}
 use Rattle.cstn_check.specs.declared.verdicts.Verdict.{Verdict}
 use Rattle.cstn_check.specs.declared.verdicts.Verdict.TheVariants.{Yes, No, Full as IsFull}
 use Rattle.cstn_refute.specs.Texts.{shown}
-use Rattle.cstn_edit.specs.Sessions.{SessionParts, next_id}
-use Rattle.cstn_edit.specs.Edits.{Session, Refusal, EditLimit, NoRoom, NoSuch, ValueRange, NotPlain, NotObserved, begun, add_refusal, remove_refusal, change_refusal, with_added, with_removed, with_changed, outcome_at, with_verdict, the_session}
-use Rattle.cstn_edit.specs.declared.outcomes.Outcome.{Outcome as Answered}
 use Rattle.cstn_lines.specs.LiveLines.{cut_at_space}
 use Rattle.cstn_lines.specs.EditLines.{Edit, added, removed, changed, asked, edit_read}
 use Rattle.cstn_reply.specs.Texts.{line, yes_line, full_line, Said}
 use Rattle.cstn_reply.specs.Sessions.{Turn, more, wrong, on_turn}
 use Rattle.cstn_reply.specs.declared.output.Outcome.{Outcome}
 use Rattle.cstn_reply.specs.declared.output.Outcome.TheVariants.{Good, Bad, Full}
+use Rattle.cstn_change.specs.Changes.{Change, removes, revalues, Refusal, refusal}
+use Rattle.cstn_change.specs.ChangeLines.{refused_text, accepted_text, addition}
+use Rattle.cstn_edit.specs.Sessions.{SessionParts}
+use Rattle.cstn_edit.specs.Edits.{Session, begun, edited_of, with_change, outcome_at, with_verdict, the_session}
+use Rattle.cstn_edit.specs.declared.outcomes.Outcome.{Outcome as Answered}
 
 -- an edit session, whose kept list may have `cap` entries, the names of its time-points, and the verdict of the last check,
 -- if there was one
@@ -34,30 +31,16 @@ pub record Editing : Type 0 where
 abbrev pub begun_editing : ℕ → List (List ℕ) → Network → Editing
 begun_editing cap names net = record { cap = cap; names = names; session = begun net; verdict = None }
 
--- what is said of a refused edit
-abbrev pub refused_edit : Refusal → List ℕ
-refused_edit (NoRoom room) = codes "refused S1 " ++ decimal room
-refused_edit (NoSuch id) = codes "refused S2 " ++ decimal id
-refused_edit (ValueRange most) = codes "refused S3 " ++ printed_value most
-refused_edit NotPlain = codes "refused S4"
-refused_edit (NotObserved p) = codes "refused S5 " ++ letter_of p ∷ []
-refused_edit EditLimit = codes "refused S6"
-
--- what is said of an edit that names a time-point which the network doesn't have
-abbrev pub unknown_name : List ℕ → List ℕ
-unknown_name name = codes "refused S7 " ++ printed_name name
-
 -- the answer to an edit: why it is refused, or what is said of it and the session that follows
 abbrev pub answered_edit : Editing → Option Refusal → List ℕ → Session → Turn Editing
 answered_edit e None text next = more (line text) (record e { session = next })
-answered_edit e (Some refusal) text next = more (line (refused_edit refusal)) e
+answered_edit e (Some why) text next = more (line (refused_text why)) e
 
--- the answer to an added constraint, by the numbers of its ends, each `None` where no time-point has the name
-abbrev pub answered_add : Editing → List ℕ → List ℕ → ℤ → Label → Option ℕ → Option ℕ → Turn Editing
-answered_add e from to most a None y = more (line (unknown_name from)) e
-answered_add e from to most a (Some x) None = more (line (unknown_name to)) e
-answered_add e from to most a (Some x) (Some y) =
-    answered_edit e (add_refusal most_constraints e.session most a) (codes "added " ++ decimal (next_id e.session.highest)) (with_added e.session x y most a)
+-- the answer to a change, or to an addition whose ends aren't both known
+abbrev pub answered_change : Editing → Result Change Refusal → Turn Editing
+answered_change e (Err why) = more (line (refused_text why)) e
+answered_change e (Ok change) =
+    answered_edit e (refusal most_constraints (edited_of e.session) change) (accepted_text e.session.next change) (with_change e.session change)
 
 -- what is said of a verdict: its load, after a no with the steps of the kept list that refute, or that the list is full
 abbrev pub verdict_text : ℕ → List (List ℕ) → List Entry → Verdict → List ℕ
@@ -76,11 +59,9 @@ answered_check e o next =
 -- the answer to what an edit line says
 abbrev pub answered : Editing → Option Edit → Turn Editing
 answered e None = wrong
-answered e (Some (added from to most a)) = answered_add e from to most a (number_of e.names from) (number_of e.names to)
-answered e (Some (removed id)) =
-    answered_edit e (remove_refusal e.session id) (codes "removed " ++ decimal id) (with_removed e.session id)
-answered e (Some (changed id most)) =
-    answered_edit e (change_refusal e.session id most) (codes "changed " ++ decimal id) (with_changed e.session id most)
+answered e (Some (added from to most a)) = answered_change e (addition e.names from to most a)
+answered e (Some (removed id)) = answered_change e (Ok (removes id))
+answered e (Some (changed id most)) = answered_change e (Ok (revalues id most))
 answered e (Some asked) = answered_check e (outcome_at e.cap e.session) (with_verdict e.cap e.session)
 
 -- the answer to an edit line

@@ -1,8 +1,8 @@
 -- Edit sessions: a network that is edited, with the list that is kept between its verdicts.
-use Rattle.std.specs.Prelude.{ℕ, suc, ◌≡◌, ◌+◌, ◌*◌, ◌^◌, ◌<◌, ◌≤◌, max, nat_lt, nat_le, Bool, ◌&&◌, if◌then◌else◌, List, [], ◌∷◌, ◌++◌, length, Option, Some, None}
+use Rattle.std.specs.Prelude.{ℕ, ◌≡◌, ◌+◌, ◌*◌, ◌^◌, ◌<◌, ◌≤◌, nat_lt, nat_le, Bool, ◌&&◌, if◌then◌else◌, List, [], ◌++◌, length, Option, Some, None}
 use Rattle.std.specs.List.{All}
 use Rattle.cstn_net.specs.Limits.{most_constraints, most_load, most_edits}
-use Rattle.cstn_net.specs.Networks.{Network, Constraint, count}
+use Rattle.cstn_net.specs.Networks.{Network, count}
 use Rattle.cstn_net.specs.Read.{NetworkParts, the_network}
 use Rattle.cstn_net.specs.Strategies.{IsConsistent}
 use Rattle.cstn_rules.specs.declared.entries.Entry.{Entry as DeclaredEntry}
@@ -15,16 +15,16 @@ use Rattle.cstn_check.specs.Turns.{IsRefutedLast, LastRefutes}
 use Rattle.cstn_edit.specs.declared.outcomes.Outcome.{Outcome}
 
 -- what contracts see of a session: the network as edited; the entries of its log; how many entries (`cap`) and constraints
--- (`room`) there may be; the number of accepted edits; the highest id ever used; the last outcome, or none where an edit was
--- accepted since; how many rules were tried; the ids of the constraints that were added or changed since the last verdict;
--- and whether that verdict was yes and no entry was taken out since
+-- (`room`) there may be; the number of accepted edits; the id of the next constraint that is added, above all ever used; the
+-- last outcome, or none where an edit was accepted since; how many rules were tried; the ids of the constraints that were added
+-- or changed since the last verdict; and whether that verdict was yes and no entry was taken out since
 pub record SessionParts : Type 0 where
   pub net : NetworkParts
   pub entries : List DeclaredEntry
   pub cap : ℕ
   pub room : ℕ
   pub edits : ℕ
-  pub highest : Option ℕ
+  pub next : ℕ
   pub last : Option Outcome
   pub tries : ℕ
   pub fresh : List ℕ
@@ -58,21 +58,6 @@ outcome_of net cap kept = record {
   verdict = if nat_lt cap (length (grow net kept)) && nat_lt cap (load_of net) then Full else verdict_by net (kept_after net cap kept);
 }
 
--- the id of the next constraint that is added
-abbrev pub next_id : Option ℕ → ℕ
-next_id None = 0
-next_id (Some id) = suc id
-
--- the greater of an id and the known one, if there is one
-abbrev pub greater : Option ℕ → ℕ → ℕ
-greater None id = id
-greater (Some known) id = max known id
-
--- the highest id of the constraints and the known one, if there is any
-abbrev pub highest_of : Option ℕ → List Constraint → Option ℕ
-highest_of known [] = known
-highest_of known (c ∷ cs) = highest_of (Some (greater known c.id)) cs
-
 -- the most births that the log can have had: the start, each accepted edit and each new outcome add at most 2 ^ 24
 abbrev pub most_births : ℕ → Option Outcome → ℕ
 most_births edits None = (2 * edits + 1) * 2 ^ 24
@@ -98,14 +83,14 @@ abbrev pub Consistent : Network → Option Outcome → Type 0
 Consistent net None = Unit {0}
 Consistent net (Some o) = (load : ℕ) → o.verdict ≡ Yes load → IsConsistent net
 
-pub record IsSession (net : NetworkParts) (log : State) (room edits : ℕ) (highest : Option ℕ) (last : Option Outcome) : Type 0 where
+pub record IsSession (net : NetworkParts) (log : State) (room edits next : ℕ) (last : Option Outcome) : Type 0 where
   pub kept : IsKeptLog (the_network net) log
   pub births : log.births ≤ most_births edits last
   pub few_edits : edits ≤ most_edits
   pub fits : length net.constraints ≤ room
   pub most_room : room ≤ most_constraints
   pub spare : room ≤ length net.constraints + net.spare
-  pub below : All (λ c. c.id < next_id highest) net.constraints
-  pub small : next_id highest ≤ 2 ^ 31 + edits
+  pub below : All (λ c. c.id < next) net.constraints
+  pub small : next ≤ 2 ^ 31 + edits
   pub refuted : Refuted (the_network net) log last
   pub consistent : Consistent (the_network net) last

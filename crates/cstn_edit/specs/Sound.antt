@@ -11,7 +11,6 @@ use Rattle.cstn_check.specs.declared.verdicts.Verdict.TheVariants.{Yes, No, Full
 use Rattle.cstn_check.specs.Checks.{IsPrefix}
 use Rattle.cstn_check.specs.Turns.{IsRefutedLast}
 use Rattle.cstn_edit.specs.declared.outcomes.Outcome.{Outcome}
-use Rattle.cstn_edit.specs.Sessions.{next_id}
 use Rattle.cstn_edit.specs.Edits.{Session}
 
 -- no entry is dominated by an earlier one
@@ -29,11 +28,11 @@ abbrev pub IsLastTrue : Network → Option Outcome → Type 0
 IsLastTrue net None = Unit {0}
 IsLastTrue net (Some o) = IsTrueOf net o.verdict
 
--- the network is well-formed, with ids up to the highest; the kept list is a derivation of it from the base bounds, in which
+-- the network is well-formed, with ids below the next one; the kept list is a derivation of it from the base bounds, in which
 -- no entry but perhaps the last refutes and none is dominated by an earlier one; and the last outcome is true
 pub record IsSound (s : Session) : Type 0 where
   pub well_formed : IsWellFormed s.net
-  pub below : All (λ c. c.id < next_id s.highest) s.net.constraints
+  pub below : All (λ c. c.id < s.next) s.net.constraints
   pub derivation : IsDerivation s.net s.kept
   pub based : IsPrefix (bases (count s.net)) s.kept
   pub refuted : IsRefutedLast s.net s.kept

@@ -9,8 +9,7 @@ ghost use Rattle.cstn_check.specs.declared.verdicts.Verdict.{Verdict};
 ghost use Rattle.cstn_check.specs.Growth.{grow, log_of, load_of};
 ghost use Rattle.cstn_check.specs.declared.growth.Grown.{Grown};
 ghost use Rattle.cstn_check.specs.Spent.{AreSpent, fresh_count, most_tries};
-ghost use Rattle.cstn_check.specs.Turns.{IsGrown, IsRefutedLast, LastRefutes};
-ghost use Rattle.cstn_rules.specs.Derivations.{Entry, IsDerivation};
+ghost use Rattle.cstn_check.specs.Turns.{IsGrowable, IsGrown, LastRefutes};
 ghost use Rattle.cstn_edit.specs.Sessions.{IsKeptLog, Refuted, Consistent, kept_list, kept_after, outcome_of, verdict_by};
 
 use crate::outcomes::Outcome;
@@ -73,11 +72,7 @@ fn grow_further(
     settled: bool,
     tries: &mut Tries,
 ) -> Grown
-    requires nodes { log.old.nodes ≡ count (the_network net.now) }
-    requires derivation { IsDerivation (the_network net.now) (the_entries log.old.entries) }
-    requires bases { (more : List Entry) × (bases (count (the_network net.now)) ++ more ≡ the_entries log.old.entries) }
-    requires last { IsRefutedLast (the_network net.now) (the_entries log.old.entries) }
-    requires births { log.old.births < 2 ^ 61 }
+    requires growable { IsGrowable (the_network net.now) log.old }
     requires spent { settled ≡ true → AreSpent (the_network net.now) (the_entries log.old.entries) fresh.now (length log.old.entries) }
     ensures grown { IsGrown (the_network net.now) log.old log.new result }
     ensures tries { tries.old.count ≤ tries.new.count }

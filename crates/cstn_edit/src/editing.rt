@@ -1,6 +1,5 @@
 // Edit sessions: edit lines are answered by a session.
-ghost use Rattle.std.specs.Prelude.{false, ◌≡◌, ◌<◌, ◌≤◌, ◌^◌, ◌++◌, [], ℕ, length, if◌then◌else◌, Some, IfOk, IfSome, OnOk, codes};
-ghost use Rattle.std.specs.Prelude.{decimal};
+ghost use Rattle.std.specs.Prelude.{false, ◌≡◌, ◌<◌, ◌≤◌, ◌^◌, ◌++◌, [], ℕ, length, if◌then◌else◌, Some, Ok, IfOk, IfSome, OnOk, codes};
 ghost use Rattle.std.specs.List.{All};
 ghost use Rattle.std.specs.Option.{option_map};
 ghost use Rattle.cstn_label.specs.Read.{marks};
@@ -10,23 +9,25 @@ ghost use Rattle.cstn_net.specs.Read.{the_network};
 ghost use Rattle.cstn_text.specs.Names.{number_of};
 ghost use Rattle.cstn_refute.specs.Texts.{shown};
 ghost use Rattle.cstn_log.specs.Cuts.{part};
-ghost use Rattle.cstn_edit.specs.Sessions.{next_id, kept_of};
-ghost use Rattle.cstn_edit.specs.Edits.{the_refusal, the_session, add_refusal, remove_refusal, change_refusal, with_added, with_removed, with_changed};
-ghost use Rattle.cstn_edit.specs.Edits.{outcome_at, with_verdict};
+ghost use Rattle.cstn_change.specs.Changes.{adds, removes, revalues};
+ghost use Rattle.cstn_change.specs.ChangeLines.{addition};
+ghost use Rattle.cstn_edit.specs.Sessions.{kept_of};
+ghost use Rattle.cstn_edit.specs.Edits.{the_session, outcome_at, with_verdict};
 ghost use Rattle.cstn_edit.specs.declared.outcomes.Outcome.{Outcome as Answered};
 ghost use Rattle.cstn_reply.specs.Texts.{line};
 ghost use Rattle.cstn_reply.specs.Sessions.{more};
-ghost use Rattle.cstn_edit.specs.Editing.{Editing as State, begun_editing, edit_turn, edit_wants, edit_ending, refused_edit, unknown_name, answered_edit};
-ghost use Rattle.cstn_edit.specs.Editing.{answered_add, answered_check, ending_by, the_editing};
+ghost use Rattle.cstn_edit.specs.Editing.{Editing as State, begun_editing, edit_turn, edit_wants, edit_ending};
+ghost use Rattle.cstn_edit.specs.Editing.{answered_change, answered_check, ending_by, the_editing};
 
-use crate::{EditError, Session};
+use crate::Session;
+use cstn_change::{put_refusal, put_unknown_end};
 use cstn_check::Verdict;
 use cstn_label::{Label, NodeId};
 use cstn_lines::{EditLine, read_edit};
 use cstn_log::Cap;
 use cstn_net::{MAX_CONSTRAINTS, Network};
 use cstn_reply::{Answer, AnswerText, Outcome, Talk};
-use cstn_text::{Names, print_name};
+use cstn_text::Names;
 use std::alloc::{AllocError, Global};
 use std::marker::Model;
 
@@ -85,14 +86,14 @@ impl Editing {
         text: &mut AnswerText,
     ) -> Result<(), AllocError>
         requires empty { text.old ≡ [] }
-        ensures turn { OnOk result (answered_add (the_editing self.old) from.now to.now most (marks label) (number_of self.old.names from.now)
-            (number_of self.old.names to.now) ≡ more text.new (the_editing self.new)) }
+        ensures turn { OnOk result (answered_change (the_editing self.old) (addition self.old.names from.now to.now most (marks label))
+            ≡ more text.new (the_editing self.new)) }
     {
         let Some(x) = self.node(from) else {
-            return put_unknown(self.alloc, text, from);
+            return put_unknown_end(self.alloc, text, from);
         };
         let Some(y) = self.node(to) else {
-            return put_unknown(self.alloc, text, to);
+            return put_unknown_end(self.alloc, text, to);
         };
         self.add_between(x, y, most, label, text);
         Ok(())
@@ -119,9 +120,7 @@ impl Editing {
         requires from { from.0 < count (the_network self.old.session.net) }
         requires to { to.0 < count (the_network self.old.session.net) }
         requires empty { text.old ≡ [] }
-        ensures { answered_edit (the_editing self.old) (add_refusal most_constraints (the_session self.old.session) most (marks label))
-            (codes "added " ++ decimal (next_id self.old.session.highest)) (with_added (the_session self.old.session) from.0 to.0 most (marks label))
-            ≡ more text.new (the_editing self.new) }
+        ensures turn { answered_change (the_editing self.old) (Ok (adds from.0 to.0 most (marks label))) ≡ more text.new (the_editing self.new) }
     {
         match self.session.add(from, to, most, label) {
             Ok(id) => text.put_number(b"added ", id),
@@ -132,8 +131,7 @@ impl Editing {
     // Takes a constraint out.
     fn remove(&mut self, id: u32, text: &mut AnswerText)
         requires empty { text.old ≡ [] }
-        ensures turn { answered_edit (the_editing self.old) (remove_refusal (the_session self.old.session) id) (codes "removed " ++ decimal id)
-            (with_removed (the_session self.old.session) id) ≡ more text.new (the_editing self.new) }
+        ensures turn { answered_change (the_editing self.old) (Ok (removes id)) ≡ more text.new (the_editing self.new) }
     {
         match self.session.remove(id) {
             Ok(()) => text.put_number(b"removed ", id),
@@ -144,8 +142,7 @@ impl Editing {
     // Gives a constraint another value.
     fn change(&mut self, id: u32, most: i32, text: &mut AnswerText)
         requires empty { text.old ≡ [] }
-        ensures turn { answered_edit (the_editing self.old) (change_refusal (the_session self.old.session) id most) (codes "changed " ++ decimal id)
-            (with_changed (the_session self.old.session) id most) ≡ more text.new (the_editing self.new) }
+        ensures turn { answered_change (the_editing self.old) (Ok (revalues id most)) ≡ more text.new (the_editing self.new) }
     {
         match self.session.change(id, most) {
             Ok(()) => text.put_number(b"changed ", id),
@@ -254,30 +251,6 @@ fn has_few_points(network: &Network)
     ensures { count (the_network network.now) ≤ most_time_points }
 {
     let _ = network.count();
-}
-
-// Puts that no time-point has the name.
-fn put_unknown(alloc: Global, text: &mut AnswerText, name: &str) -> Result<(), AllocError>
-    requires empty { text.old ≡ [] }
-    ensures { OnOk result (text.new ≡ line (unknown_name name.now)) }
-{
-    let line = format!(in alloc; "refused S7 {}\n", print_name(alloc, name)?)?;
-    text.extend(line.as_bytes())
-}
-
-// Puts why an edit is refused.
-fn put_refusal(text: &mut AnswerText, error: EditError)
-    requires empty { text.old ≡ [] }
-    ensures { text.new ≡ line (refused_edit (the_refusal error)) }
-{
-    match error {
-        EditError::EditLimit => text.put_word(b"refused S6"),
-        EditError::NoRoom { room } => text.put_number(b"refused S1 ", room),
-        EditError::NoSuch { id } => text.put_number(b"refused S2 ", id),
-        EditError::ValueRange { most } => text.put_value(b"refused S3 ", most),
-        EditError::NotPlain => text.put_word(b"refused S4"),
-        EditError::NotObserved { prop } => text.put_prop(b"refused S5 ", prop),
-    }
 }
 
 // Puts the line `afresh` where the check grew its kept list afresh.

@@ -4,15 +4,12 @@
 
 mod answers;
 mod editing;
-mod errors;
 mod fresh;
-mod labels;
 mod laws;
 mod outcomes;
 mod sessions;
 
 pub use editing::Editing;
-pub use errors::EditError;
 pub use laws::{sessions_stay_sound, verdicts_are_true};
 pub use outcomes::Outcome;
 pub use sessions::Session;

@@ -16,18 +16,19 @@ ghost use Rattle.cstn_check.specs.Growth.{grow, load_of};
 ghost use Rattle.cstn_refute.specs.Refutations.{FitsText, the_steps};
 ghost use Rattle.cstn_check.specs.Spent.{most_tries};
 ghost use Rattle.cstn_edit.specs.Fresh.{fresh_with, ids_of};
-ghost use Rattle.cstn_edit.specs.Sessions.{kept_of, next_id, highest_of, kept_after, outcome_of};
-ghost use Rattle.cstn_edit.specs.Edits.{the_session, refusal_of, begun, add_refusal, remove_refusal, change_refusal, with_added, with_removed, with_changed};
-ghost use Rattle.cstn_edit.specs.Edits.{outcome_at, with_verdict};
+ghost use Rattle.cstn_change.specs.Changes.{adds, removes, revalues, id_above, refusal};
+ghost use Rattle.cstn_change.specs.Read.{refusal_of};
+ghost use Rattle.cstn_change.specs.declared.errors.EditError.{EditError};
+ghost use Rattle.cstn_edit.specs.Sessions.{kept_of, kept_after, outcome_of};
+ghost use Rattle.cstn_edit.specs.Edits.{the_session, edited_of, begun, with_change, outcome_at, with_verdict};
 
 use crate::answers::answer;
-use crate::errors::EditError;
 use crate::fresh::{freshen, is_yes, stays_settled};
-use crate::labels::unobserved;
 use crate::outcomes::Outcome;
-use cstn_label::{Label, NodeId, labels_are_their_marks};
+use cstn_change::{EditError, add_refusal, id_above, remove_refusal, revalue_refusal};
+use cstn_label::{Label, NodeId};
 use cstn_log::{Cap, Log};
-use cstn_net::{Constraint, MAX_EDITS, Network, is_value, network_is_well_formed};
+use cstn_net::{Constraint, Network, network_is_well_formed};
 use cstn_refute::Refutation;
 use cstn_rules::{Tries, derivations_move};
 use std::alloc::{AllocError, Global};
@@ -45,7 +46,7 @@ pub struct Session {
     tries: Tries,
     room: u32,
     edits: u32,
-    highest: Option<u32>,
+    next: u32,
     last: Option<Outcome>,
     // The ids of the constraints that were added or changed since the last verdict, and a vector to pick the next ones into.
     fresh: Vec<u32>,
@@ -67,14 +68,14 @@ impl Model for Session {
       cap = s.log.cap;
       room = s.room;
       edits = s.edits;
-      highest = s.highest;
+      next = s.next;
       last = s.last;
       tries = s.tries.count;
       fresh = s.fresh.items;
       settled = s.settled;
     } };
 
-    ghost invariant = { λ s. IsSession s.net s.log s.room s.edits s.highest s.last
+    ghost invariant = { λ s. IsSession s.net s.log s.room s.edits s.next s.last
         × IsFreshened s.net s.log s.room s.fresh.items s.settled (vec_capacity s.fresh) (vec_capacity s.list) };
 }
 
@@ -90,7 +91,7 @@ impl Session {
         ensures kept { IfOk result (λ s. kept_of s ≡ bases (count (the_network net))) }
         ensures edits { IfOk result (λ s. s.edits ≡ 0) }
         ensures tries { IfOk result (λ s. s.tries ≡ 0) }
-        ensures highest { IfOk result (λ s. s.highest ≡ highest_of None (the_network net).constraints) }
+        ensures next { IfOk result (λ s. s.next ≡ id_above (the_network net).constraints) }
         ensures last { IfOk result (λ s. s.last ≡ None) }
         ensures fresh { IfOk result (λ s. (s.fresh ≡ []) × (s.settled ≡ false)) }
         ensures session { IfOk result (λ s. the_session s ≡ begun (the_network net)) }
@@ -98,7 +99,7 @@ impl Session {
         let mut net = net;
         net.reserve(room)?;
         let log = Log::start(alloc, &net, cap)?;
-        let highest = highest_id(&net);
+        let next = id_above(&net);
         let fresh = Vec::with_capacity(alloc, room as usize)?;
         let list = Vec::with_capacity(alloc, room as usize)?;
         Ok(Session {
@@ -107,7 +108,7 @@ impl Session {
             tries: Tries { count: 0 },
             room,
             edits: 0,
-            highest,
+            next,
             last: None,
             fresh,
             list,
@@ -138,8 +139,8 @@ impl Session {
             → (IsErrOf result (EditError.NotObserved p)
             ↔ ((self.old.edits < most_edits) × (length self.old.net.constraints < self.old.room) × IsValue most × IsPlain (marks label)
             × IsLeastUnobserved (the_network self.old.net) (marks label) p.index)) }
-        ensures refusal { refusal_of result ≡ add_refusal self.old.room (the_session self.old) most (marks label) }
-        ensures id { IfOk result (λ id. id ≡ next_id self.old.highest) }
+        ensures refusal { refusal_of result ≡ refusal self.old.room (edited_of (the_session self.old)) (adds from.0 to.0 most (marks label)) }
+        ensures id { IfOk result (λ id. id ≡ self.old.next) }
         ensures added { IfOk result (λ id. self.new
             ≡ record self.old {
               net = record self.old.net {
@@ -148,32 +149,18 @@ impl Session {
                 spare = self.old.net.spare - 1;
               };
               edits = self.old.edits + 1;
-              highest = Some id;
+              next = self.old.next + 1;
               last = None;
               fresh = self.old.fresh ++ id ∷ [];
             }) }
-        ensures session { IsOk result → the_session self.new ≡ with_added (the_session self.old) from.0 to.0 most (marks label) }
+        ensures session { IsOk result → the_session self.new ≡ with_change (the_session self.old) (adds from.0 to.0 most (marks label)) }
         ensures refused { OnErr result (self.new ≡ self.old) }
     {
-        labels_are_their_marks();
         derivations_move();
-        self.check_limit()?;
-        if self.net.constraints().len() as u32 >= self.room {
-            return Err(EditError::NoRoom { room: self.room });
+        if let Some(error) = add_refusal(&self.net, self.edits, self.room, most, label) {
+            return Err(error);
         }
-        if !is_value(most) {
-            return Err(EditError::ValueRange { most });
-        }
-        if !label.is_plain() {
-            return Err(EditError::NotPlain);
-        }
-        if let Some(prop) = unobserved(&self.net, label) {
-            return Err(EditError::NotObserved { prop });
-        }
-        let id = match self.highest {
-            None => 0,
-            Some(id) => id + 1,
-        };
+        let id = self.next;
         self.net.insert(Constraint {
             id,
             from,
@@ -182,7 +169,7 @@ impl Session {
             label,
         });
         self.fresh.push(id).unwrap();
-        self.highest = Some(id);
+        self.next += 1;
         self.edits += 1;
         self.last = None;
         Ok(id)
@@ -194,7 +181,7 @@ impl Session {
         ensures limit { IsErrOf result EditError.EditLimit ↔ (self.old.edits ≡ most_edits) }
         ensures none { (other : ℕ) → (IsErrOf result (EditError.NoSuch other)
             ↔ ((self.old.edits < most_edits) × All (λ c. c.id ≢ id) self.old.net.constraints × (other ≡ id))) }
-        ensures refusal { refusal_of result ≡ remove_refusal (the_session self.old) id }
+        ensures refusal { refusal_of result ≡ refusal self.old.room (edited_of (the_session self.old)) (removes id) }
         ensures removed { IsOk result → self.new
             ≡ record self.old {
               net = record self.old.net { constraints = without_id id self.old.net.constraints; spare = self.old.net.spare + 1 };
@@ -206,14 +193,14 @@ impl Session {
             } }
         ensures kept { IsOk result → kept_of self.new ≡ dropped (kept_of self.old) id }
         ensures settled { IsOk result → ((self.new.settled ≡ true) ↔ ((self.old.settled ≡ true) × (self.new.entries ≡ self.old.entries))) }
-        ensures session { IsOk result → the_session self.new ≡ with_removed (the_session self.old) id }
+        ensures session { IsOk result → the_session self.new ≡ with_change (the_session self.old) (removes id) }
         ensures refused { OnErr result (self.new ≡ self.old) }
     {
-        self.check_limit()?;
         network_is_well_formed(&self.net);
-        if self.net.take_out(id).is_none() {
-            return Err(EditError::NoSuch { id });
+        if let Some(error) = remove_refusal(&self.net, self.edits, id) {
+            return Err(error);
         }
+        self.net.take_out(id);
         let _at_most = self.log.len();
         let gone = self.log.retract(id);
         freshen(&self.net, &mut self.fresh, &mut self.list, id);
@@ -232,7 +219,7 @@ impl Session {
             ↔ ((self.old.edits < most_edits) × All (λ c. c.id ≢ id) self.old.net.constraints × (other ≡ id))) }
         ensures value { (v : ℤ) → (IsErrOf result (EditError.ValueRange v)
             ↔ ((self.old.edits < most_edits) × (All (λ c. c.id ≢ id) self.old.net.constraints → ⊥) × (IsValue most → ⊥) × (v ≡ most))) }
-        ensures refusal { refusal_of result ≡ change_refusal (the_session self.old) id most }
+        ensures refusal { refusal_of result ≡ refusal self.old.room (edited_of (the_session self.old)) (revalues id most) }
         ensures changed { IsOk result → self.new
             ≡ record self.old {
               net = record self.old.net { constraints = map (with_most id most) self.old.net.constraints };
@@ -244,15 +231,11 @@ impl Session {
             } }
         ensures kept { IsOk result → kept_of self.new ≡ dropped (kept_of self.old) id }
         ensures settled { IsOk result → ((self.new.settled ≡ true) ↔ ((self.old.settled ≡ true) × (self.new.entries ≡ self.old.entries))) }
-        ensures session { IsOk result → the_session self.new ≡ with_changed (the_session self.old) id most }
+        ensures session { IsOk result → the_session self.new ≡ with_change (the_session self.old) (revalues id most) }
         ensures refused { OnErr result (self.new ≡ self.old) }
     {
-        self.check_limit()?;
-        if !has_constraint(&self.net, id) {
-            return Err(EditError::NoSuch { id });
-        }
-        if !is_value(most) {
-            return Err(EditError::ValueRange { most });
+        if let Some(error) = revalue_refusal(&self.net, self.edits, id, most) {
+            return Err(error);
         }
         self.net.set_most(id, most);
         let _at_most = self.log.len();
@@ -354,29 +337,4 @@ impl Session {
     {
         &self.log
     }
-
-    fn check_limit(&self) -> Result<(), EditError>
-        ensures limit { IsErrOf result EditError.EditLimit ↔ (self.now.edits ≡ most_edits) }
-        ensures below { IsOk result ↔ (self.now.edits < most_edits) }
-    {
-        if self.edits >= MAX_EDITS {
-            return Err(EditError::EditLimit);
-        }
-        Ok(())
-    }
-}
-
-// The highest id of the network's constraints, which is the last one's.
-fn highest_id(net: &Network) -> Option<u32>
-    ensures { result ≡ highest_of None (the_network net.now).constraints }
-{
-    let constraints = net.constraints();
-    let last = constraints.len().checked_sub(1)?;
-    Some(constraints[last].id)
-}
-
-fn has_constraint(net: &Network, id: u32) -> bool
-    ensures { (result ≡ false) ↔ All (λ c. c.id ≢ id) net.now.constraints }
-{
-    net.constraints().iter().any(|c| c.id == id)
 }

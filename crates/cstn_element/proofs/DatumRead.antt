@@ -1,22 +1,18 @@
 -- A data element, by its key.
-use Rattle.std.proofs.Common.{◌≡◌, ℕ, List, [], ◌∷◌, refl, ap, sym, ◌∙◌, Ok, Err, Result, Some, None, Option, Bool, true, false, subst, map}
-use Rattle.std.specs.Prelude.{codes, ◌||◌}
+use Rattle.std.proofs.Common.{◌≡◌, ℕ, List, ap, sym, ◌∙◌, Ok, Err, Result, Some, None, Option, Bool, true, false, subst}
+use Rattle.std.specs.Prelude.{codes}
 use Rattle.std.specs.List.{list_any}
 use Rattle.cstn_markup.specs.Bytes.{is_same}
 use Rattle.cstn_markup.specs.Tokens.{Token, raw_with}
 use Rattle.cstn_element.specs.Results.{Refusal, ◌>>=◌, or_refused}
 use Rattle.cstn_element.specs.Results.Refusal.{shape}
-use Rattle.cstn_data.specs.WhiteSpace.{trimmed}
+use Rattle.cstn_element.specs.WhiteSpace.{trimmed}
 use Rattle.cstn_element.specs.Contents.{Tag, Content}
 use Rattle.cstn_element.specs.Elements.{Datum, datum, datum_by, passed, texts, read_option}
 use Rattle.cstn_element.specs.Reads.{ReadsWhole, inside, Fails}
 use Rattle.cstn_element.specs.declared.errors.DocError.{DocError}
 use Rattle.cstn_element.specs.declared.errors.DocError.TheVariants.{Shape}
 use Rattle.cstn_element.proofs.PassedOver.{fails_through}
-
-pub any_map : {A B : Type 0} (p : B → Bool) (f : A → B) (xs : List A) → list_any p (map f xs) ≡ list_any (λ x. p (f x)) xs
-any_map p f [] = refl
-any_map p f (x ∷ xs) = ap (λ b. p (f x) || b) (any_map p f xs)
 
 pub keyed : (used : List (List ℕ)) (taken : List ℕ → Bool) (tag : Tag) (key : List ℕ) (content : Content) (q t : Bool) → Some key ≡ read_option (raw_with (codes "key") tag.attributes)
     → q ≡ list_any (λ u. is_same u key) used → t ≡ taken key → datum used taken tag content ≡ datum_by q t key tag content

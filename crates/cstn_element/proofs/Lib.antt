@@ -1,3 +1,7 @@
+-- Labels, pairs and reactions that were read.
+pub mod LiteralLabels
+pub mod PairTexts
+pub mod ReactionLemmas
 -- One token at a time.
 pub mod Places
 pub mod PassedOver

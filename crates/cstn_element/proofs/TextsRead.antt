@@ -1,11 +1,9 @@
 -- The texts of a data element, joined.
-use Rattle.std.proofs.Common.{◌≡◌, ℕ, suc, Bool, true, List, [], ◌∷◌, ◌++◌, length, ap, sym, ◌∙◌, refl, Ok, Some, arith}
+use Rattle.std.proofs.Common.{◌≡◌, ℕ, Bool, true, List, [], ◌∷◌, ◌++◌, length, ap, sym, ◌∙◌, refl, Ok, Some}
 use Rattle.std.specs.Prelude.{◌==◌}
+use Rattle.cstn_facts.proofs.Booleans.{some_there}
 use Rattle.cstn_markup.specs.Bytes.{resolved}
 use Rattle.cstn_element.specs.Elements.{or_no_bytes, texts_reading}
-
-some_there : (k : ℕ) (none : Bool) (n : ℕ) → none ≡ (n == 0) → none ≡ true → n ≡ suc k → ⊥
-some_there k none n e f g = grind arith
 
 pub text_put : (found raw bytes done : List ℕ) (at : ℕ) → resolved raw ≡ Some bytes → done ≡ found ++ bytes → texts_reading.runs found at raw ≡ Ok done
 text_put found raw bytes done at e d = ap (λ x. Ok (found ++ or_no_bytes x)) e ∙ ap (λ x. Ok x) (sym d)

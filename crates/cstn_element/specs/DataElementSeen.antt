@@ -1,7 +1,7 @@
 -- The data elements that the program has, as those that the definitions speak of.
 use Rattle.std.specs.Prelude.{ℕ, List, map, Option, Some, None}
 use Rattle.std.specs.Borrow.{Bor}
-use Rattle.cstn_data.specs.WhiteSpace.{trimmed}
+use Rattle.cstn_element.specs.WhiteSpace.{trimmed}
 use Rattle.cstn_element.specs.declared.data_element.Datum.{Datum as Lent}
 use Rattle.cstn_element.specs.Elements.{Datum}
 

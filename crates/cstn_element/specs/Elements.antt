@@ -5,7 +5,7 @@ use Rattle.cstn_markup.specs.Bytes.{is_same, is_white, resolved}
 use Rattle.cstn_markup.specs.Tokens.{raw_with}
 use Rattle.cstn_element.specs.Results.{Refusal, ◌>>=◌, or_refused, demand}
 use Rattle.cstn_element.specs.Results.Refusal.{shape}
-use Rattle.cstn_data.specs.WhiteSpace.{trimmed}
+use Rattle.cstn_element.specs.WhiteSpace.{trimmed}
 use Rattle.cstn_element.specs.Contents.{Tag, Content}
 use Rattle.cstn_element.specs.Contents.Content.{done, cut, run, element}
 

@@ -3,7 +3,7 @@
 ghost use Rattle.std.specs.Prelude.{ℕ, List, length, ◌<◌};
 ghost use Rattle.cstn_element.specs.Children.{IsNext, Takes};
 
-use cstn_data::is_blank;
+use crate::is_blank;
 use cstn_markup::{Attributes, Kind, Scanner, Token};
 
 /// The start tag of an element.

@@ -12,7 +12,7 @@ use crate::children::Start;
 use crate::data_element_text::read_element_text;
 use crate::errors::DocError;
 use crate::passing::pass_element;
-use cstn_data::trimmed;
+use crate::white_space::trimmed;
 use cstn_markup::Scanner;
 use std::alloc::Global;
 

@@ -4,6 +4,9 @@ use Rattle.std.specs.List.{Contains}
 use Rattle.std.proofs.lemmas.Bool.{cases_Bool, cond-true, cond-false, true≢false, both_ways}
 use Rattle.std.proofs.lemmas.List.{length-replicate}
 use Rattle.std.proofs.lemmas.List.Kept.{AllPairs-from_increasing}
+use Rattle.cstn_facts.proofs.Options.{cases_option, some_or_none}
+use Rattle.cstn_facts.proofs.Places.{get_or_repeated, some_within}
+use Rattle.cstn_facts.proofs.Members.{contains_or_not, all_from}
 use Rattle.cstn_label.specs.Bounds.{Bound}
 use Rattle.cstn_net.specs.Networks.{Network, IsWellFormed, count}
 use Rattle.cstn_net.specs.Strategies.{Table}
@@ -15,9 +18,7 @@ use Rattle.cstn_lift.specs.Lowered.{lowered}
 use Rattle.cstn_exec.specs.Runs.{Run, start, executed_at, outcome_of, observed_at, known, called}
 use Rattle.cstn_exec.specs.Moves.{moment_refusal, moved, handed, outcome_refusal, NotExecuted, unless_unseen, unless_known}
 use Rattle.cstn_exec.specs.Right.{IsRight}
-use Rattle.cstn_exec.proofs.Options.{cases_option, some_or_none}
-use Rattle.cstn_exec.proofs.Filled.{default_of}
-use Rattle.cstn_exec.proofs.Knowing.{some_within, known_from, known_to}
+use Rattle.cstn_exec.proofs.Knowing.{known_from, known_to}
 use Rattle.cstn_exec.proofs.Moving.{start_right}
 use Rattle.cstn_exec.proofs.Dues.{accepted_right}
 use Rattle.cstn_exec.proofs.Refusals.{seen_right, called_ascend}
@@ -26,16 +27,16 @@ use Rattle.cstn_exec.specs.Sound.{HoldsBy, IsRuledOut, IsGuided}
 use Rattle.cstn_exec.specs.GuideRead.{AreFresh}
 use Rattle.cstn_exec.proofs.Holding.{holds_is, holds_on, ruled_out_on}
 use Rattle.cstn_exec.proofs.GuideNaming.{moved_kept, moved_was, called_waits, called_inside, called_executed, called_unseen, known_more, left_parts, left_from, not_holding}
-use Rattle.cstn_exec.proofs.Denying.{contains_or_not, all_from, all_executed, outcome_kept, outcome_there, fresh_filter, all_right, known_on, left_size, left_kept, left_in, left_not}
+use Rattle.cstn_exec.proofs.Denying.{all_executed, outcome_kept, outcome_there, fresh_filter, all_right, known_on, left_size, left_kept, left_in, left_not}
 
 -- ---- the beginning
 
 module _ (m : Labelled) (bounds : List Bound) (table : Table) (wf : IsWellFormed (lowered m)) (plan : IsEarliest (lowered m) bounds table) where
   nobody : (x : ℕ) → is_left (begun (count m.base)) x ≡ true → ⊥
-  nobody x h = true≢false (sym h ∙ default_of (count m.base) x false)
+  nobody x h = true≢false (sym h ∙ get_or_repeated (count m.base) x false)
 
   nothing : (x t : ℕ) → executed_at (start (count m.base)) x ≡ Some t → ⊥
-  nothing x t e = some_or_none (executed_at (start (count m.base)) x) t e (default_of (count m.base) x None)
+  nothing x t e = some_or_none (executed_at (start (count m.base)) x) t e (get_or_repeated (count m.base) x None)
 
   pub begun_guided : IsGuided m (begun (count m.base))
   begun_guided = record {

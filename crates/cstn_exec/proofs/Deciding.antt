@@ -2,6 +2,8 @@
 use Rattle.std.proofs.Common.{ℕ, zero, suc, ◌≡◌, inl, inr, ◌+◌, ◌<◌, Bool, false, List, Option, Some, None, arith, refl, sym, subst, ◌∙◌}
 use Rattle.std.specs.List.{list_all, range_with_len}
 use Rattle.std.proofs.lemmas.Bool.{cases_Bool, and_cases, true≢false}
+use Rattle.cstn_facts.proofs.Options.{cases_option}
+use Rattle.cstn_facts.proofs.Places.{some_within}
 use Rattle.cstn_label.specs.declared.marks.Mark.{Mark}
 use Rattle.cstn_label.specs.Labels.{Label, Scenario, MarkFits, IsPossible}
 use Rattle.cstn_label.specs.Bounds.{Bound}
@@ -9,7 +11,6 @@ use Rattle.cstn_net.specs.Networks.{Network, IsWellFormed}
 use Rattle.cstn_net.specs.Strategies.{Table, IsKnown}
 use Rattle.cstn_net.proofs.Knowledge.{observer_within}
 use Rattle.cstn_plan.specs.Plans.{IsEarliest}
-use Rattle.cstn_plan.proofs.AskedLemmas.{true_fits}
 use Rattle.cstn_lift.specs.Labelled.{Labelled}
 use Rattle.cstn_lift.specs.Completion.{completed_label}
 use Rattle.cstn_lift.specs.WellFormed.{IsLabelled}
@@ -17,11 +18,11 @@ use Rattle.cstn_lift.specs.Lowered.{lowered}
 use Rattle.cstn_lift.proofs.Twins.{decided_known}
 use Rattle.cstn_exec.specs.Runs.{Run, next, executed_at, outcome_of, known, fits_known, is_possible}
 use Rattle.cstn_exec.specs.Right.{AgreesKnown, IsRight}
-use Rattle.cstn_exec.proofs.Options.{cases_option}
-use Rattle.cstn_exec.proofs.Knowing.{Ready, known_to, awaited_to, possible_from, some_within}
+use Rattle.cstn_exec.proofs.Knowing.{Ready, known_to, awaited_to, possible_from}
 use Rattle.cstn_exec.proofs.Running.{agrees_before, executed_is, waits_from}
 use Rattle.cstn_exec.proofs.Dues.{seen_scenario, seen_agrees}
 use Rattle.cstn_exec.specs.Sound.{IsRuledOut, IsDecided}
+use Rattle.cstn_label.proofs.MarkLemmas.{true_fits}
 
 some_fails : (test : ℕ → Bool) (a n : ℕ) → list_all test (range_with_len a n) ≡ false → (k : ℕ) × (test k ≡ false)
 some_fails test a zero h = absurd (true≢false h)

@@ -1,54 +1,25 @@
 -- Runs in which the outcome false is kept of what some time-points observe, and the marks of time-points that are left out.
-use Rattle.std.proofs.Common.{ℕ, zero, suc, ◌≡◌, ◌⊎◌, inl, inr, ◌<◌, Bool, true, false, List, [], ◌∷◌, ◌++◌, Option, Some, None, length, take, arith, refl, sym, subst, ap, ◌∙◌, get_or-set_other, get_or-set_same}
+use Rattle.std.proofs.Common.{ℕ, suc, ◌≡◌, inl, inr, ◌<◌, Bool, true, false, List, [], ◌∷◌, ◌++◌, Option, Some, None, length, take, arith, refl, sym, subst, ap, ◌∙◌, get_or-set_other, get_or-set_same}
 use Rattle.std.specs.Prelude.{slice_index_or, slice_set}
-use Rattle.std.specs.List.{All, Contains, filter}
+use Rattle.std.specs.List.{Contains, filter}
 use Rattle.std.proofs.lemmas.Bool.{cases_eq}
 use Rattle.std.proofs.lemmas.List.{length-set, length-take, get_or-take}
-use Rattle.std.proofs.lemmas.List.Elements.{All-filter, All-contains, All-contains_itself}
+use Rattle.std.proofs.lemmas.List.Elements.{All-filter, All-contains}
 use Rattle.std.proofs.lemmas.List.Kept.{AllPairs-filter}
+use Rattle.cstn_facts.proofs.Options.{some_or_none}
+use Rattle.cstn_facts.proofs.Members.{contains_head, contains_tail, contains_cases}
+use Rattle.cstn_facts.proofs.Filters.{filter_contained}
+use Rattle.cstn_facts.proofs.Places.{some_within}
 use Rattle.cstn_net.specs.Networks.{Network, IsWellFormed, Observes, count}
 use Rattle.cstn_exec.specs.Runs.{Run, executed_at, outcome_of, observed_at, known}
 use Rattle.cstn_exec.specs.Moves.{outcome_refusal, unless_unseen, unless_known}
 use Rattle.cstn_exec.specs.Right.{IsRight}
-use Rattle.cstn_exec.proofs.Options.{some_or_none}
-use Rattle.cstn_exec.proofs.Knowing.{some_within, known_from, known_to, observed_where}
+use Rattle.cstn_exec.proofs.Knowing.{known_from, known_to, observed_where}
 use Rattle.cstn_exec.proofs.Moving.{handed_right}
 use Rattle.cstn_exec.specs.Guides.{denied, all_denied, with_left}
 use Rattle.cstn_exec.specs.GuideRead.{AreFresh}
 
 -- ---- elements of lists
-
-pub contains_head : (x : ℕ) (xs : List ℕ) → Contains (x ∷ xs) x
-contains_head x xs = (0, omega arith, refl)
-
-pub contains_tail : (y x : ℕ) (xs : List ℕ) → Contains xs x → Contains (y ∷ xs) x
-contains_tail y x xs c = (suc c.0, let h = c.1 in omega arith, c.2)
-
-pub contains_cases : (y x : ℕ) (xs : List ℕ) → Contains (y ∷ xs) x → (y ≡ x) ⊎ Contains xs x
-contains_cases y x xs c = go c.0 c.1 c.2
-  where
-    go : (k : ℕ) → k < length (y ∷ xs) → slice_index_or (y ∷ xs) k x ≡ x → (y ≡ x) ⊎ Contains xs x
-    go zero inside at = inl at
-    go (suc k) inside at = inr (k, omega arith, at)
-
-pub contains_or_not : (xs : List ℕ) (x : ℕ) → Contains xs x ⊎ (Contains xs x → ⊥)
-contains_or_not [] x = inr (λ c. let h = c.1 in omega arith)
-contains_or_not (y ∷ ys) x = elim (cases_eq y x) [
-  | inl same ↦ inl (0, omega arith, same)
-  | inr other ↦ elim (contains_or_not ys x) [
-    | inl there ↦ inl (contains_tail y x ys there)
-    | inr nowhere ↦ inr (λ c. elim (contains_cases y x ys c) [
-      | inl same ↦ other same
-      | inr there ↦ nowhere there
-    ])
-  ]
-]
-
-pub all_from : (P : ℕ → Type 0) (xs : List ℕ) → ((x : ℕ) → Contains xs x → P x) → All P xs
-all_from P xs h = λ k d inside. h (slice_index_or xs k d) (All-contains_itself xs k d inside)
-
-pub filter_contained : (test : ℕ → Bool) (xs : List ℕ) (x : ℕ) → Contains (filter test xs) x → Contains xs x
-filter_contained test xs x c = All-contains (Contains xs) (filter test xs) x (All-filter test (Contains xs) xs (All-contains_itself xs)) c
 
 taken_before : (xs : List ℕ) (k y : ℕ) → Contains (take k xs) y → (j : ℕ) × (j < k) × (slice_index_or xs j y ≡ y)
 taken_before xs k y c =

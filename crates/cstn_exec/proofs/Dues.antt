@@ -1,25 +1,26 @@
 -- The due moment, and the end of a run.
-use Rattle.std.proofs.Common.{ℕ, zero, suc, ◌≡◌, inl, inr, ◌+◌, ◌-◌, ◌<◌, ◌≤◌, Bool, true, false, List, [], ◌∷◌, Option, Some, None, arith, refl, sym, ap, ◌∙◌}
+use Rattle.std.proofs.Common.{ℕ, suc, ◌≡◌, inl, inr, ◌+◌, ◌-◌, ◌<◌, ◌≤◌, Bool, true, false, List, [], ◌∷◌, Option, Some, None, arith, refl, sym, ap, ◌∙◌}
 use Rattle.std.specs.Prelude.{length, is_some, slice_index_or}
 use Rattle.std.proofs.lemmas.Int.{ints}
 use Rattle.std.specs.List.{find, list_all, list_any, range_with_len}
 use Rattle.std.proofs.lemmas.Bool.{cases_lt, cases_Bool, or_cases, cond-true, cond-false, true≢false}
 use Rattle.std.proofs.lemmas.List.Elements.{All-get_or, All-from_get_or}
 use Rattle.std.proofs.lemmas.List.Sums.{AllPass-from_list_all, list_all-from_AllPass}
+use Rattle.cstn_facts.proofs.Options.{cases_option, is_some-true}
+use Rattle.cstn_facts.proofs.Ranges.{IsFirstFrom, find_first, find_none, found, some_passes}
 use Rattle.cstn_label.specs.Labels.{Scenario}
 use Rattle.cstn_label.specs.Bounds.{Bound}
-use Rattle.cstn_net.specs.Networks.{Network, IsWellFormed, count, limit}
+use Rattle.cstn_net.specs.Networks.{Network, IsWellFormed, count}
 use Rattle.cstn_net.specs.Strategies.{Table}
 use Rattle.cstn_plan.specs.Plans.{IsEarliest}
 use Rattle.cstn_exec.specs.Runs.{Run, next, is_done, executed_at, outcome_of, awaited, is_free, has_work, due}
 use Rattle.cstn_exec.specs.Moves.{moment_refusal, moved}
 use Rattle.cstn_exec.specs.Right.{AgreesKnown, IsRight, HasWork, IsDue, IsDone, IsFulfilled}
-use Rattle.cstn_exec.proofs.Options.{cases_option, is_some-true}
-use Rattle.cstn_exec.proofs.Ranges.{IsFirstFrom, find_first, find_none, found, some_passes}
 use Rattle.cstn_exec.proofs.Judging.{IsAccepted, judged}
 use Rattle.cstn_exec.proofs.Knowing.{known_from}
 use Rattle.cstn_exec.proofs.Running.{IsQuiet, awaits_none, awaited_least, executed_is, idle_from, quiet_later}
 use Rattle.cstn_exec.proofs.Moving.{free_called, called_free, free_parts, moved_right}
+use Rattle.cstn_net.proofs.Kept.{limit_upto}
 
 -- ---- a scenario with what was seen
 
@@ -71,10 +72,6 @@ first_work net bounds run = find (has_work net bounds run) (range_with_len (next
 
 abbrev pub IsFirstWork : Network → List Bound → Run → ℕ → Type 0
 IsFirstWork net bounds run = IsFirstFrom (has_work net bounds run) (next run) (moments_left net run)
-
-limit_upto : (net : Network) (x : ℕ) → limit net x ≤ net.deadline
-limit_upto net zero = omega arith
-limit_upto net (suc x) = omega arith
 
 module _ (net : Network) (bounds : List Bound) (table : Table) (wf : IsWellFormed net) (plan : IsEarliest net bounds table)
     (run : Run) (right : IsRight net run) where

@@ -1,10 +1,12 @@
 -- The run after an accepted moment, and which time-points are named and left out at the moment.
-use Rattle.std.proofs.Common.{ℕ, ◌≡◌, ◌⊎◌, inl, inr, ◌+◌, ◌<◌, Bool, true, false, cond, ◌&&◌, not, List, [], ◌∷◌, Some, None, arith, refl, sym, subst, ap, ◌∙◌}
+use Rattle.std.proofs.Common.{ℕ, ◌≡◌, ◌⊎◌, inl, inr, ◌+◌, ◌<◌, Bool, true, false, ◌&&◌, not, List, Some, None, arith, sym, subst, ◌∙◌}
 use Rattle.std.specs.Prelude.{◌↔◌}
 use Rattle.std.specs.List.{Contains, filter, range_with_len}
 use Rattle.std.specs.List.Sorted.{IsStrictlyIncreasing}
-use Rattle.std.proofs.lemmas.Bool.{cases_Bool, cond-true, cond-false, and_parts, and_from, both_ways, false_from_ne_true, not-true, not_from_false}
+use Rattle.std.proofs.lemmas.Bool.{cases_Bool, and_parts, and_from, both_ways, false_from_ne_true, not-true, not_from_false}
 use Rattle.std.proofs.lemmas.List.Kept.{IsStrictlyIncreasing-filter}
+use Rattle.cstn_facts.proofs.Filters.{filter_twice}
+use Rattle.cstn_facts.proofs.Options.{cases_option, some_or_none}
 use Rattle.cstn_label.specs.Bounds.{Bound}
 use Rattle.cstn_net.specs.Networks.{Network, IsWellFormed, Observes, count}
 use Rattle.cstn_net.specs.Strategies.{Table}
@@ -17,7 +19,6 @@ use Rattle.cstn_lift.specs.Lowered.{lowered}
 use Rattle.cstn_exec.specs.Runs.{Run, executed_at, outcome_of, known, is_free, called}
 use Rattle.cstn_exec.specs.Moves.{moment_refusal, moved}
 use Rattle.cstn_exec.specs.Right.{IsRight}
-use Rattle.cstn_exec.proofs.Options.{cases_option, some_or_none}
 use Rattle.cstn_exec.proofs.Knowing.{known_from, known_to, observed_where}
 use Rattle.cstn_exec.proofs.Naming.{executed_passing, executed_failing, from_passing, in_passing}
 use Rattle.cstn_exec.proofs.Moving.{free_parts}
@@ -30,33 +31,17 @@ use Rattle.cstn_exec.proofs.Deciding.{decided}
 
 -- ---- two tests, one after the other
 
-filter_twice : (f g : ℕ → Bool) (xs : List ℕ) → filter g (filter f xs) ≡ filter (λ x. f x && g x) xs
-filter_twice f g [] = refl
-filter_twice f g (y ∷ ys) =
-    let rest = filter_twice f g ys in
-    let both = filter (λ x. f x && g x) ys in
-    elim (cases_Bool (f y)) [
-      | inl h ↦
-          ap (filter g) (cond-true (f y) (y ∷ filter f ys) (filter f ys) h)
-          ∙ ap (λ l. cond (g y) (y ∷ l) l) rest
-          ∙ sym (ap (λ b. cond (b && g y) (y ∷ both) both) h)
-      | inr h ↦
-          ap (filter g) (cond-false (f y) (y ∷ filter f ys) (filter f ys) h)
-          ∙ rest
-          ∙ sym (ap (λ b. cond (b && g y) (y ∷ both) both) h)
-    ]
-
 module _ (f g : ℕ → Bool) (n x : ℕ) where
   twice_parts : Contains (filter g (filter f (range_with_len 0 n))) x → Contains (filter f (range_with_len 0 n)) x × (g x ≡ true)
   twice_parts c =
-      let parts = from_passing (λ y. f y && g y) 0 n x (subst (λ l. Contains l x) (filter_twice f g (range_with_len 0 n)) c) in
+      let parts = from_passing (λ y. f y && g y) 0 n x (subst (λ l. Contains l x) (filter_twice g f (range_with_len 0 n)) c) in
       let both = and_parts (f x) (g x) parts.2 in
       (in_passing f 0 n x parts.0 parts.1 both.0, both.1)
 
   twice_from : Contains (filter f (range_with_len 0 n)) x → g x ≡ true → Contains (filter g (filter f (range_with_len 0 n))) x
   twice_from c h =
       let parts = from_passing f 0 n x c in
-      subst (λ l. Contains l x) (sym (filter_twice f g (range_with_len 0 n)))
+      subst (λ l. Contains l x) (sym (filter_twice g f (range_with_len 0 n)))
       (in_passing (λ y. f y && g y) 0 n x parts.0 parts.1 (and_from (f x) (g x) parts.2 h))
 
 -- ---- the run after a moment

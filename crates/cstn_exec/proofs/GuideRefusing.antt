@@ -9,7 +9,7 @@ use Rattle.cstn_exec.specs.Runs.{executed_at, outcome_of, observed_at}
 use Rattle.cstn_exec.specs.Moves.{NotExecuted, outcome_refusal, unless_unseen, unless_known}
 use Rattle.cstn_exec.specs.Guides.{Guided, is_left, named_at, is_among, is_denied, see_refusal}
 
-known_already : (p : ℕ) (o : Option Bool) → unless_known p o ≡ Some (NotExecuted p) → ⊥
+pub known_already : (p : ℕ) (o : Option Bool) → unless_known p o ≡ Some (NotExecuted p) → ⊥
 known_already p None e = let f : ⊥ = cc in f
 known_already p (Some v) e = let f : ⊥ = cc in f
 

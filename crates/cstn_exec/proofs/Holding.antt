@@ -3,16 +3,15 @@ use Rattle.std.proofs.Common.{ℕ, ◌≡◌, inl, inr, ◌<◌, ◌≤◌, Bool
 use Rattle.std.specs.Prelude.{◌↔◌}
 use Rattle.std.specs.List.{list_all, range_with_len}
 use Rattle.std.proofs.lemmas.Bool.{cases_lt, false≢true, both_ways, false_from_ne_true}
+use Rattle.cstn_facts.proofs.Ranges.{each_passes, all_pass}
 use Rattle.cstn_label.specs.declared.marks.Mark.{Mark}
 use Rattle.cstn_label.specs.declared.marks.Mark.TheVariants.{Absent, Yes, No, Unknown}
 use Rattle.cstn_label.specs.Labels.{Label, MarkFits}
-use Rattle.cstn_label.proofs.MarkLemmas.{absent_or_not, fits_absent}
-use Rattle.cstn_plan.proofs.AskedLemmas.{fits_true, true_fits}
+use Rattle.cstn_label.proofs.MarkLemmas.{absent_or_not, fits_absent, fits_true, true_fits}
 use Rattle.cstn_lift.specs.Labelled.{Labelled}
 use Rattle.cstn_lift.specs.Completion.{completed_label}
 use Rattle.cstn_lift.specs.WellFormed.{IsLabelled}
 use Rattle.cstn_lift.proofs.FullLemmas.{full_on}
-use Rattle.cstn_exec.proofs.Ranges.{each_passes, all_pass}
 use Rattle.cstn_exec.specs.Guides.{fits_surely, holds_by}
 use Rattle.cstn_exec.specs.Sound.{HoldsBy, IsRuledOut}
 

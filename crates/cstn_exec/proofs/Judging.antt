@@ -1,11 +1,11 @@
 -- How a moment is judged.
 use Rattle.std.proofs.Common.{ℕ, ◌≡◌, inl, inr, ◌+◌, ◌<◌, ◌≤◌, true, false, List, Option, Some, None, ltb, refl, arith, sym, subst, ap, ◌∙◌}
 use Rattle.std.proofs.lemmas.Bool.{cases_Bool, cases_lt, cond-true, cond-false, true≢false, lt-ltb, le-ltb}
+use Rattle.cstn_facts.proofs.Options.{some_or_none}
 use Rattle.cstn_label.specs.Bounds.{Bound}
 use Rattle.cstn_net.specs.Networks.{Network}
 use Rattle.cstn_exec.specs.Runs.{Run, after, next, is_done, awaited, due}
 use Rattle.cstn_exec.specs.Moves.{Refusal, Done, Past, Late, Awaiting, NotExecuted, Known, moment_refusal, unless_past, unless_awaiting, unless_late}
-use Rattle.cstn_exec.proofs.Options.{some_or_none}
 
 -- what an accepted moment tells
 pub record IsAccepted (net : Network) (bounds : List Bound) (run : Run) (t : ℕ) : Type 0 where

@@ -1,32 +1,20 @@
 -- What is ready, known, awaited and possible in a run.
-use Rattle.std.proofs.Common.{ℕ, ◌≡◌, inl, inr, ◌+◌, ◌<◌, ◌≤◌, Bool, true, false, cond, List, Option, Some, None, arith, refl, sym, subst, ap, ◌∙◌}
+use Rattle.std.proofs.Common.{ℕ, ◌≡◌, inl, inr, ◌+◌, ◌<◌, ◌≤◌, Bool, true, false, cond, Option, Some, None, arith, refl, sym, subst, ap, ◌∙◌}
 use Rattle.std.specs.Prelude.{slice_index_or, length, is_none, nat_lt, if◌then◌else◌}
 use Rattle.std.specs.List.{position}
 use Rattle.std.specs.Option.{option_and_then, option_map}
-use Rattle.std.proofs.lemmas.Bool.{cases_Bool, cases_lt, cond-true, cond-false, and_parts, and_from, eqb-true, eq-eqb, lt-ltb, ltb-true, false_from_ne_true, false≢true}
-use Rattle.std.proofs.lemmas.List.{get_or_past}
+use Rattle.std.proofs.lemmas.Bool.{cases_Bool, cond-true, cond-false, and_parts, and_from, lt-ltb, ltb-true, false_from_ne_true, false≢true}
 use Rattle.std.proofs.lemmas.List.Quantifiers.{position-Some}
 use Rattle.std.proofs.lemmas.List.Sums.{position_or_len_is}
+use Rattle.cstn_facts.proofs.Options.{is_none-true}
+use Rattle.cstn_facts.proofs.Ranges.{each_passes, all_pass}
+use Rattle.cstn_facts.proofs.Places.{some_within}
 use Rattle.cstn_label.specs.Labels.{Label, MarkFits}
 use Rattle.cstn_net.specs.Networks.{Network, IsNetwork, Observes, is_prop}
 use Rattle.cstn_net.proofs.Knowledge.{observer_within}
-use Rattle.cstn_plan.proofs.AskedLemmas.{fits_true, true_fits}
 use Rattle.cstn_exec.specs.Runs.{Run, executed_at, outcome_of, observed_at, is_before, is_ready, known, is_awaited, fits_known, is_possible}
-use Rattle.cstn_exec.proofs.Options.{is_none-true}
-use Rattle.cstn_exec.proofs.Ranges.{each_passes, all_pass}
-
-pub some_within : {X : Type 0} (xs : List (Option X)) (k : ℕ) (x : X) → slice_index_or xs k None ≡ Some x → k < length xs
-some_within xs k x e = elim (cases_lt k (length xs)) [
-  | inl h ↦ h
-  | inr past ↦ let none : None ≡ Some x = sym (get_or_past xs k None past) ∙ e in let f : ⊥ = cc in absurd f
-]
-
-prop_true : (p : ℕ) (o : Option ℕ) → is_prop p o ≡ true → o ≡ Some p
-prop_true p None h = absurd (false≢true h)
-prop_true p (Some q) h = ap (λ r. Some r) (eqb-true q p h)
-
-true_prop : (p : ℕ) (o : Option ℕ) → o ≡ Some p → is_prop p o ≡ true
-true_prop p o e = subst (λ o. is_prop p o ≡ true) (sym e) (eq-eqb p p refl)
+use Rattle.cstn_label.proofs.MarkLemmas.{fits_true, true_fits}
+use Rattle.cstn_net.proofs.Observed.{prop_true, true_prop}
 
 module _ (net : Network) (wf : IsNetwork net) where
   pub observer_at : (x p : ℕ) → Observes net x p → position (is_prop p) net.observes ≡ Some x

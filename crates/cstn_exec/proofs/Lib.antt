@@ -1,7 +1,5 @@
--- Lists, options and ranges of numbers.
-pub mod Options
+-- Lists, and the numbers of a range.
 pub mod Filled
-pub mod Ranges
 pub mod Naming
 -- What is known in a run, and which moments it asks for.
 pub mod Asking

@@ -3,6 +3,8 @@ use Rattle.std.proofs.Common.{ℕ, ◌≡◌, ◌≢◌, ◌⊎◌, inl, inr, �
 use Rattle.std.specs.Prelude.{is_none, nat_lt}
 use Rattle.std.proofs.lemmas.Bool.{cases_lt, cases_eq, cases_Bool, and_parts, and_from, ltb-false, not-true, le-ltb, not_from_false}
 use Rattle.std.proofs.lemmas.List.{length-replicate, length-set}
+use Rattle.cstn_facts.proofs.Options.{is_none-true, some_or_none}
+use Rattle.cstn_facts.proofs.Places.{get_or_repeated, some_within}
 use Rattle.cstn_label.specs.Labels.{Scenario}
 use Rattle.cstn_label.specs.Bounds.{Bound}
 use Rattle.cstn_net.specs.Networks.{Network, IsWellFormed, count}
@@ -13,9 +15,7 @@ use Rattle.cstn_plan.specs.Plans.{IsEarliest}
 use Rattle.cstn_exec.specs.Runs.{Run, start, next, executed_at, outcome_of, observed_at, is_awaited, earliest, is_free, called}
 use Rattle.cstn_exec.specs.Moves.{executed, moved, handed}
 use Rattle.cstn_exec.specs.Right.{AgreesKnown, IsRight, IsCalled}
-use Rattle.cstn_exec.proofs.Knowing.{Ready, some_within, known_from, known_to, awaited_from, awaited_to, observed_where, observed_from}
-use Rattle.cstn_exec.proofs.Options.{is_none-true, some_or_none}
-use Rattle.cstn_exec.proofs.Filled.{default_of}
+use Rattle.cstn_exec.proofs.Knowing.{Ready, known_from, known_to, awaited_from, awaited_to, observed_where, observed_from}
 use Rattle.cstn_exec.proofs.Naming.{executed_size, executed_passing, executed_failing}
 use Rattle.cstn_exec.proofs.Running.{IsQuiet, agrees_before, at_moment, held_unless_free}
 
@@ -24,13 +24,13 @@ pub start_right : (net : Network) (bounds : List Bound) (table : Table) → IsWe
 start_right net bounds table wf plan = record {
   moments = length-replicate {A = Option ℕ} (count net) None;
   outcomes = length-replicate {A = Option Bool} 52 None;
-  seen = λ p v e. absurd (some_or_none (outcome_of (start (count net)) p) v e (default_of 52 p None));
+  seen = λ p v e. absurd (some_or_none (outcome_of (start (count net)) p) v e (get_or_repeated 52 p None));
   none_awaited = λ p a.
       let ready = (awaited_from net wf.network (start (count net)) 0 p a).0 in
       let soon = ready.passed in
       absurd (omega arith);
-  early = λ x m e. absurd (some_or_none (executed_at (start (count net)) x) m e (default_of (count net) x None));
-  executed = λ s x m agrees e. absurd (some_or_none (executed_at (start (count net)) x) m e (default_of (count net) x None));
+  early = λ x m e. absurd (some_or_none (executed_at (start (count net)) x) m e (get_or_repeated (count net) x None));
+  executed = λ s x m agrees e. absurd (some_or_none (executed_at (start (count net)) x) m e (get_or_repeated (count net) x None));
   waiting = λ s x agrees here e. (table s x, omega arith, plan.least s x here);
 }
 

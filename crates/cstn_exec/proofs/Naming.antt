@@ -1,13 +1,12 @@
 -- The numbers of a range that pass a test, the moments once these are executed, and which time-points are called.
-use Rattle.std.proofs.Common.{ℕ, zero, suc, ◌≡◌, ◌≢◌, inl, inr, ◌+◌, ◌<◌, ◌≤◌, Bool, true, false, List, [], ◌∷◌, Option, Some, None, length, map, take, cond, ◌++◌, ◌&&◌, not, arith, refl, sym, subst, ap, ◌∙◌, get_or-set_other, get_or-set_same}
+use Rattle.std.proofs.Common.{ℕ, zero, suc, ◌≡◌, ◌≢◌, inl, inr, ◌+◌, ◌<◌, ◌≤◌, Bool, true, false, List, [], ◌∷◌, Option, Some, None, length, map, take, ◌++◌, ◌&&◌, not, arith, refl, sym, subst, ap, ◌∙◌, get_or-set_other, get_or-set_same}
 use Rattle.std.specs.Prelude.{is_none, nat_lt, slice_index_or, slice_set}
 use Rattle.std.specs.List.{All, Contains, filter, range_with_len}
-use Rattle.std.specs.List.Sorted.{IsStrictlyIncreasing}
 use Rattle.std.proofs.lemmas.Bool.{cases_Bool, cases_eq, cond-true, cond-false, both_ways}
-use Rattle.std.proofs.lemmas.List.{length-set, length-map, map-append, map-id, append-nil, get_or-map, take_more}
+use Rattle.std.proofs.lemmas.List.{length-set, length-map, map-append, get_or-map, take_more}
 use Rattle.std.proofs.lemmas.List.Elements.{filter_passes, All-filter, All-contains}
-use Rattle.std.proofs.lemmas.List.FromFn.{get_or-range_with_len, length-range_with_len, filter_of_map_range_with_len_more}
-use Rattle.std.proofs.lemmas.List.Kept.{IsStrictlyIncreasing-filter}
+use Rattle.cstn_facts.proofs.Members.{contains_tail}
+use Rattle.cstn_facts.proofs.Ranges.{in_range, passing_same}
 use Rattle.cstn_label.specs.declared.nodes.NodeId.{NodeId}
 use Rattle.cstn_label.specs.Bounds.{Bound}
 use Rattle.cstn_net.specs.Limits.{most_time_points}
@@ -24,12 +23,6 @@ passing_yes test a n h = cond-true (test a) (a ∷ passing test (a + 1) n) (pass
 pub passing_no : (test : ℕ → Bool) (a n : ℕ) → test a ≡ false → passing test a (suc n) ≡ passing test (a + 1) n
 passing_no test a n h = cond-false (test a) (a ∷ passing test (a + 1) n) (passing test (a + 1) n) h
 
-pub in_range : (a n : ℕ) → All (λ x. (a ≤ x) × (x < a + n)) (range_with_len a n)
-in_range a n = λ k d inside.
-    let size = length-range_with_len a n in
-    let at = get_or-range_with_len a n k d (omega arith) in
-    (omega arith, omega arith)
-
 -- each number of `passing` passes, and is in the range
 pub from_passing : (test : ℕ → Bool) (a n x : ℕ) → Contains (passing test a n) x → (a ≤ x) × (x < a + n) × (test x ≡ true)
 from_passing test a n x c =
@@ -37,61 +30,20 @@ from_passing test a n x c =
     (All-filter test (λ x. (a ≤ x) × (x < a + n)) (range_with_len a n) (in_range a n)) c in
     (within.0, within.1, All-contains (λ x. test x ≡ true) (passing test a n) x (filter_passes test (range_with_len a n)) c)
 
-contains_later : (y x : ℕ) (xs : List ℕ) → Contains xs x → Contains (y ∷ xs) x
-contains_later y x xs c = (suc c.0, let h = c.1 in omega arith, c.2)
-
 pub in_passing : (test : ℕ → Bool) (a n x : ℕ) → a ≤ x → x < a + n → test x ≡ true → Contains (passing test a n) x
 in_passing test a zero x from upto h = absurd (omega arith)
 in_passing test a (suc n) x from upto h = elim (cases_Bool (test a)) [
   | inl passes ↦
       subst (λ l. Contains l x) (sym (passing_yes test a n passes)) (elim (cases_eq x a) [
         | inl same ↦ (0, omega arith, sym same)
-        | inr other ↦ contains_later a x (passing test (a + 1) n) (in_passing test (a + 1) n x (omega arith) (omega arith) h)
+        | inr other ↦ contains_tail a x (passing test (a + 1) n) (in_passing test (a + 1) n x (omega arith) (omega arith) h)
       ])
   | inr fails ↦
       let other : x ≢ a = λ same. both_ways (test a) fails (subst (λ y. test y ≡ true) same h) in
       subst (λ l. Contains l x) (sym (passing_no test a n fails)) (in_passing test (a + 1) n x (omega arith) (omega arith) h)
 ]
 
-range_ascends : (a n : ℕ) → IsStrictlyIncreasing (range_with_len a n)
-range_ascends a n = λ k inside.
-    let size = length-range_with_len a n in
-    let one = get_or-range_with_len a n k 0 (omega arith) in
-    let other = get_or-range_with_len a n (k + 1) 0 (omega arith) in
-    omega arith
-
-pub passing_ascends : (test : ℕ → Bool) (a n : ℕ) → IsStrictlyIncreasing (passing test a n)
-passing_ascends test a n = IsStrictlyIncreasing-filter test (range_with_len a n) (range_ascends a n)
-
-pub passing_none : (test : ℕ → Bool) (a n : ℕ) → ((k : ℕ) → a ≤ k → k < a + n → test k ≡ false) → filter test (range_with_len a n) ≡ []
-passing_none test a zero fails = refl
-passing_none test a (suc n) fails =
-    cond-false (test a) (a ∷ filter test (range_with_len (a + 1) n)) (filter test (range_with_len (a + 1) n)) (fails a (omega arith) (omega arith))
-    ∙ passing_none test (a + 1) n (λ k from upto. fails k (omega arith) (omega arith))
-
 -- ---- one more number
-
-filter_more : (test : ℕ → Bool) (n : ℕ) →
-    filter test (range_with_len 0 (n + 1)) ≡ filter test (range_with_len 0 n) ++ cond (test n) (n ∷ []) []
-filter_more test n =
-    ap (filter test) (sym (map-id (range_with_len 0 (n + 1))))
-    ∙ filter_of_map_range_with_len_more test (λ k. k) 0 n n (omega arith)
-    ∙ ap (λ l. filter test l ++ cond (test n) (n ∷ []) []) (map-id (range_with_len 0 n))
-
-pub filter_with : (test : ℕ → Bool) (n : ℕ) → test n ≡ true → filter test (range_with_len 0 (n + 1)) ≡ filter test (range_with_len 0 n) ++ n ∷ []
-filter_with test n h = filter_more test n ∙ ap (λ l. filter test (range_with_len 0 n) ++ l) (cond-true (test n) (n ∷ []) [] h)
-
-pub filter_without : (test : ℕ → Bool) (n : ℕ) → test n ≡ false → filter test (range_with_len 0 (n + 1)) ≡ filter test (range_with_len 0 n)
-filter_without test n h =
-    filter_more test n ∙ ap (λ l. filter test (range_with_len 0 n) ++ l) (cond-false (test n) (n ∷ []) [] h) ∙ append-nil (filter test (range_with_len 0 n))
-
-pub filter_same : (f g : ℕ → Bool) (a n : ℕ) → ((k : ℕ) → a ≤ k → k < a + n → f k ≡ g k) → filter f (range_with_len a n) ≡ filter g (range_with_len a n)
-filter_same f g a zero same = refl
-filter_same f g a (suc n) same =
-    let more = filter_same f g (a + 1) n (λ k from upto. same k (omega arith) (omega arith)) in
-    let here = same a (omega arith) (omega arith) in
-    ap (λ b. cond b (a ∷ filter f (range_with_len (a + 1) n)) (filter f (range_with_len (a + 1) n))) here
-    ∙ ap (λ l. cond (g a) (a ∷ l) l) more
 
 -- ---- the moments after the time-points of the list are executed
 
@@ -159,7 +111,7 @@ pub called_by : (net : Network) (bounds : List Bound) (run : Run) (t : ℕ) (aft
     filter (is_free_by run.moments after t) (range_with_len 0 (length run.moments)) ≡ called net bounds run t
 called_by net bounds run t after few size same =
     ap (λ n. filter (is_free_by run.moments after t) (range_with_len 0 n)) size
-    ∙ filter_same (is_free_by run.moments after t) (is_free net bounds run t) 0 (count net)
+    ∙ passing_same (is_free_by run.moments after t) (is_free net bounds run t) 0 (count net)
     (λ x from inside. ap (λ m. is_none (executed_at run x) && not (nat_lt t m)) (same x (omega arith)))
 
 -- each named number is one of a time-point

@@ -4,6 +4,8 @@ use Rattle.std.specs.Prelude.{◌↔◌, is_some}
 use Rattle.std.specs.List.{Contains, list_any, range_with_len}
 use Rattle.std.specs.List.Sorted.{IsStrictlyIncreasing}
 use Rattle.std.proofs.lemmas.Bool.{or_parts}
+use Rattle.cstn_facts.proofs.Options.{cases_option, is_some-false}
+use Rattle.cstn_facts.proofs.Ranges.{each_fails, passing_ascends, passing_none}
 use Rattle.cstn_label.specs.Bounds.{Bound}
 use Rattle.cstn_net.specs.Networks.{Network, IsWellFormed, count}
 use Rattle.cstn_net.specs.Strategies.{Table}
@@ -11,10 +13,8 @@ use Rattle.cstn_plan.specs.Plans.{IsEarliest}
 use Rattle.cstn_exec.specs.Runs.{Run, observed_at, outcome_of, awaited, is_free, called, due}
 use Rattle.cstn_exec.specs.Moves.{Done, Past, Late, Awaiting, moment_refusal, outcome_refusal, unless_unseen, unless_known, handed}
 use Rattle.cstn_exec.specs.Right.{IsRight, IsCalled, IsDue, IsDone, IsBetween, IsFirstAwaited}
-use Rattle.cstn_exec.proofs.Options.{cases_option, is_some-false}
-use Rattle.cstn_exec.proofs.Ranges.{each_fails}
 use Rattle.cstn_exec.proofs.Judging.{judged, not_refused, refusal_done}
-use Rattle.cstn_exec.proofs.Naming.{from_passing, in_passing, passing_ascends, passing_none}
+use Rattle.cstn_exec.proofs.Naming.{from_passing, in_passing}
 use Rattle.cstn_exec.proofs.Running.{awaits_none, awaited_least}
 use Rattle.cstn_exec.proofs.Moving.{handed_right, free_called, called_free}
 use Rattle.cstn_exec.proofs.Dues.{seen_scenario, seen_agrees, done_from, done_to, due_first, due_is_due, accepted_quiet}
@@ -57,7 +57,7 @@ called_exactly net bounds table run t wf plan right none x =
     )
 
 pub called_ascend : (net : Network) (bounds : List Bound) (run : Run) (t : ℕ) → IsStrictlyIncreasing (called net bounds run t)
-called_ascend net bounds run t = passing_ascends (is_free net bounds run t) 0 (count net)
+called_ascend net bounds run t = passing_ascends (is_free net bounds run t) (count net)
 
 -- ---- moments
 

@@ -4,6 +4,9 @@ use Rattle.std.specs.Prelude.{is_none, is_some, nat_lt, ◌==◌}
 use Rattle.std.specs.List.{list_any, range_with_len}
 use Rattle.std.proofs.lemmas.Int.{ints}
 use Rattle.std.proofs.lemmas.Bool.{cases_lt, or_parts, and_cases, and_parts, and_from, eqb-true, eq-eqb, true≢false, both_ways, ltb-true, not-false}
+use Rattle.cstn_facts.proofs.Options.{cases_option, is_some-false}
+use Rattle.cstn_facts.proofs.Ranges.{find_first, find_none, each_fails}
+use Rattle.cstn_facts.proofs.Places.{some_within}
 use Rattle.cstn_label.specs.Labels.{Scenario, MarkFits}
 use Rattle.cstn_label.specs.Bounds.{Bound}
 use Rattle.cstn_net.specs.Networks.{Network, IsNetwork, IsWellFormed, count}
@@ -14,9 +17,7 @@ use Rattle.cstn_plan.specs.Plans.{IsEarliest}
 use Rattle.cstn_plan.proofs.AskedLemmas.{greatest_upper, greatest_attained}
 use Rattle.cstn_exec.specs.Runs.{Run, next, executed_at, outcome_of, known, is_awaited, awaited, is_possible, earliest, is_free, has_work}
 use Rattle.cstn_exec.specs.Right.{AgreesKnown, IsRight}
-use Rattle.cstn_exec.proofs.Options.{cases_option, is_some-false}
-use Rattle.cstn_exec.proofs.Ranges.{find_first, find_none, each_fails}
-use Rattle.cstn_exec.proofs.Knowing.{Ready, some_within, known_from, known_to, known_later, awaited_from, awaited_to, possible_from, possible_to}
+use Rattle.cstn_exec.proofs.Knowing.{Ready, known_from, known_to, known_later, awaited_from, awaited_to, possible_from, possible_to}
 
 -- a scenario that agrees with what is known agrees with what was known before
 pub agrees_before : (net : Network) (run : Run) (u w : ℕ) (s : Scenario) → IsNetwork net → u ≤ w → AgreesKnown net run w s → AgreesKnown net run u s

@@ -4,6 +4,8 @@ use Rattle.std.specs.Prelude.{◌==◌, slice_index, is_some, is_none, slice_ind
 use Rattle.std.specs.List.{find, list_any, range_with_len}
 use Rattle.std.proofs.Math.Path.{fun_ext}
 use Rattle.std.proofs.lemmas.Bool.{cases_Bool, cases_lt, cases_eq, cond-false, true≢false, or_from, or_left, or_right, both_ways, false_from_ne_true}
+use Rattle.cstn_facts.proofs.Options.{is_none-true}
+use Rattle.cstn_facts.proofs.Ranges.{found, not_found, none_passes, passing_at}
 use Rattle.cstn_label.specs.Bounds.{Bound}
 use Rattle.cstn_net.specs.Networks.{Network, IsWellFormed, count}
 use Rattle.cstn_net.specs.Strategies.{Table}
@@ -11,8 +13,6 @@ use Rattle.cstn_plan.specs.Asked.{greatest}
 use Rattle.cstn_plan.specs.Plans.{IsEarliest}
 use Rattle.cstn_exec.specs.Runs.{Run, next, is_done, executed_at, outcome_of, is_ready, is_awaited, awaited, is_possible, earliest, is_free, has_work, due}
 use Rattle.cstn_exec.specs.Right.{IsRight}
-use Rattle.cstn_exec.proofs.Options.{is_none-true}
-use Rattle.cstn_exec.proofs.Ranges.{found, not_found, none_passes, passing_at}
 use Rattle.cstn_exec.proofs.Knowing.{Ready, ready_from, ready_to}
 use Rattle.cstn_exec.proofs.Running.{IsQuiet}
 use Rattle.cstn_exec.proofs.Moving.{free_parts, free_from}

@@ -1,10 +1,8 @@
 -- Going through a list of time-points, some of which are named and the rest left out.
-use Rattle.std.proofs.Common.{ℕ, zero, suc, ◌≡◌, ◌+◌, ◌<◌, ◌≤◌, Bool, true, false, cond, List, [], ◌∷◌, ◌++◌, length, map, take, arith, refl, sym, ap, ◌∙◌}
+use Rattle.std.proofs.Common.{ℕ, zero, suc, ◌≡◌, ◌<◌, ◌≤◌, List, [], ◌∷◌, length, map, arith, refl, sym, ap, ◌∙◌}
 use Rattle.std.specs.Prelude.{slice_index_or}
-use Rattle.std.specs.List.{AllPairs, filter}
-use Rattle.std.proofs.lemmas.Bool.{cond-true, cond-false}
-use Rattle.std.proofs.lemmas.List.{append-nil, get_or-map, length-map, take_more}
-use Rattle.std.proofs.lemmas.List.Elements.{filter-append}
+use Rattle.std.specs.List.{AllPairs}
+use Rattle.std.proofs.lemmas.List.{get_or-map, length-map}
 use Rattle.cstn_label.specs.declared.nodes.NodeId.{NodeId}
 
 pub any_default : (xs : List ℕ) (k d e : ℕ) → k < length xs → slice_index_or xs k d ≡ slice_index_or xs k e
@@ -31,19 +29,3 @@ place_below xs rises (suc k) d inside =
     let before = place_below xs rises k d (omega arith) in
     let step = rises k (suc k) d (omega arith) inside in
     omega arith
-
-filter_more : (test : ℕ → Bool) (xs : List ℕ) (k x : ℕ) → k < length xs → slice_index_or xs k x ≡ x →
-    filter test (take (k + 1) xs) ≡ filter test (take k xs) ++ cond (test x) (x ∷ []) []
-filter_more test xs k x inside at =
-    ap (filter test) (take_more xs k x inside ∙ ap (λ y. take k xs ++ y ∷ []) at) ∙ filter-append test (take k xs) (x ∷ [])
-
-pub filter_with : (test : ℕ → Bool) (xs : List ℕ) (k x : ℕ) → k < length xs → slice_index_or xs k x ≡ x → test x ≡ true →
-    filter test (take (k + 1) xs) ≡ filter test (take k xs) ++ x ∷ []
-filter_with test xs k x inside at h =
-    filter_more test xs k x inside at ∙ ap (λ l. filter test (take k xs) ++ l) (cond-true (test x) (x ∷ []) [] h)
-
-pub filter_without : (test : ℕ → Bool) (xs : List ℕ) (k x : ℕ) → k < length xs → slice_index_or xs k x ≡ x → test x ≡ false →
-    filter test (take (k + 1) xs) ≡ filter test (take k xs)
-filter_without test xs k x inside at h =
-    filter_more test xs k x inside at ∙ ap (λ l. filter test (take k xs) ++ l) (cond-false (test x) (x ∷ []) [] h)
-    ∙ append-nil (filter test (take k xs))

@@ -1,8 +1,10 @@
 -- A named time-point is executed in every scenario that agrees with what was handed in, at its least moment there.
-use Rattle.std.proofs.Common.{ℕ, zero, suc, ◌≡◌, inl, inr, ◌+◌, ◌<◌, Bool, true, false, List, Option, Some, None, arith, sym, subst, ap, ◌∙◌}
+use Rattle.std.proofs.Common.{ℕ, zero, suc, ◌≡◌, inl, inr, ◌+◌, ◌<◌, Bool, true, false, List, Some, None, arith, sym, subst, ap, ◌∙◌}
 use Rattle.std.specs.Prelude.{if◌then◌else◌}
 use Rattle.std.proofs.lemmas.Int.{ints}
 use Rattle.std.proofs.lemmas.Bool.{cases_Bool, cond-true, cond-false, both_ways}
+use Rattle.cstn_facts.proofs.Options.{cases_option, some_or_none, one_value}
+use Rattle.cstn_facts.proofs.Places.{some_within}
 use Rattle.cstn_label.specs.Bounds.{Bound}
 use Rattle.cstn_label.specs.Labels.{Scenario, IsMarked, MarkFits}
 use Rattle.cstn_label.proofs.MarkLemmas.{absent_or_not, fits_absent, mark_fits_within}
@@ -22,19 +24,12 @@ use Rattle.cstn_lift.proofs.Observed.{one_least}
 use Rattle.cstn_lift.proofs.Twins.{twin_least, defaulted_least}
 use Rattle.cstn_exec.specs.Runs.{next, executed_at, outcome_of, known}
 use Rattle.cstn_exec.specs.Right.{AgreesKnown, IsDone}
-use Rattle.cstn_exec.proofs.Options.{cases_option, some_or_none}
-use Rattle.cstn_exec.proofs.Knowing.{some_within, known_from, known_later}
+use Rattle.cstn_exec.proofs.Knowing.{known_from, known_later}
 use Rattle.cstn_exec.specs.Guides.{Guided, is_left, named_at, is_among, is_denied}
 use Rattle.cstn_exec.specs.Sound.{IsGuided, AgreesHanded, IsOnTime, IsLed}
 
-same_value : (o : Option Bool) (v w : Bool) → o ≡ Some v → o ≡ Some w → v ≡ w
-same_value o v w h k = cc
-
-same_moment : (o : Option ℕ) (t u : ℕ) → o ≡ Some t → o ≡ Some u → t ≡ u
-same_moment o t u h k = cc
-
 -- a time-point that was named at t has this moment in the run, and was not left out
-named_parts : (g : Guided) (x t : ℕ) → named_at g x ≡ Some t → (is_left g x ≡ false) × (executed_at g.run x ≡ Some t)
+pub named_parts : (g : Guided) (x t : ℕ) → named_at g x ≡ Some t → (is_left g x ≡ false) × (executed_at g.run x ≡ Some t)
 named_parts g x t e = elim (cases_Bool (is_left g x)) [
   | inl left ↦ absurd (some_or_none (named_at g x) t e (cond-true (is_left g x) None (executed_at g.run x) left))
   | inr kept ↦ (kept, sym (cond-false (is_left g x) None (executed_at g.run x) kept) ∙ e)
@@ -114,7 +109,7 @@ module _ (m : Labelled) (good : IsLabelled m) (wf : IsWellFormed (lowered m)) (g
           let held = right.held x t done kept out.0 (λ none. misfits (fits_absent out.1 (completed_label m x out.0) none)) in
           let there = (known_from net wf.network g.run (u + 1) out.0 out.1 out.2).1 in
           let here = (known_from net wf.network g.run (t + 1) out.0 held.0 held.1).1 in
-          let same = same_value (outcome_of g.run out.0) held.0 out.1 here there in
+          let same = one_value (outcome_of g.run out.0) held.0 out.1 here there in
           absurd (misfits (subst (λ v. MarkFits v (completed_label m x out.0)) same held.2))
     ]
 
@@ -141,7 +136,7 @@ module _ (m : Labelled) (good : IsLabelled m) (wf : IsWellFormed (lowered m)) (g
           | inr kept ↦ cond-false (is_denied net g p) false (s p) kept ∙ agrees p v kept k
           | inl left ↦
               let kept_false = right.denied j p from.0.observes (sym (denied_where j p from.0.observes) ∙ left) in
-              cond-true (is_denied net g p) false (s p) left ∙ same_value (outcome_of g.run p) false v kept_false from.1
+              cond-true (is_denied net g p) false (s p) left ∙ one_value (outcome_of g.run p) false v kept_false from.1
         ]
 
     other_twin : AreTwins m s other

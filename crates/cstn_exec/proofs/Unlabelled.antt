@@ -1,7 +1,7 @@
 -- Where no time-point has a label, all time-points are named.
-use Rattle.std.proofs.Common.{ℕ, ◌≡◌, inl, inr, ◌+◌, ◌<◌, Bool, true, false, cond, not, List, [], ◌∷◌, Option, Some, None, refl, ap, ◌∙◌}
-use Rattle.std.specs.List.{filter}
-use Rattle.std.proofs.lemmas.Bool.{cases_Bool, cases_lt, cond-false}
+use Rattle.std.proofs.Common.{ℕ, ◌≡◌, inl, inr, ◌+◌, ◌<◌, Bool, true, false, not, List, [], Option, Some, None, refl, ap, ◌∙◌}
+use Rattle.std.proofs.lemmas.Bool.{cases_Bool, cond-false}
+use Rattle.cstn_facts.proofs.Filters.{filter_whole, filter_nothing}
 use Rattle.cstn_label.specs.Bounds.{Bound}
 use Rattle.cstn_label.specs.Labels.{Label, empty}
 use Rattle.cstn_label.proofs.MarkLemmas.{fits_absent}
@@ -12,31 +12,17 @@ use Rattle.cstn_lift.specs.Completion.{completed, completed_label}
 use Rattle.cstn_lift.specs.WellFormed.{IsLabelled}
 use Rattle.cstn_lift.specs.Lowered.{lowered, observer_of}
 use Rattle.cstn_lift.proofs.CompletionLemmas.{completed_least, empty_within}
-use Rattle.cstn_lift.proofs.FullLemmas.{past_empty}
 use Rattle.cstn_exec.specs.Runs.{Run, known, called}
 use Rattle.cstn_exec.specs.Moves.{NotExecuted, moved, outcome_refusal}
 use Rattle.cstn_exec.specs.Guides.{Guided, is_left, holds_by, holds_at, named, left_out, advanced, all_denied, with_left, is_among, is_denied, see_refusal}
 use Rattle.cstn_exec.specs.Sound.{IsGuided}
 use Rattle.cstn_exec.proofs.Holding.{holds_to}
-
-filter_whole : (test : ℕ → Bool) (xs : List ℕ) → ((x : ℕ) → test x ≡ true) → filter test xs ≡ xs
-filter_whole test [] h = refl
-filter_whole test (x ∷ xs) h = ap (λ b. cond b (x ∷ filter test xs) (filter test xs)) (h x) ∙ ap (λ ys. x ∷ ys) (filter_whole test xs h)
-
-filter_nothing : (test : ℕ → Bool) (xs : List ℕ) → ((x : ℕ) → test x ≡ false) → filter test xs ≡ []
-filter_nothing test [] h = refl
-filter_nothing test (x ∷ xs) h = ap (λ b. cond b (x ∷ filter test xs) (filter test xs)) (h x) ∙ filter_nothing test xs h
+use Rattle.cstn_lift.proofs.Unlabelled.{all_empty}
 
 module _ (m : Labelled) (good : IsLabelled m) (none : (x : ℕ) → x < count m.base → label_of m x ≡ empty) where
-  all_empty : (x : ℕ) → label_of m x ≡ empty
-  all_empty x = elim (cases_lt x (count m.base)) [
-    | inl inside ↦ none x inside
-    | inr past ↦ past_empty m good x past
-  ]
-
   none_marked : (x : ℕ) → completed_label m x ≡ empty
   none_marked x =
-      ap (completed m) (all_empty x)
+      ap (completed m) (all_empty m good none x)
       ∙ within_same (completed m empty) empty
       (completed_least m empty empty (within_itself empty) (λ y p o marked. absurd (marked refl))) (empty_within (completed m empty))
 

@@ -3,18 +3,18 @@ use Rattle.std.proofs.Common.{ℕ, ◌≡◌, inl, inr, ◌+◌, ◌<◌, ◌≤
 use Rattle.std.specs.Prelude.{◌↔◌, ◌==◌, IsTrue, if◌then◌else◌}
 use Rattle.std.proofs.lemmas.Bool.{cases_Bool, cases_lt, cases_eq, cond-true, cond-false, eq-eqb, ne_eqb}
 use Rattle.std.proofs.lemmas.Bool.Decides.{same_from_decides}
+use Rattle.cstn_facts.proofs.Ranges.{each_passes, all_pass}
+use Rattle.cstn_facts.proofs.Places.{some_within}
 use Rattle.cstn_label.specs.declared.labels.Label.{Label}
 use Rattle.cstn_label.specs.declared.knowledge.Known.{Known}
-use Rattle.cstn_label.specs.declared.marks.Mark.{Mark}
-use Rattle.cstn_label.specs.declared.marks.Mark.TheVariants.{Absent}
 use Rattle.cstn_label.specs.Labels.{MarkFits, IsPossible}
 use Rattle.cstn_label.specs.Read.{marks, is_known, the_values, known_value}
 use Rattle.cstn_label.specs.Words.{has_bit}
 use Rattle.cstn_net.specs.Networks.{Network, IsWellFormed}
-use Rattle.cstn_plan.specs.Asked.{fits}
 use Rattle.cstn_exec.specs.Runs.{Run, known, fits_known, is_possible}
-use Rattle.cstn_exec.proofs.Ranges.{each_passes, all_pass}
-use Rattle.cstn_exec.proofs.Knowing.{some_within, known_from}
+use Rattle.cstn_exec.proofs.Knowing.{known_from}
+use Rattle.cstn_label.proofs.MarkLemmas.{fits_true, true_fits}
+use Rattle.cstn_label.proofs.LetterLemmas.{MarksEnd}
 
 pub with_value : (k l : Known) (p : ℕ) (v : Bool) → ((q : ℕ) → has_bit l.seen q ≡ cond (q == p) true (has_bit k.seen q)) →
     ((q : ℕ) → the_values l q ≡ cond (q == p) v (the_values k q)) → (q : ℕ) → known_value l q ≡ cond (q == p) (Some v) (known_value k q)
@@ -30,16 +30,6 @@ with_value k l p v seen values q = elim (cases_Bool (q == p)) [
       (subst (λ b. (if has_bit k.seen q then Some b else None) ≡ cond (q == p) (Some v) (known_value k q)) (sym w)
       (sym (cond-false (q == p) (Some v) (known_value k q) other)))
 ]
-
-fits_true : (v : Bool) (m : Mark) → fits v m ≡ true → MarkFits v m
-fits_true v m h = grind arith
-
-true_fits : (v : Bool) (m : Mark) → MarkFits v m → fits v m ≡ true
-true_fits v m h = grind arith
-
--- no proposition above 51 is marked
-abbrev pub MarksEnd : Type 0
-MarksEnd = (a : Label) (p : ℕ) → 52 ≤ p → marks a p ≡ Absent
 
 values_fit : MarksEnd → (k : Known) (a : Label) → is_possible (known_value k) (marks a) ≡ true → IsPossible (is_known k) (the_values k) (marks a)
 unfolding is_possible

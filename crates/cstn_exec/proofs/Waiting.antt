@@ -4,12 +4,12 @@ use Rattle.std.specs.Prelude.{nat_lt, is_none}
 use Rattle.std.specs.Option.{option_map}
 use Rattle.std.specs.List.{range_with_len, find}
 use Rattle.std.proofs.lemmas.Bool.{cases_Bool, cond-true, cond-false, lt-ltb, and_parts, false≢true}
+use Rattle.cstn_facts.proofs.Options.{is_none-true}
+use Rattle.cstn_facts.proofs.Ranges.{find_first}
 use Rattle.cstn_label.specs.Bounds.{Bound}
 use Rattle.cstn_net.specs.Networks.{Network}
 use Rattle.cstn_exec.specs.Runs.{Run, after, next, is_done, due, has_work, awaited, is_awaited, is_ready, is_before, observed_at, outcome_of}
 use Rattle.cstn_exec.specs.Moves.{Refusal, Done, Past, Awaiting, moment_refusal, outcome_refusal, unless_past, unless_awaiting, unless_late, unless_unseen, unless_known}
-use Rattle.cstn_exec.proofs.Options.{is_none-true}
-use Rattle.cstn_exec.proofs.Ranges.{find_first}
 
 -- an outcome that is awaited is accepted
 pub awaited_free : (net : Network) (run : Run) (u p : ℕ) → is_awaited net run u p ≡ true → outcome_refusal net run p ≡ None

@@ -1,17 +1,12 @@
 -- Small plans, and what is answered while they are carried out. The propositions 0 and 1 are called p and q here.
-use Rattle.std.specs.Prelude.{ℕ, zero, suc, true, false, List, [], ◌∷◌, Option, Some, None, pos}
-use Rattle.cstn_label.specs.declared.marks.Mark.{Mark}
-use Rattle.cstn_label.specs.declared.marks.Mark.TheVariants.{Absent, Yes, No}
+use Rattle.std.specs.Prelude.{ℕ, true, false, List, [], ◌∷◌, Option, Some, None, pos}
+use Rattle.cstn_label.specs.declared.marks.Mark.TheVariants.{Yes, No}
 use Rattle.cstn_label.specs.Labels.{Label, empty}
 use Rattle.cstn_label.specs.Bounds.{Bound}
 use Rattle.cstn_net.specs.Networks.{Network}
 use Rattle.cstn_exec.specs.Moves.{Done, Past, Late, Awaiting, NotExecuted, Known}
 use Rattle.cstn_exec.specs.Answers.{Event, Moment, See, AskDue, Answer, Names, Kept, Refused, DueAt}
-
--- the label with this mark on p, and no other
-abbrev pub only : Mark → Label
-only m zero = m
-only m (suc p) = Absent
+use Rattle.cstn_net.specs.Examples.{only}
 
 -- x is at `least` or later where the label is possible
 abbrev pub from : ℕ → ℕ → Label → Bound

@@ -10,7 +10,8 @@ use Rattle.cstn_lift.specs.Lowered.{lowered}
 use Rattle.cstn_exec.specs.Runs.{due}
 use Rattle.cstn_exec.specs.Moves.{Refusal, Awaiting, NotExecuted, Known, moment_refusal}
 use Rattle.cstn_exec.specs.Answers.{Event, Moment, See, AskDue, Answer, Names, Kept, Refused, DueAt, see_answer}
-use Rattle.cstn_exec.specs.Examples.{only, from, observing}
+use Rattle.cstn_net.specs.Examples.{only}
+use Rattle.cstn_exec.specs.Examples.{from, observing}
 use Rattle.cstn_exec.specs.Guides.{Guided, begun, named, advanced, see_refusal, noted}
 
 abbrev pub moment_answer : Labelled → List Bound → Guided → ℕ → Option Refusal → Answer

@@ -7,7 +7,7 @@ use Rattle.cstn_label.specs.Labels.{Label}
 use Rattle.cstn_label.specs.Bounds.{Bound}
 use Rattle.cstn_label.specs.Marks.{is_marked}
 use Rattle.cstn_net.specs.Networks.{Network}
-use Rattle.cstn_plan.specs.Asked.{fits}
+use Rattle.cstn_label.specs.Tests.{fits}
 use Rattle.cstn_lift.specs.Labelled.{Labelled}
 use Rattle.cstn_lift.specs.Completion.{completed_label}
 use Rattle.cstn_lift.specs.Lowered.{lowered, observer_of}

@@ -7,7 +7,8 @@ use Rattle.cstn_label.specs.Labels.{Label}
 use Rattle.cstn_label.specs.Bounds.{Bound}
 use Rattle.cstn_net.specs.Limits.{most_time_points}
 use Rattle.cstn_net.specs.Networks.{Network, count, is_prop}
-use Rattle.cstn_plan.specs.Asked.{fits, greatest}
+use Rattle.cstn_label.specs.Tests.{fits}
+use Rattle.cstn_plan.specs.Asked.{greatest}
 
 -- the state of a run: the last accepted moment, if any, the moment of each time-point that was executed, and the outcome of
 -- each proposition that was seen

@@ -1,26 +1,28 @@
 -- What a check says of what is left by fewer constraints.
-use Rattle.std.proofs.Common.{ℕ, suc, ◌≡◌, inl, inr, ◌+◌, ◌<◌, ◌≤◌, Bool, true, false, List, [], ◌∷◌, ◌++◌, Option, Some, None, map, length, get_or, arith, append_assoc, refl, sym, subst, ap, ◌∙◌}
+use Rattle.std.proofs.Common.{ℕ, suc, ◌≡◌, inl, inr, ◌+◌, ◌<◌, ◌≤◌, Bool, true, false, ◌&&◌, List, [], ◌∷◌, ◌++◌, Option, Some, None, map, length, get_or, arith, append_assoc, refl, sym, subst, ap, ◌∙◌}
 use Rattle.std.specs.Prelude.{nat_lt, pos, if◌then◌else◌}
 use Rattle.std.specs.List.{filter, filter_map, cons_option}
-use Rattle.std.proofs.lemmas.Bool.{cases_Bool, both_ways, ltb-true, false_from_ne_true}
+use Rattle.std.proofs.lemmas.Bool.{cases_Bool, both_ways, ltb-true, false_from_ne_true, and_parts, and_from}
 use Rattle.std.proofs.lemmas.Bool.Decides.{nat_tests}
 use Rattle.std.proofs.lemmas.List.{length-append, length-map, map-append, get_or-map}
 use Rattle.std.proofs.Math.ListN.{get_or-append}
 use Rattle.std.proofs.lemmas.List.Elements.{filter_passes, filter_map-append}
 use Rattle.cstn_net.specs.Networks.{Network, Constraint}
-use Rattle.cstn_check.specs.Givers.{with_some}
+use Rattle.cstn_check.specs.Givers.{is_of, with_some, IsPart}
 use Rattle.cstn_check.specs.Growth.{load_of}
+use Rattle.cstn_check.specs.Needs.{said, IfNo, Stands}
 use Rattle.cstn_check.specs.Verdicts.{is_consistent}
+use Rattle.cstn_check.specs.declared.needs.Finding.{Finding}
+use Rattle.cstn_check.specs.declared.needs.Finding.TheVariants.{Full, Yes, No}
+use Rattle.cstn_check.proofs.Parts.{some_twice}
 use Rattle.cstn_lift.specs.Labelled.{Labelled}
 use Rattle.cstn_lift.specs.Lowered.{with_full_label, full_of, full_constraints, guards, lowered, numbered}
 use Rattle.cstn_lift.specs.Completion.{full_label}
 use Rattle.cstn_history.specs.Histories.{History}
 use Rattle.cstn_history.specs.Rest.{moved, constraint_left, bare, added, rest}
-use Rattle.cstn_follow.specs.Tries.{said, with_base}
-use Rattle.cstn_follow.specs.declared.needs.Said.{Said}
-use Rattle.cstn_follow.specs.declared.needs.Said.TheVariants.{Full, Yes, No}
-use Rattle.cstn_follow.specs.Blame.{IsPart, is_of, alone, said_alone}
-use Rattle.cstn_follow.specs.Needs.{sources, Settles, Stands, StandsBy, IfNo}
+use Rattle.cstn_follow.specs.Tries.{with_base}
+use Rattle.cstn_follow.specs.Blame.{alone, said_by, said_alone}
+use Rattle.cstn_follow.specs.Needs.{sources, Settles}
 use Rattle.cstn_follow.proofs.Constraints.{these_full, these_lowered, rest_same}
 use Rattle.cstn_follow.proofs.Nameless.{nameless, load_nameless, consistent_nameless}
 
@@ -159,9 +161,9 @@ module _ (m : Labelled) (h : History) (fresh : ℕ) where
         ∙ sym (ap (said cap) (lowered_left t))
 
   -- where a check settles by the needed constraints of what is left, a no stands without the others
-  pub settled_stands : (cap : ℕ) (test : ℕ → Bool) (needed : List ℕ) →
+  settled_stands : (cap : ℕ) (test : ℕ → Bool) (needed : List ℕ) →
       Settles cap (lowered (rest (alone m test) h fresh)) (sources (rest (alone m test) h fresh)) needed →
-      Stands (said_alone m h fresh cap) needed test
+      (t : ℕ → Bool) → ((i : ℕ) → t i ≡ true → test i ≡ true) → ((i : ℕ) → is_of needed i ≡ true → test i ≡ true → t i ≡ true) → said_alone m h fresh cap t ≡ Some false
   settled_stands cap test needed settles t within has =
       sym (said_fewer cap test t within) ∙ settles (stays test t) (λ k gone. idle k gone)
     where
@@ -197,15 +199,14 @@ module _ (m : Labelled) (h : History) (fresh : ℕ) where
               )
 
   -- what a check of what is left by some of the constraints needs
-  pub stands_by : (cap : ℕ) (base net : Network) (ids : List ℕ) (o : Said) → IsPart m.base base → net ≡ lowered (rest (with_base m base) h fresh) →
-      ids ≡ sources (rest (with_base m base) h fresh) → IfNo o (Settles cap net ids) → IfNo o (StandsBy m h fresh cap base)
+  pub stands_by : (cap : ℕ) (base net : Network) (ids : List ℕ) (o : Finding) → IsPart m.base base → net ≡ lowered (rest (with_base m base) h fresh) →
+      ids ≡ sources (rest (with_base m base) h fresh) → IfNo o (Settles cap net ids) → IfNo o (Stands (said_by m h fresh cap) base)
   stands_by cap base net ids Full part net_is ids_are settles = tt
-  stands_by cap base net ids Yes part net_is ids_are settles = tt
-  stands_by cap base net ids (No needed) part net_is ids_are settles = (
-    part.0,
-    part.1,
-    settled_stands cap part.0 needed.items
-        (subst (λ (n : Network). Settles cap n (sources (rest (alone m part.0) h fresh)) needed.items)
-        (net_is ∙ ap (λ (b : Network). lowered (rest (with_base m b) h fresh)) part.1)
-        (subst (λ l. Settles cap net l needed.items) (ids_are ∙ ap (λ (b : Network). sources (rest (with_base m b) h fresh)) part.1) settles)),
-  )
+  stands_by cap base net ids (Yes load) part net_is ids_are settles = tt
+  stands_by cap base net ids (No needed) part net_is ids_are settles = λ test has.
+      ap (said_by m h fresh cap) (ap (λ (n : Network). with_some n test) part.1 ∙ some_twice m.base part.0 test)
+      ∙ settled_stands cap part.0 needed.items
+      (subst (λ (n : Network). Settles cap n (sources (rest (alone m part.0) h fresh)) needed.items)
+      (net_is ∙ ap (λ (b : Network). lowered (rest (with_base m b) h fresh)) part.1)
+      (subst (λ l. Settles cap net l needed.items) (ids_are ∙ ap (λ (b : Network). sources (rest (with_base m b) h fresh)) part.1) settles))
+      (λ i. part.0 i && test i) (λ i e. (and_parts (part.0 i) (test i) e).0) (λ i need passes. and_from (part.0 i) (test i) passes (has i need))

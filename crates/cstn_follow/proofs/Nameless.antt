@@ -8,7 +8,8 @@ use Rattle.cstn_label.specs.Bounds.{Bound}
 use Rattle.cstn_rules.specs.declared.entries.Why.TheVariants.{Base}
 use Rattle.cstn_rules.specs.Derivations.{Entry}
 use Rattle.cstn_log.specs.Entries.{bases}
-use Rattle.cstn_check.specs.Tests.{dominates, refutes, chain_of, wait_of}
+use Rattle.cstn_rules.specs.Tests.{refutes, chain_of, wait_of}
+use Rattle.cstn_label.specs.Tests.{dominates}
 use Rattle.cstn_check.specs.Growth.{Instance, is_covered, is_live, is_refuted, premises_live, of_one, of_two, conclusion, with_conclusion, step, tried, chains_at, waits_below, turn, grown, log_of, load_of}
 use Rattle.cstn_check.specs.Growth.Instance.{chain_at, wait_at}
 use Rattle.cstn_check.specs.Verdicts.{is_consistent}

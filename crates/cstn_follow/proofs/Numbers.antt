@@ -12,7 +12,8 @@ use Rattle.cstn_lift.specs.Lowered.{lowered}
 use Rattle.cstn_history.specs.Histories.{History}
 use Rattle.cstn_history.specs.Rest.{number_of, rest}
 use Rattle.cstn_history.specs.Handed.{AreNumbers}
-use Rattle.cstn_follow.specs.Waiting.{said_until, tried, halving, waits_until}
+use Rattle.cstn_check.specs.Search.{halving}
+use Rattle.cstn_follow.specs.Waiting.{said_until, tried, waits_until}
 
 module _ (m : Labelled) (h : History) (numbers : List ℕ) (are : AreNumbers m h numbers) where
   pub numbers_long : length numbers ≡ count m.base

@@ -4,6 +4,7 @@ use Rattle.std.specs.List.{All, Contains, filter, filter_map, cons_option}
 use Rattle.std.proofs.lemmas.Bool.{cases_Bool}
 use Rattle.std.proofs.lemmas.List.{length-append}
 use Rattle.std.proofs.lemmas.List.Elements.{All-contains, All-contains_itself, All-filter, filter_passes, filter_map-append}
+use Rattle.cstn_facts.proofs.Filters.{filter_contains}
 use Rattle.cstn_net.specs.Networks.{Constraint, IsWellFormed}
 use Rattle.cstn_check.specs.Givers.{with_some}
 use Rattle.cstn_check.proofs.Fewer.{some_well_formed}
@@ -17,7 +18,6 @@ use Rattle.cstn_history.specs.Handed.{HasRoom, IsRestRefusal, rest_number}
 use Rattle.cstn_history.specs.declared.errors.RestError.{RestError}
 use Rattle.cstn_history.specs.declared.errors.RestError.TheVariants.{TooManyConstraints}
 use Rattle.cstn_history.proofs.Edited.{can_new}
-use Rattle.cstn_next.proofs.Lists.{filter_in}
 use Rattle.cstn_follow.specs.Blame.{alone}
 use Rattle.cstn_follow.proofs.Constraints.{these_labelled, these_long, rest_same}
 
@@ -137,4 +137,4 @@ goes_with_fewer m h a b fewer can =
     can_new (alone m b) m.base.deadline (filter (λ c. a c.id) m.base.constraints) h (omega arith)
     (λ c inside.
     let from = in_part a m.base.constraints c inside in
-    filter_in (λ d. b d.id) m.base.constraints c from.0 (fewer c from.0 from.1)) can
+    filter_contains (λ d. b d.id) m.base.constraints c from.0 (fewer c from.0 from.1)) can

@@ -27,7 +27,7 @@ at_place p below = get_or-range_with_len 0 52 p 0 below ∙ (let same : 0 + p �
 pub value_true : (most : ℤ) → IsValue most → is_value most ≡ true
 value_true most h = grind (arith, ints)
 
-true_value : (most : ℤ) → is_value most ≡ true → IsValue most
+pub true_value : (most : ℤ) → is_value most ≡ true → IsValue most
 true_value most e = grind (arith, ints)
 
 pub value_false : (most : ℤ) → (IsValue most → ⊥) → is_value most ≡ false

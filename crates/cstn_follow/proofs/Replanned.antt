@@ -156,7 +156,7 @@ copy_edited old copy new cs spare is edited = record {
 }
 
 -- ids stay below a number that they were below
-value_id : (id : ℕ) (most : ℤ) (c : TheConstraint) → (with_value id most c).id ≡ c.id
+pub value_id : (id : ℕ) (most : ℤ) (c : TheConstraint) → (with_value id most c).id ≡ c.id
 value_id id most c = elim (c.id == id) as (λ b. (if b then record c { most = most } else c).id ≡ c.id) [ true ↦ refl | false ↦ refl ]
 
 pub ids_changed : (n id : ℕ) (most : ℤ) (cs : List TheConstraint) → All (λ c. c.id < n) cs → All (λ c. c.id < n) (map (with_value id most) cs)

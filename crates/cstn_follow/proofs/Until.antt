@@ -2,13 +2,12 @@
 use Rattle.std.proofs.Common.{ℕ, zero, suc, ◌≡◌, inl, inr, ◌+◌, ◌-◌, ◌*◌, ◌^◌, ◌<◌, ◌≤◌, Bool, true, false, List, [], ◌∷◌, ◌++◌, Option, Some, None, length, arith, refl, sym, subst, ap, ◌∙◌}
 use Rattle.std.specs.Prelude.{◌↔◌, ◌/◌, map, nat_lt, pos, ◌-ℤ◌, if◌then◌else◌}
 use Rattle.std.specs.List.{All, filter_map}
-use Rattle.std.proofs.Math.Nat.{mul-div-le, two-pow-succ}
-use Rattle.std.proofs.lemmas.Nat.{le-div}
 use Rattle.std.proofs.lemmas.Int.{ints}
-use Rattle.std.proofs.lemmas.Bool.{cases_Bool, cases_lt}
+use Rattle.std.proofs.lemmas.Bool.{both_ways}
 use Rattle.std.proofs.lemmas.List.{length-append}
 use Rattle.std.proofs.lemmas.List.Quantifiers.{all_pairs_push}
 use Rattle.std.proofs.lemmas.List.Elements.{All-weaker, All-append, All-cons, All-head, All-tail, filter_map-append}
+use Rattle.cstn_facts.proofs.Members.{filter_map_all}
 use Rattle.cstn_label.specs.Labels.{Label, Scenario, MarkFits, IsPlain, empty, joined}
 use Rattle.cstn_label.proofs.LabelLemmas.{made_true, made_holds, joined_empty}
 use Rattle.cstn_net.specs.Limits.{most_constraints, most_deadline}
@@ -21,7 +20,7 @@ use Rattle.cstn_lift.specs.Lowered.{is_plain, with_full_label, full_of, full_con
 use Rattle.cstn_lift.specs.Strategies.{IsExecuted, IsLabelledConsistent}
 use Rattle.cstn_lift.specs.WellFormed.{IsLabelled}
 use Rattle.cstn_lift.proofs.Equivalent.{equivalent}
-use Rattle.cstn_lift.proofs.ListLemmas.{filter_map_all, numbered_length}
+use Rattle.cstn_lift.proofs.ListLemmas.{numbered_length}
 use Rattle.cstn_lift.proofs.LoweredLemmas.{plain_true}
 use Rattle.cstn_lift.proofs.WellFormed.{lowered_well_formed}
 use Rattle.cstn_check.specs.Verdicts.{is_consistent}
@@ -33,11 +32,10 @@ use Rattle.cstn_history.proofs.Settled.{as_told, told_agrees, told_same, some_or
 use Rattle.cstn_history.proofs.Places.{left_allows, new_inside}
 use Rattle.cstn_history.proofs.WellFormed.{rest_labelled}
 use Rattle.cstn_history.proofs.Waiting.{waits_both, waits_less, strategy_more, strategy_less, met_more}
-use Rattle.cstn_follow.proofs.Trial.{said_is}
+use Rattle.cstn_check.proofs.Halves.{last_found as halved_last}
+use Rattle.cstn_check.proofs.Said.{said_is}
 use Rattle.cstn_follow.proofs.Constraints.{these_labelled, these_long}
-use Rattle.cstn_follow.proofs.Halving.{halving_zero, halving_turn}
-use Rattle.cstn_follow.specs.declared.waits.Span.{Span}
-use Rattle.cstn_follow.specs.Waiting.{HasRoomToWait, waiting_one, rest_until, tried, middle, halved, and_then, halving, waits_until}
+use Rattle.cstn_follow.specs.Waiting.{HasRoomToWait, waiting_one, rest_until, tried, waits_until}
 
 all_one : (P : Constraint → Type 0) → (d : Constraint) → P d → All P (d ∷ [])
 all_one P d here = All-cons P d [] here (λ i e inside. absurd (omega arith))
@@ -191,85 +189,13 @@ module _ (m : Labelled) (h : History) (fresh x : ℕ) (good : IsLabelled m) (tim
 
     module _ (cap : ℕ) where
       tried_is : (t : ℕ) (v : Bool) → tried m h fresh x cap t ≡ Some v → is_consistent (lowered (rest_until m h fresh x t)) ≡ v
-      tried_is t v e = said_is cap (lowered (rest_until m h fresh x t)) v e
+      tried_is t v e = (said_is cap (lowered (rest_until m h fresh x t)) v e).0
 
-      -- what is left to be tried: x can wait until the lower end, and not beyond the upper one
-      record IsSpan (s : Span) : Type 0 where
-        low : CanWait m h x s.low
-        high : (u : ℕ) → CanWait m h x u → u ≤ s.high
-        upto : s.high ≤ most_deadline
+      waits_by : (t : ℕ) → t ≤ most_deadline → tried m h fresh x cap t ≡ Some true → CanWait m h x t
+      waits_by t upto e = (wait_decided t upto).0 (tried_is t true e)
 
-      abbrev IsLast : ℕ → Type 0
-      IsLast t = CanWait m h x t × ((u : ℕ) → CanWait m h x u → u ≤ t)
-
-      is_less : (a b : ℕ) → nat_lt a b ≡ true → a < b
-      is_less a b e = grind arith
-
-      not_less : (a b : ℕ) → nat_lt a b ≡ false → b ≤ a
-      not_less a b e = grind arith
-
-      record Middle (s : Span) : Type 0 where
-        over : s.low < middle s
-        upto : middle s ≤ s.high
-        half : s.high + s.low ≤ 2 * middle s
-        twice : 2 * middle s ≤ s.high + s.low + 1
-
-      middle_is : (s : Span) → s.low < s.high → Middle s
-      middle_is s less =
-          let low = le-div (s.low + 1) (s.low + s.high + 1) 2 (omega arith) (omega arith) in
-          let twice = mul-div-le (s.low + s.high + 1) 2 in
-          let half = half_up (s.low + s.high) in
-          record { over = omega arith; upto = omega arith; half = omega arith; twice = omega arith }
-        where
-          half_up : (a : ℕ) → a ≤ 2 * ((a + 1) / 2)
-          half_up a = omega arith
-
-      -- what is found by n tries
-      abbrev Finds : ℕ → Type 0
-      Finds n = (s : Span) (t : ℕ) → IsSpan s → s.high < s.low + 2 ^ n → halving (tried m h fresh x cap) n s ≡ Some t → IsLast t
-
-      turned : (n : ℕ) → Finds n → (s : Span) (t : ℕ) → IsSpan s → s.high < s.low + 2 ^ suc n → (o : Option Bool) →
-          tried m h fresh x cap (middle s) ≡ o → Middle s → and_then (halved s o) (halving (tried m h fresh x cap) n) ≡ Some t → IsLast t
-      turned n finds s t is small None at mid go = absurd (cc)
-      turned n finds s t is small (Some true) at mid go =
-          let waits = (wait_decided (middle s) (let a = mid.upto in let b = is.upto in omega arith)).0 (tried_is (middle s) true at) in
-          let double = two-pow-succ n in
-          let half = mid.half in
-          let twice = mid.twice in
-          finds (record { low = middle s; high = s.high }) t (record { low = waits; high = is.high; upto = is.upto }) (omega arith) go
-      turned n finds s t is small (Some false) at mid go =
-          let no = tried_is (middle s) false at in
-          let both = wait_decided (middle s) (let a = mid.upto in let b = is.upto in omega arith) in
-          let double = two-pow-succ n in
-          let half = mid.half in
-          let twice = mid.twice in
-          let over = mid.over in
-          finds (record { low = s.low; high = middle s - 1 }) t (record {
-            low = is.low;
-            high = λ u waits. elim (cases_lt u (middle s)) [
-              | inl less ↦ omega arith
-              | inr late ↦ let yes = both.1 (waits_less m h x u (middle s) late waits) in absurd (cc)
-            ];
-            upto = let a = mid.upto in let b = is.upto in omega arith;
-          }) (omega arith) go
-
-      found_by : (n : ℕ) → Finds n
-      found_by zero s t is small e =
-          let end : Some s.low ≡ Some t = sym (halving_zero (tried m h fresh x cap) s) ∙ e in
-          let at : s.low ≡ t = cc in
-          (subst (CanWait m h x) at is.low, (λ u waits. let upto = is.high u waits in omega arith))
-      found_by (suc n) s t is small e = elim (cases_Bool (nat_lt s.low s.high)) [
-        | inr stop ↦
-            let end : Some s.low ≡ Some t =
-            sym (ap (λ b. if b then and_then (halved s (tried m h fresh x cap (middle s))) (halving (tried m h fresh x cap) n) else Some s.low) stop)
-            ∙ sym (halving_turn (tried m h fresh x cap) n s) ∙ e in
-            let at : s.low ≡ t = cc in
-            let over = not_less s.low s.high stop in
-            (subst (CanWait m h x) at is.low, (λ u waits. let upto = is.high u waits in omega arith))
-        | inl more ↦ turned n (found_by n) s t is small (tried m h fresh x cap (middle s)) refl (middle_is s (is_less s.low s.high more))
-            (sym (ap (λ b. if b then and_then (halved s (tried m h fresh x cap (middle s))) (halving (tried m h fresh x cap) n) else Some s.low) more)
-            ∙ sym (halving_turn (tried m h fresh x cap) n s) ∙ e)
-      ]
+      stops_by : (t : ℕ) → t ≤ most_deadline → tried m h fresh x cap t ≡ Some false → CanWait m h x t → ⊥
+      stops_by t upto e waits = both_ways (is_consistent (lowered (rest_until m h fresh x t))) (tried_is t false e) ((wait_decided t upto).1 waits)
 
       -- x is executed in some scenario that agrees with the history
       where_executed : (s : Scenario) × AgreesWith h s × IsExecuted m s x
@@ -299,4 +225,5 @@ module _ (m : Labelled) (h : History) (fresh x : ℕ) (good : IsLabelled m) (tim
           let upto = waits.1.within w.0 x w.1 here none w.2 in
           let last = limit_upto x in
           omega arith in
-          found_by 20 (record { low = h.now; high = m.base.deadline }) t (record { low = first; high = bounded; upto = in_time }) (omega arith) e
+          halved_last (tried m h fresh x cap) (CanWait m h x) most_deadline waits_by stops_by (λ t u upto waits. waits_less m h x u t upto waits) 20
+          (record { low = h.now; high = m.base.deadline }) t (record { low = first; high = bounded; upto = in_time }) (omega arith) e

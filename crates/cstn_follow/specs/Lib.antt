@@ -13,6 +13,9 @@ pub mod Refusals
 pub mod Questions
 pub mod Searches
 pub mod Hearing
+-- What is recorded of facts, and what the turns of a session answer.
+pub mod Recorded
+pub mod Turns
 -- How the values of the program are read.
 pub mod Read
 pub mod NextRead

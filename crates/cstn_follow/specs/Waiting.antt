@@ -1,17 +1,17 @@
 -- Until when a time-point can wait, by halving.
-use Rattle.std.specs.Prelude.{ℕ, zero, suc, ◌+◌, ◌-◌, ◌/◌, ◌<◌, Bool, true, false, nat_lt, length, Option, None, Some, pos, ◌-ℤ◌, if◌then◌else◌}
+use Rattle.std.specs.Prelude.{ℕ, ◌+◌, ◌<◌, Bool, length, Option, pos, ◌-ℤ◌}
 use Rattle.std.specs.List.{All}
 use Rattle.cstn_net.specs.Limits.{most_constraints}
 use Rattle.cstn_net.specs.Networks.{Constraint, count}
+use Rattle.cstn_check.specs.Needs.{said}
+use Rattle.cstn_check.specs.Search.{halving}
 use Rattle.cstn_lift.specs.Labelled.{Labelled}
 use Rattle.cstn_lift.specs.Lowered.{lowered}
 use Rattle.cstn_lift.specs.WellFormed.{IsLabelled}
 use Rattle.cstn_history.specs.Histories.{History}
 use Rattle.cstn_history.specs.Rest.{number_of, bare, rest, with_constraint}
-use Rattle.cstn_follow.specs.declared.waits.Span.{Span}
 use Rattle.cstn_follow.specs.declared.errors.WaitError.{WaitError}
 use Rattle.cstn_follow.specs.declared.errors.WaitError.TheVariants.{TooManyConstraints, Full, Memory}
-use Rattle.cstn_follow.specs.Tries.{said}
 
 -- the time-point with the number k is at t or later; the id is above all ids of what is left, in which what was added has ids from
 -- `fresh` on
@@ -42,25 +42,6 @@ said_until m fresh k cap t = said cap (lowered (with_constraint m (waiting_one f
 -- what is said of what is left with x at t or later
 abbrev pub tried : Labelled → History → ℕ → ℕ → ℕ → ℕ → Option Bool
 tried m h fresh x cap t = said_until (rest m h fresh) fresh (number_of m h x) cap t
-
--- the moment half-way, rounded up
-abbrev pub middle : Span → ℕ
-middle s = (s.low + s.high + 1) / 2
-
--- what is left to be tried once the middle was
-abbrev pub halved : Span → Option Bool → Option Span
-halved s None = None
-halved s (Some true) = Some (record { low = middle s; high = s.high })
-halved s (Some false) = Some (record { low = s.low; high = middle s - 1 })
-
-abbrev pub and_then : Option Span → (Span → Option ℕ) → Option ℕ
-and_then None go = None
-and_then (Some s) go = go s
-
--- the moment that is left once the middle was tried n times, or as often as more than one was left; none where a try says nothing
-unfoldable pub halving : (ℕ → Option Bool) → ℕ → Span → Option ℕ
-halving test zero s = Some s.low
-halving test (suc n) s = if nat_lt s.low s.high then and_then (halved s (test (middle s))) (halving test n) else Some s.low
 
 -- until when x can wait, from now up to the deadline, by at most 20 tries; none where a log that was tried is full
 abbrev pub waits_until : Labelled → History → ℕ → ℕ → ℕ → Option ℕ

@@ -1,25 +1,25 @@
 // Which constraints are to blame where a history can't go on.
-ghost use Rattle.std.specs.Prelude.{ℕ, ◌≡◌, ◌<◌, ◌≤◌, None, Some, IfOk, IfSome, IsErrOf};
+ghost use Rattle.std.specs.Prelude.{ℕ, ◌≡◌, ◌<◌, ◌≤◌, None, Some, option_map, IfOk, IsErrOf};
 ghost use Rattle.std.specs.List.{All, AllPairs, Contains};
-ghost use Rattle.std.specs.Option.{option_map};
 ghost use Rattle.cstn_net.specs.Read.{the_network};
-ghost use Rattle.cstn_check.specs.Givers.{without};
+ghost use Rattle.cstn_check.specs.Givers.{is_of, but, IsPart};
+ghost use Rattle.cstn_check.specs.Needs.{answer, IfNo, Stands};
 ghost use Rattle.cstn_lift.specs.Read.{the_labelled};
 ghost use Rattle.cstn_history.specs.Continuations.{Can};
 ghost use Rattle.cstn_history.specs.Rest.{rest};
 ghost use Rattle.cstn_history.specs.Read.{the_history, IsKeptFor};
 ghost use Rattle.cstn_history.specs.Handed.{HasRoom};
-ghost use Rattle.cstn_follow.specs.Blame.{TakesTries, IsPart, ids_of, is_of, but, alone, said_by, narrowed, blamed};
-ghost use Rattle.cstn_follow.specs.Needs.{is_idle, StandsBy, answer, IfNo};
+ghost use Rattle.cstn_follow.specs.Blame.{TakesTries, alone, said_by, blamed};
 
 use crate::errors::BlameError;
 use crate::laws::{blame_is_found, parts_are_labelled};
-use crate::needs::{Said, said_of, sources};
+use crate::needs::{find_by_sources, sources};
 use crate::tries::with_base;
+use cstn_check::{Finding, Trial, ids_of, leave_out};
 use cstn_history::{History, RestError, edits_keep_histories, rest};
 use cstn_lift::Labelled;
 use cstn_log::Cap;
-use cstn_net::{Network, network_is_well_formed};
+use cstn_net::Network;
 use std::alloc::{AllocError, Global};
 
 /// The ids of the constraints that are to blame where a history can't go on, in ascending order: those that are left when, of all
@@ -59,7 +59,7 @@ pub fn blame(
     }
 }
 
-// The ids that are left once each was tried; none where a log that is tried is full.
+// The ids that are left once each constraint was tried; none where a log that is tried is full.
 fn blamed(
     alloc: Global,
     network: &Labelled,
@@ -70,131 +70,39 @@ fn blamed(
     requires tries { TakesTries (the_labelled network.now) history.now fresh }
     ensures { IfOk result (λ o. option_map (λ ids. ids.items) o ≡ blamed (the_labelled network.now) (the_history history.now) fresh cap.entries) }
 {
-    let ids = ids_of(alloc, network.base())?;
-    let mut left = all_left(alloc, network, history, fresh, cap)?;
-    for k in 0..ids.len() {
-        let Some(less) = narrowed(alloc, network, history, fresh, left, ids[k], cap)? else {
-            return Ok(None);
-        };
-        left = less;
-    }
-    let ids = ids_of(alloc, &left.base)?;
+    let blaming = Blaming {
+        network,
+        history,
+        fresh,
+        cap,
+    };
+    let whole = network.base().copy(alloc)?;
+    let first = blaming.find(alloc, whole)?;
+    let whole = network.base().copy(alloc)?;
+    let Some(left) = leave_out(alloc, &blaming, whole, first)? else {
+        return Ok(None);
+    };
+    let ids = ids_of(alloc, &left)?;
     Ok(Some(ids))
 }
 
-// The ids of the constraints, in order.
-fn ids_of(alloc: Global, net: &Network) -> Result<Vec<u32>, AllocError>
-    ensures { IfOk result (λ v. v.items ≡ ids_of (the_network net.now)) }
-{
-    let constraints = net.constraints();
-    let mut ids = Vec::with_capacity(alloc, constraints.len())?;
-    for constraint in constraints {
-        ids.push(constraint.id)?;
-    }
-    Ok(ids)
-}
-
-// How far the search has come.
-#[derive(Drop)]
-struct Left {
-    // The network with the constraints that are left.
-    base: Network,
-    // The ids that the last no needs, which stands without any of the others; none where no was not said yet.
-    needed: Option<Vec<u32>>,
-}
-
-impl Left {
-    // Whether the last no is known to stand without the constraint of the id.
-    fn is_idle(&self, id: u32) -> bool
-        ensures { result ≡ is_idle (option_map (λ v. v.items) self.now.needed) id }
-    {
-        match &self.needed {
-            Some(needed) => !needed.contains(&id),
-            None => false,
-        }
-    }
-
-    // What is left without the constraint of the id.
-    fn without(self, id: u32) -> Left
-        ensures base { the_network result.base ≡ without id (the_network self.base) }
-        ensures needed { result.needed ≡ self.needed }
-    {
-        let mut less = self;
-        less.base.take_out(id);
-        less
-    }
-}
-
-// All constraints, with what a check says by them.
-fn all_left(
-    alloc: Global,
-    network: &Labelled,
-    history: &History,
+// What a check says of what is left by some of the constraints of a labelled network.
+#[derive(Clone, Copy)]
+struct Blaming<'a> {
+    network: &'a Labelled,
+    history: &'a History,
     fresh: u32,
     cap: Cap,
-) -> Result<Left, AllocError>
-    requires tries { TakesTries (the_labelled network.now) history.now fresh }
-    ensures base { IfOk result (λ l. the_network l.base ≡ (the_labelled network.now).base) }
-    ensures stands { IfOk result (λ l. IfSome l.needed (λ v.
-        StandsBy (the_labelled network.now) (the_history history.now) fresh cap.entries (the_network l.base) v.items)) }
-{
-    let base = network.base().copy(alloc)?;
-    let said = said_by(alloc, network, history, fresh, base, cap)?;
-    let base = network.base().copy(alloc)?;
-    match said {
-        Said::No(needed) => Ok(Left {
-            base,
-            needed: Some(needed),
-        }),
-        _ => Ok(Left { base, needed: None }),
-    }
 }
 
-// What is left without the constraint of the id where the history can't go on without it either, and else all; none where the
-// log is full. Nothing is checked where the last no stands without it.
-fn narrowed(
-    alloc: Global,
-    network: &Labelled,
-    history: &History,
-    fresh: u32,
-    left: Left,
-    id: u32,
-    cap: Cap,
-) -> Result<Option<Left>, AllocError>
-    requires tries { TakesTries (the_labelled network.now) history.now fresh }
-    requires part { IsPart (the_labelled network.now).base (the_network left.base) }
-    requires stands { IfSome left.needed (λ v.
-        StandsBy (the_labelled network.now) (the_history history.now) fresh cap.entries (the_network left.base) v.items) }
-    ensures narrowed { IfOk result (λ o. option_map (λ l. the_network l.base) o
-        ≡ narrowed (said_by (the_labelled network.now) (the_history history.now) fresh cap.entries (without id (the_network left.base))) id
-        (the_network left.base)) }
-    ensures stands { IfOk result (λ o. IfSome o (λ l. IfSome l.needed (λ v.
-        StandsBy (the_labelled network.now) (the_history history.now) fresh cap.entries (the_network l.base) v.items))) }
-{
-    if left.is_idle(id) {
-        return Ok(Some(left.without(id)));
-    }
-    let less = without(alloc, &left.base, id)?;
-    match said_by(alloc, network, history, fresh, less, cap)? {
-        Said::Full => Ok(None),
-        Said::Yes => Ok(Some(left)),
-        Said::No(needed) => {
-            let less = left.without(id);
-            Ok(Some(Left {
-                base: less.base,
-                needed: Some(needed),
-            }))
-        }
-    }
-}
+impl<'a> Trial for Blaming<'a> {
+    ghost may = { λ b net. TakesTries (the_labelled b.network.now) b.history.now b.fresh × IsPart (the_labelled b.network.now).base net };
 
-// The network without the constraint of the id.
-fn without(alloc: Global, net: &Network, id: u32) -> Result<Network, AllocError>
-    ensures without { IfOk result (λ n. the_network n ≡ without id (the_network net.now)) }
-{
-    let mut less = net.copy(alloc)?;
-    less.take_out(id);
-    Ok(less)
+    ghost says = { λ b. said_by (the_labelled b.network.now) (the_history b.history.now) b.fresh b.cap.entries };
+
+    fn find(&self, alloc: Global, net: Network) -> Result<Finding, AllocError> {
+        said_by(alloc, self.network, self.history, self.fresh, net, self.cap)
+    }
 }
 
 // What a check says of what is left by the constraints of this network.
@@ -205,11 +113,11 @@ fn said_by(
     fresh: u32,
     base: Network,
     cap: Cap,
-) -> Result<Said, AllocError>
+) -> Result<Finding, AllocError>
     requires tries { TakesTries (the_labelled network.now) history.now fresh }
     requires part { IsPart (the_labelled network.now).base (the_network base) }
     ensures said { IfOk result (λ o. answer o ≡ said_by (the_labelled network.now) (the_history history.now) fresh cap.entries (the_network base)) }
-    ensures stands { IfOk result (λ o. IfNo o (StandsBy (the_labelled network.now) (the_history history.now) fresh cap.entries (the_network base))) }
+    ensures stands { IfOk result (λ o. IfNo o (Stands (said_by (the_labelled network.now) (the_history history.now) fresh cap.entries) (the_network base))) }
 {
     parts_are_labelled();
     edits_keep_histories();
@@ -223,6 +131,6 @@ fn said_by(
     };
     let sources = sources(alloc, &remaining)?;
     let (net, _) = remaining.split();
-    let said = said_of(alloc, net, &sources, cap)?;
+    let said = find_by_sources(alloc, net, &sources, cap)?;
     Ok(said)
 }

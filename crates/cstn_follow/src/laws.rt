@@ -13,7 +13,8 @@ ghost use Rattle.cstn_history.specs.Continuations.{Continues, Can, CanWait, IsNa
 ghost use Rattle.cstn_history.specs.Rest.{is_left, number_of, rest, with_constraint};
 ghost use Rattle.cstn_history.specs.Facts.{done_refusal, with_done};
 ghost use Rattle.cstn_history.specs.Handed.{HasRoom};
-ghost use Rattle.cstn_follow.specs.Blame.{is_of, but, alone, blamed};
+ghost use Rattle.cstn_check.specs.Givers.{is_of, but};
+ghost use Rattle.cstn_follow.specs.Blame.{alone, blamed};
 ghost use Rattle.cstn_follow.specs.Progress.{HasRoomLeft, IsQuietUpto, IsStep, AreSteps, after};
 ghost use Rattle.cstn_follow.specs.Waiting.{HasRoomToWait, waiting_one, waits_until};
 

@@ -6,7 +6,8 @@ ghost use Rattle.cstn_net.specs.Read.{the_network};
 ghost use Rattle.cstn_lift.specs.Lowered.{lowered};
 ghost use Rattle.cstn_lift.specs.Read.{the_labelled};
 ghost use Rattle.cstn_lift.specs.WellFormed.{IsLabelled};
-ghost use Rattle.cstn_follow.specs.Tries.{said, with_base};
+ghost use Rattle.cstn_check.specs.Needs.{said};
+ghost use Rattle.cstn_follow.specs.Tries.{with_base};
 
 use cstn_check::{Check, Verdict, growth_decides};
 use cstn_label::{Label, NodeId};

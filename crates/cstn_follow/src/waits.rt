@@ -1,5 +1,5 @@
 // Until when a time-point can wait.
-ghost use Rattle.std.specs.Prelude.{ℕ, ◌≡◌, ◌+◌, ◌++◌, ◌∷◌, [], ◌<◌, ◌≤◌, ◌&&◌, nat_lt, IsTrue, None, Some, length, IfOk, IfSome, IsOk, IsErrOf};
+ghost use Rattle.std.specs.Prelude.{ℕ, ◌≡◌, ◌+◌, ◌++◌, ◌∷◌, [], ◌<◌, ◌≤◌, ◌&&◌, nat_lt, IsTrue, None, Some, length, IfOk, IsOk, IsErrOf};
 ghost use Rattle.std.specs.List.{All};
 ghost use Rattle.cstn_net.specs.Limits.{most_constraints, most_deadline};
 ghost use Rattle.cstn_net.specs.Networks.{IsWellFormed, count};
@@ -10,20 +10,18 @@ ghost use Rattle.cstn_history.specs.Continuations.{Can, CanWait};
 ghost use Rattle.cstn_history.specs.Rest.{is_left, rest, with_constraint};
 ghost use Rattle.cstn_history.specs.Read.{the_history, IsKeptFor};
 ghost use Rattle.cstn_history.specs.Handed.{rest_number};
-ghost use Rattle.cstn_follow.specs.Waiting.{HasRoomToWait, TakesWaiting, waiting_one, said_until, middle, halved, halving, waits_until, wait_number};
+ghost use Rattle.cstn_follow.specs.Waiting.{HasRoomToWait, TakesWaiting, waiting_one, said_until, waits_until, wait_number};
 
 use crate::errors::WaitError;
 use crate::laws::waiting_is_found;
 use crate::tries::{said, with_base};
+use cstn_check::{MomentTrial, Span, halve};
 use cstn_history::{History, RestError, numbers_left, rest};
 use cstn_label::{Label, NodeId};
 use cstn_lift::Labelled;
 use cstn_log::Cap;
 use cstn_net::{Constraint, MAX_CONSTRAINTS, Network};
 use std::alloc::{AllocError, Global};
-
-// The most checks that a search takes, by which 1,000,001 moments come down to one.
-const MAX_TRIES: u32 = 20;
 
 /// Until when a time-point that is left and isn't done can wait, in ticks: the greatest moment at which or after which some table
 /// that continues the history has it in each scenario in which it is executed. Found by at most 20 checks of what is left, each
@@ -70,7 +68,13 @@ pub fn by(
         low: history.now(),
         high: network.base().deadline(),
     };
-    match halve(alloc, &remaining, fresh, numbers[x.index()], span, cap) {
+    let waiting = Waiting {
+        remaining: &remaining,
+        fresh,
+        number: numbers[x.index()],
+        cap,
+    };
+    match halve(alloc, &waiting, span) {
         Ok(Some(moment)) => Ok(moment),
         Ok(None) => Err(WaitError::Full),
         Err(e) => Err(WaitError::Memory(e)),
@@ -98,73 +102,30 @@ pub(crate) fn has_room(network: &Labelled) -> bool
         && network.lowered().constraints().len() < MAX_CONSTRAINTS
 }
 
-/// The moments that are left to be tried, in ticks.
+// What a check says of a labelled network with a time-point at some moment or later.
 #[derive(Clone, Copy)]
-pub(crate) struct Span {
-    pub low: u32,
-    pub high: u32,
-}
-
-impl Span {
-    // The moment half-way, rounded up.
-    fn middle(self) -> u32
-        requires range { self.high ≤ most_deadline }
-        requires several { self.low < self.high }
-        ensures middle { result ≡ middle self }
-        ensures range { result ≤ most_deadline }
-    {
-        (self.low + self.high + 1) / 2
-    }
-
-    // What is left to be tried once the middle was.
-    fn halved(self, said: Option<bool>) -> Option<Span>
-        requires range { self.high ≤ most_deadline }
-        requires several { self.low < self.high }
-        ensures halved { result ≡ halved self said }
-        ensures range { IfSome result (λ s. s.high ≤ most_deadline) }
-    {
-        let middle = self.middle();
-        let is_yes = said?;
-        if is_yes {
-            Some(Span {
-                low: middle,
-                high: self.high,
-            })
-        } else {
-            Some(Span {
-                low: self.low,
-                high: middle - 1,
-            })
-        }
-    }
-}
-
-// The moment that is left by halving; none where a log that is tried is full.
-fn halve(
-    alloc: Global,
-    remaining: &Labelled,
+struct Waiting<'a> {
+    remaining: &'a Labelled,
     fresh: u32,
     number: u16,
-    span: Span,
     cap: Cap,
-) -> Result<Option<u32>, AllocError>
-    requires range { span.high ≤ most_deadline }
-    requires low { fresh ≤ 4294000000 }
-    requires takes { TakesWaiting (the_labelled remaining.now) fresh number }
-    ensures { IfOk result (λ o. o ≡ halving (said_until (the_labelled remaining.now) fresh number cap.entries) 20 span) }
-{
-    let mut span = span;
-    for _turn in 0..MAX_TRIES {
-        if span.low >= span.high {
-            return Ok(Some(span.low));
-        }
-        let said = said_until(alloc, remaining, fresh, number, span.middle(), cap)?;
-        let Some(half) = span.halved(said) else {
-            return Ok(None);
-        };
-        span = half;
+}
+
+impl<'a> MomentTrial for Waiting<'a> {
+    ghost may = { λ w. (w.fresh ≤ 4294000000) × TakesWaiting (the_labelled w.remaining.now) w.fresh w.number };
+
+    ghost says = { λ w. said_until (the_labelled w.remaining.now) w.fresh w.number w.cap.entries };
+
+    fn says(&self, alloc: Global, moment: u32) -> Result<Option<bool>, AllocError> {
+        said_until(
+            alloc,
+            self.remaining,
+            self.fresh,
+            self.number,
+            moment,
+            self.cap,
+        )
     }
-    Ok(Some(span.low))
 }
 
 // What a check says of a labelled network with a time-point at this moment or later.

@@ -1,5 +1,5 @@
 -- The network that is generated for a number and a size.
-use Rattle.std.specs.Prelude.{ℕ, zero, suc, ◌+◌, ◌*◌, ◌/◌, Bool, ◌==◌, nat_lt, if◌then◌else◌, min, max, List, ◌∷◌, ◌++◌, map, Option, Some, None, pos, ◌-ℤ◌, true, false, codes, decimal}
+use Rattle.std.specs.Prelude.{ℕ, zero, suc, ◌+◌, ◌*◌, ◌/◌, ◌==◌, nat_lt, if◌then◌else◌, min, max, List, ◌∷◌, ◌++◌, map, Option, Some, None, pos, ◌-ℤ◌, codes, decimal}
 use Rattle.std.specs.List.{range_with_len}
 use Rattle.cstn_label.specs.declared.marks.Mark.{Mark}
 use Rattle.cstn_label.specs.declared.marks.Mark.TheVariants.{Yes, No}

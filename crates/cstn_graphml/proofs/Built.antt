@@ -116,7 +116,7 @@ pub numbered_length : (k : ℕ) (cs : List DrawnConstraint) → length (numbered
 numbered_length k [] = refl
 numbered_length k (c ∷ cs) = ap suc (numbered_length (k + 1) cs)
 
-same_network : {h k : ℕ} {os ps : List (Option ℕ)} {r s : ℕ → ℕ} {cs ds : List Constraint} → h ≡ k → os ≡ ps → r ≡ s → cs ≡ ds
+pub same_network : {h k : ℕ} {os ps : List (Option ℕ)} {r s : ℕ → ℕ} {cs ds : List Constraint} → h ≡ k → os ≡ ps → r ≡ s → cs ≡ ds
     → ◌≡◌ {A = Network} (record { deadline = h; observes = os; reaction = r; constraints = cs }) (record { deadline = k; observes = ps; reaction = s; constraints = ds })
 same_network a b c d = rw (a, b, c, d) refl
 

@@ -9,8 +9,8 @@ use Rattle.cstn_markup.specs.Bytes.{is_same, when}
 use Rattle.cstn_text.specs.Names.{number_of}
 use Rattle.cstn_element.specs.Results.{Refusal, ◌>>=◌, or_refused, demand}
 use Rattle.cstn_element.specs.Results.Refusal.{shape, bad_value, unknown_node, name_twice, label_text}
-use Rattle.cstn_data.specs.NumberTexts.{deadline_of, reaction_in, IsReaction}
-use Rattle.cstn_data.specs.ValueTexts.{Pair, values_of}
+use Rattle.cstn_element.specs.NumberTexts.{deadline_of, reaction_in, IsReaction}
+use Rattle.cstn_element.specs.ValueTexts.{Pair, values_of}
 use Rattle.cstn_element.specs.Contents.{Tag, Content}
 use Rattle.cstn_element.specs.Contents.Content.{done, cut, run, element}
 use Rattle.cstn_element.specs.Elements.{Reading, read_by, Datum, blank, passed, datum, data_of, datum_of, attribute}
@@ -21,10 +21,11 @@ use Rattle.cstn_graphml.specs.Document.Part.{a_datum, a_node, an_edge, another}
 use Rattle.cstn_graphml.specs.DrawnGraphLaws.{IsDrawnGraph, IsDrawnAmong, IsWithReaction, IsLettered}
 use Rattle.cstn_label.specs.Labels.{Label, empty}
 use Rattle.cstn_label.specs.Letters.{prop_of}
-use Rattle.cstn_data.specs.LabelTexts.{label_of, IsOfLiterals}
-use Rattle.cstn_data.specs.ObservedLetters.{observed_in, maybe_prop}
-use Rattle.cstn_data.proofs.ReactionLemmas.{reaction_in_reach}
-use Rattle.cstn_data.proofs.LiteralLabels.{HasLiterals, prop_small, empty_of_literals, label_of_literals, values_of_literals}
+use Rattle.cstn_element.specs.LabelTexts.{label_of, IsOfLiterals}
+use Rattle.cstn_element.specs.ObservedLetters.{observed_in, maybe_prop}
+use Rattle.cstn_element.proofs.ReactionLemmas.{reaction_in_reach}
+use Rattle.cstn_element.proofs.LiteralLabels.{HasLiterals, empty_of_literals, label_of_literals, values_of_literals}
+use Rattle.cstn_label.proofs.LetterLemmas.{prop_small}
 
 pub bind_ok : {A B : Type 0} (o : Result A Refusal) (f : A → Result B Refusal) (y : B) → (o >>= f) ≡ Ok y → (x : A) × (o ≡ Ok x) × (f x ≡ Ok y)
 bind_ok (Ok x) f y e = (x, refl, e)

@@ -4,8 +4,8 @@ use Rattle.std.specs.Prelude.{codes, Ok, Err, pos, negsuc}
 use Rattle.cstn_net.specs.Limits.{most_reaction}
 use Rattle.cstn_markup.specs.Bytes.{resolved_after, piece_at, number_after, past_first}
 use Rattle.cstn_markup.specs.Tokens.{tokens_after, tail_at}
-use Rattle.cstn_data.specs.LabelTexts.{label_after}
-use Rattle.cstn_data.specs.ValueTexts.{pairs_after}
+use Rattle.cstn_element.specs.LabelTexts.{label_after}
+use Rattle.cstn_element.specs.ValueTexts.{pairs_after}
 use Rattle.cstn_graphml.specs.Judged.{with_pairs}
 use Rattle.std.specs.Str.Lossy.{utf8_valid_len}
 use Rattle.cstn_label.specs.Labels.{empty, with_mark}

@@ -16,7 +16,7 @@ use Rattle.cstn_label.specs.Words.{has_bit}
 use Rattle.cstn_net.specs.declared.drafts.Draft.{Draft}
 use Rattle.cstn_net.specs.declared.points.TimePoint.{TimePoint}
 use Rattle.cstn_net.specs.Drafts.{BuilderParts}
-use Rattle.cstn_data.specs.LabelTexts.{IsOfLiterals}
+use Rattle.cstn_element.specs.LabelTexts.{IsOfLiterals}
 use Rattle.cstn_graphml.specs.DrawnGraph.{Observation, DrawnConstraint}
 use Rattle.cstn_graphml.specs.DrawnGraphLaws.{IsLettered}
 use Rattle.cstn_graphml.specs.Document.{Parts}

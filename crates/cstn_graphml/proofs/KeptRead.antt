@@ -5,8 +5,8 @@ use Rattle.std.proofs.lemmas.List.{take_all, length-take, length-map, take-map, 
 use Rattle.cstn_label.specs.Labels.{Label}
 use Rattle.cstn_markup.specs.Bytes.{is_same}
 use Rattle.cstn_markup.specs.Tokens.{Token}
-use Rattle.cstn_data.specs.NumberTexts.{deadline_of}
-use Rattle.cstn_data.specs.ValueTexts.{Pair, values_of}
+use Rattle.cstn_element.specs.NumberTexts.{deadline_of}
+use Rattle.cstn_element.specs.ValueTexts.{Pair, values_of}
 use Rattle.cstn_element.specs.declared.errors.DocError.{DocError}
 use Rattle.cstn_element.specs.declared.errors.DocError.TheVariants.{NotUtf8, Shape, NameTwice, UnknownNode, Value, LabelText, Contingent, EdgeType, NoDeadline, Net, Lift, Memory}
 use Rattle.cstn_element.specs.Results.{Refusal, ◌>>=◌, or_refused, demand}

@@ -15,7 +15,7 @@ use Rattle.cstn_net.specs.Drafts.{HasReaction}
 use Rattle.cstn_net.specs.Networks.{IsWellFormed, count}
 use Rattle.cstn_lift.specs.declared.errors.LiftError.TheVariants.{NotPlain as NotPlainLabel}
 use Rattle.cstn_lift.specs.Labelled.{Labelled}
-use Rattle.cstn_data.specs.LabelTexts.{IsOfLiterals}
+use Rattle.cstn_element.specs.LabelTexts.{IsOfLiterals}
 use Rattle.cstn_markup.specs.Tokens.{tokens}
 use Rattle.cstn_element.specs.declared.errors.DocError.{DocError}
 use Rattle.cstn_element.specs.declared.errors.DocError.TheVariants.{Net, Lift}

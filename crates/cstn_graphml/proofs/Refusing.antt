@@ -23,7 +23,7 @@ use Rattle.cstn_lift.specs.Read.{LabelledParts, the_labelled}
 use Rattle.cstn_element.specs.Results.{Refusal, ◌>>=◌, or_refused, demand}
 use Rattle.cstn_element.specs.Results.Refusal.{not_utf8, no_deadline}
 use Rattle.cstn_element.specs.Contents.{Content, content_of}
-use Rattle.cstn_data.specs.LabelTexts.{IsOfLiterals}
+use Rattle.cstn_element.specs.LabelTexts.{IsOfLiterals}
 use Rattle.cstn_graphml.specs.DrawnGraph.{DrawnGraph, DrawnConstraint}
 use Rattle.cstn_graphml.specs.DrawnGraphSeen.{graph_seen, drawn_seen}
 use Rattle.cstn_graphml.specs.DrawnGraphLaws.{IsDrawnGraph, IsDrawnAmong}

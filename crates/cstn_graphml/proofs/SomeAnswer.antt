@@ -1,5 +1,5 @@
 -- A document has an answer: its parts make a labelled network where neither their network nor their labels have a fault.
-use Rattle.std.proofs.Common.{◌≡◌, ◌≢◌, ℕ, zero, suc, ◌<◌, List, [], ◌∷◌, length, map, refl, ap, sym, ◌∙◌, subst, arith, Option}
+use Rattle.std.proofs.Common.{◌≡◌, ◌≢◌, ℕ, zero, suc, ◌<◌, List, [], ◌∷◌, length, map, refl, ap, sym, ◌∙◌, subst, arith}
 use Rattle.std.specs.List.{All}
 use Rattle.std.proofs.Math.Path.{fun_ext}
 use Rattle.std.proofs.lemmas.List.{length-map}
@@ -9,7 +9,7 @@ use Rattle.cstn_label.specs.Labels.{Label}
 use Rattle.cstn_label.specs.Read.{marks}
 use Rattle.cstn_net.specs.declared.drafts.Draft.{Draft}
 use Rattle.cstn_net.specs.declared.errors.NetError.{NetError}
-use Rattle.cstn_net.specs.Networks.{Network, Constraint, IsWellFormed, count}
+use Rattle.cstn_net.specs.Networks.{Network, IsWellFormed, count}
 use Rattle.cstn_net.specs.Drafts.{BuilderParts, IsDraftAmong, IsLowestNetFault, constraints_from}
 use Rattle.cstn_net.specs.Read.{the_network, first_reaction}
 use Rattle.cstn_net.proofs.NoFault.{letter_of_label}
@@ -20,7 +20,7 @@ use Rattle.cstn_lift.specs.WellFormed.{IsLabelled}
 use Rattle.cstn_graphml.specs.DrawnGraphLaws.{IsDrawnAmong}
 use Rattle.cstn_graphml.specs.Document.{Parts}
 use Rattle.cstn_graphml.specs.Networks.{HasParts, IsHeld, IsFit, IsUnfit, IsMislabelled, network_of, labelled_of, numbered_drawn, observed_prop, observation_of, drawn_of, observed_reaction}
-use Rattle.cstn_graphml.proofs.Built.{props_kept, reactions_kept, made_constraints}
+use Rattle.cstn_graphml.proofs.Built.{props_kept, reactions_kept, made_constraints, same_network}
 use Rattle.cstn_graphml.proofs.OfDocuments.{AreDrawn, as_many_names, of_images}
 
 -- the network of a builder
@@ -29,10 +29,6 @@ made_by b = the_network (record { deadline = b.deadline; points = b.points; cons
 
 drawn_among : (n : ℕ) (ds : List Draft) → All (IsDrawnAmong n) (map drawn_of ds) → All (IsDraftAmong n) ds
 drawn_among n ds all = of_images drawn_of (IsDrawnAmong n) ds all
-
-same_network : {h k : ℕ} {os ps : List (Option ℕ)} {r s : ℕ → ℕ} {cs ds : List Constraint} → h ≡ k → os ≡ ps → r ≡ s → cs ≡ ds
-    → ◌≡◌ {A = Network} (record { deadline = h; observes = os; reaction = r; constraints = cs }) (record { deadline = k; observes = ps; reaction = s; constraints = ds })
-same_network a b c d = rw (a, b, c, d) refl
 
 -- the network of a builder that was handed these parts is the network of the parts
 made_of : (b : BuilderParts) (parts : Parts) → HasParts b parts → made_by b ≡ network_of parts

@@ -1,8 +1,8 @@
 -- What holds of everything that was read of a graph.
 use Rattle.std.specs.Prelude.{ℕ, ◌≡◌, ◌<◌, ◌+◌, List, ◌∷◌, length, Option, Some, None}
 use Rattle.std.specs.List.{All}
-use Rattle.cstn_data.specs.NumberTexts.{IsReaction}
-use Rattle.cstn_data.specs.LabelTexts.{IsOfLiterals}
+use Rattle.cstn_element.specs.NumberTexts.{IsReaction}
+use Rattle.cstn_element.specs.LabelTexts.{IsOfLiterals}
 use Rattle.cstn_graphml.specs.DrawnGraph.{Observation, DrawnGraph, DrawnConstraint, origin_name}
 use Rattle.cstn_graphml.specs.Document.{or_nothing}
 

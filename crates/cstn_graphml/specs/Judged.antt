@@ -3,13 +3,13 @@ use Rattle.std.specs.Prelude.{ℕ, ◌&&◌, not, Bool, true, false, nat_lt, nat
 use Rattle.cstn_label.specs.Labels.{Label, empty}
 use Rattle.cstn_element.specs.Results.{Refusal, ◌>>=◌, or_refused, demand}
 use Rattle.cstn_element.specs.Results.Refusal.{shape, name_twice, unknown_node, bad_value, label_text, contingent, edge_type}
-use Rattle.cstn_data.specs.NumberTexts.{deadline_of, reaction_in}
-use Rattle.cstn_data.specs.EdgeTypes.{edge_type_of}
-use Rattle.cstn_data.specs.declared.edge_types.EdgeType.{EdgeType}
-use Rattle.cstn_data.specs.declared.edge_types.EdgeType.TheVariants.{Kept, PassedOver, Contingent}
-use Rattle.cstn_data.specs.ObservedLetters.{observed_in}
-use Rattle.cstn_data.specs.LabelTexts.{label_of}
-use Rattle.cstn_data.specs.ValueTexts.{Pair, values_of}
+use Rattle.cstn_element.specs.NumberTexts.{deadline_of, reaction_in}
+use Rattle.cstn_element.specs.EdgeTypes.{edge_type_of}
+use Rattle.cstn_element.specs.declared.edge_types.EdgeType.{EdgeType}
+use Rattle.cstn_element.specs.declared.edge_types.EdgeType.TheVariants.{Kept, PassedOver, Contingent}
+use Rattle.cstn_element.specs.ObservedLetters.{observed_in}
+use Rattle.cstn_element.specs.LabelTexts.{label_of}
+use Rattle.cstn_element.specs.ValueTexts.{Pair, values_of}
 use Rattle.cstn_element.specs.Contents.{Tag}
 use Rattle.cstn_element.specs.Elements.{attribute, Datum, datum_of}
 use Rattle.cstn_graphml.specs.DrawnGraph.{DrawnGraph, DrawnConstraint, observation, node_of, with_node, with_constraint, with_deadline}

@@ -6,8 +6,7 @@ ghost use Rattle.cstn_graphml.specs.DrawnGraphSeen.{graph_seen};
 ghost use Rattle.cstn_element.specs.Reads.{Gives};
 
 use crate::drawn_graph::{DrawnGraph, put_deadline};
-use cstn_data::deadline_of;
-use cstn_element::{Datum, DocError};
+use cstn_element::{Datum, DocError, deadline_of};
 
 /// Puts in the deadline of a data element of the graph, in ticks; None is one whose key isn't used. Refused with `Value` where
 /// the text isn't of its form.

@@ -5,14 +5,16 @@ ghost use Rattle.cstn_graphml.specs.Judged.{is_kept, with_pair, with_pairs, with
 ghost use Rattle.cstn_graphml.specs.Kept.{kept, kept_by};
 ghost use Rattle.cstn_element.specs.Children.{tag_seen};
 ghost use Rattle.cstn_element.specs.DataElementSeen.{lent_datum, data_seen};
-ghost use Rattle.cstn_data.specs.TextsSeen.{pair_seen};
-ghost use Rattle.cstn_data.specs.PairsLeft.{pairs_left};
+ghost use Rattle.cstn_element.specs.TextsSeen.{pair_seen};
+ghost use Rattle.cstn_element.specs.PairsLeft.{pairs_left};
 ghost use Rattle.cstn_graphml.specs.DrawnGraphSeen.{graph_seen};
 ghost use Rattle.cstn_element.specs.Reads.{Gives, raised};
 
 use crate::drawn_graph::{DrawnConstraint, DrawnGraph, node_of, put_constraint};
-use cstn_data::{EdgeType, Pair, Pairs, edge_type_of, values_of};
-use cstn_element::{Datum, DocError, Fault, Start, datum_of, text_attribute};
+use cstn_element::{
+    Datum, DocError, EdgeType, Fault, Pair, Pairs, Start, datum_of, edge_type_of, text_attribute,
+    values_of,
+};
 use std::alloc::Global;
 
 /// Whether an edge is kept, by its data element `Type`, if it has one. A contingent or unknown type is refused.

@@ -5,14 +5,15 @@ ghost use Rattle.cstn_label.specs.Read.{marks};
 ghost use Rattle.cstn_graphml.specs.Judged.{observed, reacting, labelled, judged_node};
 ghost use Rattle.cstn_element.specs.Children.{tag_seen};
 ghost use Rattle.cstn_element.specs.DataElementSeen.{lent_datum, data_seen};
-ghost use Rattle.cstn_data.specs.TextsSeen.{prop_seen};
+ghost use Rattle.cstn_element.specs.TextsSeen.{prop_seen};
 ghost use Rattle.cstn_graphml.specs.DrawnGraph.{observation};
 ghost use Rattle.cstn_graphml.specs.DrawnGraphSeen.{observed_seen, graph_seen};
 ghost use Rattle.cstn_element.specs.Reads.{Gives, raised};
 
 use crate::drawn_graph::{DrawnGraph, Observation, node_of, put_node};
-use cstn_data::{label_of, observed_in, reaction_in};
-use cstn_element::{Datum, DocError, Fault, Start, datum_of, text_attribute};
+use cstn_element::{
+    Datum, DocError, Fault, Start, datum_of, label_of, observed_in, reaction_in, text_attribute,
+};
 use cstn_label::{Label, Prop};
 use std::alloc::Global;
 

@@ -1,23 +1,15 @@
 -- The constraints that are added in the rest, one kind after the other.
-use Rattle.std.proofs.Common.{ℕ, zero, suc, ◌≡◌, ◌⊎◌, inl, inr, ◌<◌, Bool, true, false, List, [], ◌∷◌, Option, Some, None, arith, refl, sym, subst, ap, ◌∙◌}
+use Rattle.std.proofs.Common.{ℕ, zero, suc, ◌≡◌, ◌⊎◌, inl, inr, ◌<◌, Bool, true, false, [], ◌∷◌, Option, Some, None, arith, refl, sym, subst, ap, ◌∙◌}
 use Rattle.std.specs.Prelude.{pos, ◌-ℤ◌, nat_lt, if◌then◌else◌, not, ◌&&◌}
 use Rattle.std.specs.Option.{is_some}
 use Rattle.std.specs.List.{Contains, range_with_len}
+use Rattle.std.proofs.lemmas.Bool.{lt-ltb, ltb-true}
+use Rattle.cstn_facts.proofs.Members.{flat_map_contains, flat_map_from, contains_one, contains_head}
+use Rattle.cstn_facts.proofs.Ranges.{range_contains, range_from}
 use Rattle.cstn_net.specs.Networks.{Constraint, count, limit}
 use Rattle.cstn_lift.specs.Labelled.{Labelled}
-use Rattle.cstn_lift.proofs.ListLemmas.{flat_map_contains, range_contains}
 use Rattle.cstn_history.specs.Histories.{History, is_done}
 use Rattle.cstn_history.specs.Rest.{sight_left, is_left, number_of, bare, late_one, late, moment_watched, stands_at, watched_one, watched, coming_one, coming}
-use Rattle.cstn_history.proofs.Lists.{flat_map_from, range_from, contains_one}
-
-lt_true : (a b : ℕ) → a < b → nat_lt a b ≡ true
-lt_true a b h = grind arith
-
-lt_back : (a b : ℕ) → nat_lt a b ≡ true → a < b
-lt_back a b e = grind arith
-
-head_in : {X : Type 0} → (x : X) (xs : List X) → Contains (x ∷ xs) x
-head_in x xs = (0, omega arith, refl)
 
 second_in : {X : Type 0} → (x y : X) → Contains (x ∷ (y ∷ [])) y
 second_in x y = (1, omega arith, refl)
@@ -47,7 +39,7 @@ module _ (m : Labelled) (h : History) where
   late_in x t here e above =
       let d = bare 0 0 (pos (limit m.base x) -ℤ pos t) in
       flat_map_contains (λ y. late_one m y (h.done y)) (range_with_len 0 (count m.base)) x d (range_contains (count m.base) x here)
-      (subst (λ l. Contains l d) (sym (ap (late_one m x) e ∙ ap (λ b. if b then d ∷ [] else []) (lt_true (limit m.base x) t above))) (head_in d []))
+      (subst (λ l. Contains l d) (sym (ap (late_one m x) e ∙ ap (λ b. if b then d ∷ [] else []) (lt-ltb (limit m.base x) t above))) (contains_head d []))
 
   late_by : (x : ℕ) (o : Option ℕ) (e : Constraint) → h.done x ≡ o → Contains (late_one m x o) e → IsLate e
   late_by x None e at has = absurd (none_in e has)
@@ -59,7 +51,7 @@ module _ (m : Labelled) (h : History) where
         point = x;
         moment = t;
         done = at;
-        above = lt_back (limit m.base x) t is;
+        above = ltb-true (limit m.base x) t is;
         is = contains_one (bare 0 0 (pos (limit m.base x) -ℤ pos t)) e among;
       }
       late_above false is among = absurd (none_in e among)
@@ -93,7 +85,7 @@ module _ (m : Labelled) (h : History) where
   pub watched_low : (x t p : ℕ) → suc x < count m.base → h.done (suc x) ≡ Some t → sight_left m h (suc x) ≡ Some p →
       Contains (watched m h) (bare (number_of m h (suc x)) 0 (pos 0 -ℤ pos (moment_watched m h p t)))
   watched_low x t p here e f = watched_in x t p (bare (number_of m h (suc x)) 0 (pos 0 -ℤ pos (moment_watched m h p t))) here e f
-      (head_in (bare (number_of m h (suc x)) 0 (pos 0 -ℤ pos (moment_watched m h p t))) (bare 0 (number_of m h (suc x)) (pos (moment_watched m h p t)) ∷ []))
+      (contains_head (bare (number_of m h (suc x)) 0 (pos 0 -ℤ pos (moment_watched m h p t))) (bare 0 (number_of m h (suc x)) (pos (moment_watched m h p t)) ∷ []))
 
   pub watched_high : (x t p : ℕ) → suc x < count m.base → h.done (suc x) ≡ Some t → sight_left m h (suc x) ≡ Some p →
       Contains (watched m h) (bare 0 (number_of m h (suc x)) (pos (moment_watched m h p t)))
@@ -135,8 +127,8 @@ module _ (m : Labelled) (h : History) where
       let d = bare (number_of m h x) 0 (pos 0 -ℤ pos h.now) in
       let undone : is_done h x ≡ false = ap is_some none in
       flat_map_contains (coming_one m h) (range_with_len 0 (count m.base)) x d (range_contains (count m.base) x here)
-      (subst (λ l. Contains l d) (sym (ap (λ b. if b && is_left m h x && not (is_done h x) then d ∷ [] else []) (lt_true 0 h.now later)
-      ∙ ap (λ b. if true && b && not (is_done h x) then d ∷ [] else []) left ∙ ap (λ b. if true && true && not b then d ∷ [] else []) undone)) (head_in d []))
+      (subst (λ l. Contains l d) (sym (ap (λ b. if b && is_left m h x && not (is_done h x) then d ∷ [] else []) (lt-ltb 0 h.now later)
+      ∙ ap (λ b. if true && b && not (is_done h x) then d ∷ [] else []) left ∙ ap (λ b. if true && true && not b then d ∷ [] else []) undone)) (contains_head d []))
 
   undone : (o : Option ℕ) → is_some o ≡ false → o ≡ None
   undone None e = refl

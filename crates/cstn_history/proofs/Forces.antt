@@ -5,6 +5,7 @@ use Rattle.std.specs.List.{Contains, filter_map}
 use Rattle.std.specs.Option.{is_some}
 use Rattle.std.proofs.Math.Path.{fun_ext}
 use Rattle.std.proofs.lemmas.List.Elements.{All-contains, All-contains_itself, All-weaker, Contains-append_left, Contains-append_right, Contains-append_cases}
+use Rattle.cstn_facts.proofs.Members.{filter_map_contains, filter_map_from}
 use Rattle.cstn_label.specs.Labels.{Scenario, Holds, empty, joined}
 use Rattle.cstn_label.proofs.LabelLemmas.{within_itself, holds_within, joined_empty}
 use Rattle.cstn_net.specs.Networks.{Constraint, IsConstraint, count}
@@ -14,11 +15,10 @@ use Rattle.cstn_lift.specs.WellFormed.{IsLabelled}
 use Rattle.cstn_lift.specs.Strategies.{IsInForce}
 use Rattle.cstn_lift.specs.Lowered.{numbered}
 use Rattle.cstn_lift.proofs.CompletionLemmas.{completed_least}
-use Rattle.cstn_lift.proofs.ListLemmas.{filter_map_contains, numbered_all, numbered_append, numbered_contains, numbered_length}
+use Rattle.cstn_lift.proofs.ListLemmas.{numbered_all, numbered_append, numbered_contains, numbered_length}
 use Rattle.cstn_lift.proofs.Equivalent.{full_from, full_to}
 use Rattle.cstn_history.specs.Histories.{History, IsHistory, allows, label_left, IsAllowed}
 use Rattle.cstn_history.specs.Rest.{number_of, end_left, moved, is_over, constraint_left, bare, late, watched, coming, added, rest}
-use Rattle.cstn_history.proofs.Lists.{filter_map_from}
 use Rattle.cstn_history.proofs.Settled.{some_or_none, allows_true, allows_back, allows_within, left_told, left_untold, left_joined, as_told, holds_left, holds_back, settles_absent}
 use Rattle.cstn_history.proofs.Places.{left_coming, label_new}
 use Rattle.cstn_history.proofs.Labels.{label_absent, completed_left}

@@ -1,15 +1,16 @@
 -- A labelled strategy of the rest gives a table that continues the history.
-use Rattle.std.proofs.Common.{ℕ, zero, suc, ◌≡◌, inl, inr, ◌+◌, ◌<◌, ◌≤◌, true, Option, Some, None, arith, refl, sym, subst, ap, ◌∙◌}
+use Rattle.std.proofs.Common.{ℕ, zero, suc, ◌≡◌, inl, inr, ◌+◌, ◌<◌, ◌≤◌, true, Some, None, arith, refl, sym, subst, ap, ◌∙◌}
 use Rattle.std.specs.Prelude.{ℤ, pos, ◌-ℤ◌, ◌≤ℤ◌, not, ◌&&◌, ◌==◌, int_lt}
 use Rattle.std.specs.List.{Contains}
-use Rattle.std.specs.Option.{is_some, unwrap_or}
+use Rattle.std.specs.Option.{unwrap_or}
 use Rattle.std.proofs.lemmas.Bool.{cases_lt, cases_Bool, and_parts}
 use Rattle.std.proofs.lemmas.Int.{ints}
 use Rattle.std.proofs.lemmas.List.Elements.{All-contains}
+use Rattle.cstn_facts.proofs.Options.{is_some-true}
 use Rattle.cstn_label.specs.Labels.{Scenario, Holds}
 use Rattle.cstn_label.proofs.LabelLemmas.{holds_within}
 use Rattle.cstn_net.specs.Limits.{most_deadline}
-use Rattle.cstn_net.specs.Networks.{Network, Constraint, IsConstraint, Observes, count, limit}
+use Rattle.cstn_net.specs.Networks.{Constraint, IsConstraint, Observes, count, limit}
 use Rattle.cstn_net.specs.Strategies.{Table, Meets}
 use Rattle.cstn_net.proofs.Knowledge.{observer_within}
 use Rattle.cstn_lift.specs.Labelled.{Labelled}
@@ -28,14 +29,7 @@ use Rattle.cstn_history.proofs.Reactions.{reaction_coming, reaction_origin, reac
 use Rattle.cstn_history.proofs.Values.{value_back}
 use Rattle.cstn_history.proofs.ToRest.{executed_left, executed_back, done_executed, limit_other}
 use Rattle.cstn_history.proofs.Places.{label_new}
-
-given : {T : Type 0} → (o : Option T) → is_some o ≡ true → (t : T) × (o ≡ Some t)
-given None e = absurd (cc)
-given (Some t) e = (t, refl)
-
-limit_upto : (net : Network) (x : ℕ) → limit net x ≤ net.deadline
-limit_upto net zero = omega arith
-limit_upto net (suc x) = omega arith
+use Rattle.cstn_net.proofs.Kept.{limit_upto}
 
 not_below : (v : ℤ) → not (int_lt v (pos 0)) ≡ true → pos 0 ≤ℤ v
 not_below v e = grind arith
@@ -136,8 +130,8 @@ module _ (m : Labelled) (h : History) (fresh : ℕ) (good : IsLabelled m) (known
         let a = and_parts (is_done h c.from && is_done h c.to && not (c.from == 0 && c.to == 0)) (not (int_lt (value_left h c) (pos 0))) e in
         let b = and_parts (is_done h c.from && is_done h c.to) (not (c.from == 0 && c.to == 0)) a.0 in
         let d = and_parts (is_done h c.from) (is_done h c.to) b.0 in
-        let from = given (h.done c.from) d.0 in
-        let to = given (h.done c.to) d.1 in
+        let from = is_some-true (h.done c.from) d.0 in
+        let to = is_some-true (h.done c.to) d.1 in
         let at_from = at_done s c.from from.0 from.1 in
         let at_to = at_done s c.to to.0 to.1 in
         let f : moment_done h c.from ≡ from.0 = ap (λ o. unwrap_or o 0) from.1 in

@@ -3,7 +3,7 @@ use Rattle.std.proofs.Common.{ℕ, ◌≡◌, inl, inr, ◌<◌, Bool, true, Opt
 use Rattle.cstn_label.specs.declared.marks.Mark.{Mark}
 use Rattle.cstn_label.specs.declared.marks.Mark.TheVariants.{Absent}
 use Rattle.cstn_label.specs.Labels.{Label, IsMarked, IsMarkWithin, IsWithin}
-use Rattle.cstn_label.proofs.MarkLemmas.{mark_within_absent}
+use Rattle.cstn_label.proofs.MarkLemmas.{mark_within_absent, absent_within}
 use Rattle.cstn_label.proofs.LabelLemmas.{within_same}
 use Rattle.cstn_net.specs.Networks.{Observes, count}
 use Rattle.cstn_net.proofs.Knowledge.{observer_within}
@@ -29,9 +29,6 @@ told_mark_some o a b v e = ap (λ q. told_mark q a b) e
 told_mark_none : (o : Option Bool) (a b : Mark) → o ≡ None → told_mark o a b ≡ b
 unfolding told_mark
 told_mark_none o a b e = ap (λ q. told_mark q a b) e
-
-absent_within : (a b : Mark) → a ≡ Absent → IsMarkWithin a b
-absent_within a b e = subst (λ c. IsMarkWithin c b) (sym e) tt
 
 module _ (m : Labelled) (h : History) (fresh : ℕ) (good : IsLabelled m) (known : IsHistory m h) where
   -- the observer of what isn't told, if its completed label is within an allowed one, is left

@@ -1,37 +1,10 @@
 -- Where an element of a list that is made from another one comes from, and the numbers that pass a test.
-use Rattle.std.proofs.Common.{ℕ, zero, suc, ◌≡◌, inl, inr, ◌+◌, ◌<◌, Bool, true, false, List, [], ◌∷◌, ◌++◌, length, Option, Some, arith, refl, sym, subst, ap, ◌∙◌}
+use Rattle.std.proofs.Common.{ℕ, zero, suc, ◌≡◌, inl, inr, ◌+◌, ◌<◌, Bool, true, false, List, [], ◌∷◌, ◌++◌, length, arith, refl, sym, subst, ap, ◌∙◌}
 use Rattle.std.specs.Prelude.{cond, slice_index_or}
-use Rattle.std.specs.List.{All, Contains, filter, filter_map, flat_map, range_with_len}
+use Rattle.std.specs.List.{filter, range_with_len}
 use Rattle.std.proofs.lemmas.Bool.{cases_lt, cases_Bool}
 use Rattle.std.proofs.lemmas.List.{length-append, get_or_append_left, get_or_push, append-nil}
-use Rattle.std.proofs.lemmas.List.Elements.{All-contains, All-contains_itself, All-weaker, filter-append}
-use Rattle.cstn_lift.proofs.ListLemmas.{filter_map_all, flat_map_all, range_all}
-
-pub filter_map_from : {X Y : Type 0} → (h : X → Option Y) (xs : List X) (y : Y) → Contains (filter_map h xs) y →
-    (x : X) × Contains xs x × (h x ≡ Some y)
-filter_map_from {X} {Y} h xs y has =
-    let P : Y → Type 0 = λ z. (x : X) × Contains xs x × (h x ≡ Some z) in
-    All-contains P (filter_map h xs) y
-    (filter_map_all P h xs (All-weaker (Contains xs) (λ x. (z : Y) → h x ≡ Some z → P z) (λ x among z is. (x, among, is)) xs (All-contains_itself xs))) has
-
-pub flat_map_from : {X Y : Type 0} → (f : X → List Y) (xs : List X) (y : Y) → Contains (flat_map f xs) y →
-    (x : X) × Contains xs x × Contains (f x) y
-flat_map_from {X} {Y} f xs y has =
-    let P : Y → Type 0 = λ z. (x : X) × Contains xs x × Contains (f x) z in
-    All-contains P (flat_map f xs) y
-    (flat_map_all P f xs (All-weaker (Contains xs) (λ x. All P (f x))
-    (λ x among. All-weaker (Contains (f x)) P (λ z there. (x, among, there)) (f x) (All-contains_itself (f x))) xs (All-contains_itself xs))) has
-
-pub range_from : (n i : ℕ) → Contains (range_with_len 0 n) i → i < n
-range_from n i has = All-contains (λ k. k < n) (range_with_len 0 n) i (range_all (λ k. k < n) 0 n (λ k low high. omega arith)) has
-
-pub contains_one : {X : Type 0} → (x y : X) → Contains (x ∷ []) y → x ≡ y
-contains_one x y (zero, inside, here) = here
-contains_one x y (suc k, inside, here) = absurd (omega arith)
-
-pub range_snoc : (a n j : ℕ) → a + n ≡ j → range_with_len a (suc n) ≡ range_with_len a n ++ j ∷ []
-range_snoc a zero j e = let same : a ≡ j = omega arith in ap (λ k. k ∷ []) same
-range_snoc a (suc n) j e = ap (λ l. a ∷ l) (range_snoc (a + 1) n j (omega arith))
+use Rattle.cstn_facts.proofs.Ranges.{passing_next as one_more}
 
 -- the numbers below n that pass a test, and where each of them stands
 module _ (test : ℕ → Bool) where
@@ -42,7 +15,7 @@ module _ (test : ℕ → Bool) where
   place n = length (passing n)
 
   pub passing_next : (n : ℕ) → passing (suc n) ≡ passing n ++ cond (test n) (n ∷ []) []
-  passing_next n = ap (filter test) (range_snoc 0 n n (omega arith)) ∙ filter-append test (range_with_len 0 n) (n ∷ [])
+  passing_next n = let next : suc n ≡ n + 1 = omega arith in ap passing next ∙ one_more test n
 
   pub passing_yes : (n : ℕ) → test n ≡ true → passing (suc n) ≡ passing n ++ n ∷ []
   passing_yes n e = passing_next n ∙ ap (λ b. passing n ++ cond b (n ∷ []) []) e

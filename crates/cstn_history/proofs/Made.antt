@@ -1,17 +1,18 @@
 -- The parts of the rest as the program makes them.
 use Rattle.std.proofs.Common.{ℕ, zero, suc, ◌≡◌, ◌+◌, ◌<◌, true, false, List, [], ◌∷◌, ◌++◌, Some, length, arith, refl, sym, subst, ap, ◌∙◌, append_assoc}
-use Rattle.std.specs.Prelude.{map, slice_index_or, if◌then◌else◌, not, ◌&&◌, nat_lt, pos, ◌-ℤ◌}
+use Rattle.std.specs.Prelude.{map, slice_index_or, if◌then◌else◌, not, ◌&&◌, pos, ◌-ℤ◌}
 use Rattle.std.specs.List.{flat_map, range_with_len}
 use Rattle.std.proofs.lemmas.Grind.{flat_map-append}
 use Rattle.std.proofs.lemmas.List.{append-nil, map-append, length-map}
 use Rattle.std.proofs.lemmas.List.FromFn.{length-map-range_with_len, get_or-map-range_with_len}
+use Rattle.std.proofs.lemmas.Bool.{lt-ltb}
+use Rattle.cstn_facts.proofs.Ranges.{range_more}
 use Rattle.cstn_net.specs.declared.constraints.Constraint.{Constraint}
 use Rattle.cstn_net.specs.Networks.{Constraint as TheConstraint, count}
 use Rattle.cstn_net.specs.Read.{the_constraint}
 use Rattle.cstn_lift.specs.Labelled.{Labelled}
 use Rattle.cstn_lift.specs.Lowered.{numbered}
-use Rattle.cstn_history.proofs.Lists.{range_snoc}
-use Rattle.cstn_history.proofs.Forces.{numbered_long, numbered_more}
+use Rattle.cstn_history.proofs.Forces.{numbered_more, numbered_long}
 use Rattle.cstn_history.specs.Histories.{History, is_done}
 use Rattle.cstn_history.specs.Rest.{sight_left, is_left, number_of, end_left, bare, stands_at, moment_watched, watched_one, coming_one}
 use Rattle.cstn_history.specs.Handed.{AreNumbers, HasAdded, Adds}
@@ -51,10 +52,9 @@ adds_turn fresh old mid new f x first more cs has =
   where
     next : (i : ℕ) → (cs ++ flat_map f (range_with_len 0 i)) ++ f i ≡ cs ++ flat_map f (range_with_len 0 (i + 1))
     next i =
-        let later : i + 1 ≡ suc i = omega arith in
         append_assoc cs (flat_map f (range_with_len 0 i)) (f i) ∙ ap (λ l. cs ++ l)
         (ap (λ l. flat_map f (range_with_len 0 i) ++ l) (sym (append-nil (f i))) ∙ sym (flat_map-append f (range_with_len 0 i) (i ∷ []))
-        ∙ ap (flat_map f) (sym (range_snoc 0 i i (omega arith)) ∙ ap (range_with_len 0) (sym later)))
+        ∙ ap (flat_map f) (sym (range_more 0 i i (omega arith))))
 
 -- what is added for a watched time-point
 pub watched_adds : (m : Labelled) (h : History) (x t p : ℕ) → (x ≡ 0 → ⊥) → h.done x ≡ Some t → sight_left m h x ≡ Some p →
@@ -62,13 +62,10 @@ pub watched_adds : (m : Labelled) (h : History) (x t p : ℕ) → (x ≡ 0 → �
 watched_adds m h zero t p other e f = absurd (other refl)
 watched_adds m h (suc x) t p other e f = ap (λ o. watched_one m h (suc x) o (sight_left m h (suc x))) e ∙ ap (watched_one m h (suc x) (Some t)) f
 
-later_true : (a b : ℕ) → a < b → nat_lt a b ≡ true
-later_true a b h = grind arith
-
 -- what is added for a time-point that is to come
 pub coming_adds : (m : Labelled) (h : History) (x : ℕ) → 0 < h.now → is_left m h x ≡ true → is_done h x ≡ false →
     coming_one m h x ≡ bare (number_of m h x) 0 (pos 0 -ℤ pos h.now) ∷ []
 coming_adds m h x later left undone =
     let d = bare (number_of m h x) 0 (pos 0 -ℤ pos h.now) in
-    ap (λ b. if b && is_left m h x && not (is_done h x) then d ∷ [] else []) (later_true 0 h.now later)
+    ap (λ b. if b && is_left m h x && not (is_done h x) then d ∷ [] else []) (lt-ltb 0 h.now later)
     ∙ ap (λ b. if true && b && not (is_done h x) then d ∷ [] else []) left ∙ ap (λ b. if true && true && not b then d ∷ [] else []) undone

@@ -1,13 +1,15 @@
 -- While nothing has happened, the rest is the network itself.
-use Rattle.std.proofs.Common.{ℕ, zero, suc, ◌≡◌, ◌<◌, ◌≤◌, Bool, true, false, List, [], ◌∷◌, ◌++◌, length, Option, Some, None, arith, refl, sym, ap, ◌∙◌}
+use Rattle.std.proofs.Common.{ℕ, zero, suc, ◌≡◌, ◌<◌, ◌≤◌, Bool, true, false, [], ◌++◌, length, get_or, Option, Some, None, arith, refl, sym, ap, ◌∙◌}
 use Rattle.std.specs.Prelude.{map, slice_index_or, if◌then◌else◌, not, ◌&&◌, ◌==◌, ℤ, pos, ◌+ℤ◌, ◌-ℤ◌, int_lt}
 use Rattle.std.specs.Option.{is_some, unwrap_or}
-use Rattle.std.specs.List.{All, filter, filter_map, flat_map, range_with_len, cons_option}
+use Rattle.std.specs.List.{filter_map, range_with_len}
 use Rattle.std.proofs.Math.Path.{fun_ext}
 use Rattle.std.proofs.lemmas.Int.{ints, clamps}
 use Rattle.std.proofs.lemmas.List.{append-nil}
-use Rattle.std.proofs.lemmas.List.Elements.{All-head, All-tail, All-weaker}
+use Rattle.std.proofs.lemmas.List.Elements.{All-weaker}
 use Rattle.std.proofs.lemmas.List.FromFn.{length-range_with_len, fill_by_all}
+use Rattle.cstn_facts.proofs.Members.{filter_map_whole, flat_map_none}
+use Rattle.cstn_facts.proofs.Filters.{filter_whole}
 use Rattle.cstn_label.specs.declared.marks.Mark.TheVariants.{Absent}
 use Rattle.cstn_label.specs.Labels.{Label, IsWithin, empty}
 use Rattle.cstn_net.specs.Networks.{Constraint, IsValue, count}
@@ -21,20 +23,6 @@ use Rattle.cstn_lift.proofs.CompletionLemmas.{completed_least}
 use Rattle.cstn_history.specs.Histories.{History, IsHistory, Settles, nothing_yet, origin_alone, allows, label_left}
 use Rattle.cstn_history.specs.Rest.{untold, sight_left, is_left, left, left_upto, end_left, moment_done, value_left, cut, moved, is_over, constraint_left, late_one, watched_one, coming_one, watched, coming, added, reaction_by, rest}
 use Rattle.cstn_history.proofs.Settled.{allows_true}
-
-filter_whole : (test : ℕ → Bool) (each : (x : ℕ) → test x ≡ true) (xs : List ℕ) → filter test xs ≡ xs
-filter_whole test each [] = refl
-filter_whole test each (x ∷ xs) = ap (λ b. if b then x ∷ filter test xs else filter test xs) (each x) ∙ ap (λ l. x ∷ l) (filter_whole test each xs)
-
-filter_map_whole : {X : Type 0} → (h : X → Option X) (xs : List X) → All (λ x. h x ≡ Some x) xs → filter_map h xs ≡ xs
-filter_map_whole h [] all = refl
-filter_map_whole h (x ∷ xs) all =
-    ap (λ o. cons_option o (filter_map h xs)) (All-head (λ y. h y ≡ Some y) x xs all)
-    ∙ ap (λ l. x ∷ l) (filter_map_whole h xs (All-tail (λ y. h y ≡ Some y) x xs all))
-
-flat_map_nothing : {X Y : Type 0} → (f : X → List Y) (each : (x : X) → f x ≡ []) (xs : List X) → flat_map f xs ≡ []
-flat_map_nothing f each [] = refl
-flat_map_nothing f each (x ∷ xs) = ap (λ l. l ++ flat_map f xs) (each x) ∙ flat_map_nothing f each xs
 
 untold_whole : (o : Option ℕ) → untold nothing_yet o ≡ o
 untold_whole None = refl
@@ -66,7 +54,7 @@ module _ (m : Labelled) (fresh : ℕ) (good : IsLabelled m) where
   all_left (suc x) = all_allowed (completed_label m (suc x))
 
   left_whole : (n : ℕ) → left_upto m nothing_yet n ≡ range_with_len 0 n
-  left_whole n = filter_whole (is_left m nothing_yet) all_left (range_with_len 0 n)
+  left_whole n = filter_whole (is_left m nothing_yet) (range_with_len 0 n) all_left
 
   observes_whole : map (sight_left m nothing_yet) (left m nothing_yet) ≡ m.base.observes
   observes_whole = ap (map (sight_left m nothing_yet)) (left_whole (count m.base))
@@ -112,9 +100,9 @@ module _ (m : Labelled) (fresh : ℕ) (good : IsLabelled m) where
   added_none : added m nothing_yet ≡ []
   added_none =
       let range = range_with_len 0 (count m.base) in
-      ap (λ l. l ++ (watched m nothing_yet ++ coming m nothing_yet)) (flat_map_nothing (λ x. late_one m x (origin_alone x)) late_none range)
-      ∙ ap (λ l. l ++ coming m nothing_yet) (flat_map_nothing (λ x. watched_one m nothing_yet x (origin_alone x) (sight_left m nothing_yet x)) watched_none range)
-      ∙ flat_map_nothing (coming_one m nothing_yet) (λ x. refl) range
+      ap (λ l. l ++ (watched m nothing_yet ++ coming m nothing_yet)) (flat_map_none (λ x. late_one m x (origin_alone x)) range (λ k d inside. late_none (get_or range k d)))
+      ∙ ap (λ l. l ++ coming m nothing_yet) (flat_map_none (λ x. watched_one m nothing_yet x (origin_alone x) (sight_left m nothing_yet x)) range (λ k d inside. watched_none (get_or range k d)))
+      ∙ flat_map_none (coming_one m nothing_yet) range (λ k d inside. refl)
 
   constraints_whole : filter_map (constraint_left m nothing_yet) m.base.constraints ++ numbered fresh (added m nothing_yet) ≡ m.base.constraints
   constraints_whole =

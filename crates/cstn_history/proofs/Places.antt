@@ -43,9 +43,6 @@ abbrev pub old : Labelled → History → ℕ → ℕ
 old m h k = slice_index_or (left m h) k 0
 
 module _ (m : Labelled) (h : History) (fresh : ℕ) (good : IsLabelled m) (known : IsHistory m h) where
-  abbrev R : Labelled
-  R = rest m h fresh
-
   abbrev new : ℕ → ℕ
   new = number_of m h
 
@@ -73,29 +70,29 @@ module _ (m : Labelled) (h : History) (fresh : ℕ) (good : IsLabelled m) (known
       left_by (suc y) b none = allows_back m h good known (completed_label m (suc y))
           (sym (ap (λ o. if is_some o then is_some (sight_left m h (suc y)) else allows h (completed_label m (suc y))) none) ∙ b)
 
-  pub count_left : count R.base ≡ length (left m h)
+  pub count_left : count (rest m h fresh).base ≡ length (left m h)
   count_left = length-map (left m h) (sight_left m h)
 
-  pub new_inside : (x : ℕ) → x < count m.base → is_left m h x ≡ true → new x < count R.base
+  pub new_inside : (x : ℕ) → x < count m.base → is_left m h x ≡ true → new x < count (rest m h fresh).base
   new_inside x here e = let at = (place_found (is_left m h) (count m.base) x here e).0 in let long = count_left in omega arith
 
   pub old_new : (x : ℕ) → x < count m.base → is_left m h x ≡ true → old m h (new x) ≡ x
   old_new x here e = (place_found (is_left m h) (count m.base) x here e).1
 
-  pub old_stands : (k : ℕ) → k < count R.base → (old m h k < count m.base) × (is_left m h (old m h k) ≡ true) × (new (old m h k) ≡ k)
+  pub old_stands : (k : ℕ) → k < count (rest m h fresh).base → (old m h k < count m.base) × (is_left m h (old m h k) ≡ true) × (new (old m h k) ≡ k)
   old_stands k inside = place_back (is_left m h) (count m.base) k (let long = count_left in omega arith)
 
   pub old_origin : old m h 0 ≡ 0
   old_origin = old_new 0 good.base.network.origin refl
 
-  pub old_other : (k : ℕ) → k < count R.base → old m h k ≡ 0 → k ≡ 0
+  pub old_other : (k : ℕ) → k < count (rest m h fresh).base → old m h k ≡ 0 → k ≡ 0
   old_other k inside e = sym (old_stands k inside).2 ∙ ap new e
 
   -- what is observed in the rest
-  pub sight_at : (k : ℕ) → k < count R.base → slice_index_or R.base.observes k None ≡ sight_left m h (old m h k)
+  pub sight_at : (k : ℕ) → k < count (rest m h fresh).base → slice_index_or (rest m h fresh).base.observes k None ≡ sight_left m h (old m h k)
   sight_at k inside = get_or-map (sight_left m h) (left m h) k 0 None (let long = count_left in omega arith)
 
-  pub observes_left : (x p : ℕ) → Observes m.base x p → h.told p ≡ None → is_left m h x ≡ true → Observes R.base (new x) p
+  pub observes_left : (x p : ℕ) → Observes m.base x p → h.told p ≡ None → is_left m h x ≡ true → Observes (rest m h fresh).base (new x) p
   observes_left x p o none e =
       let here = observer_within m.base x p o in
       record {
@@ -103,15 +100,15 @@ module _ (m : Labelled) (h : History) (fresh : ℕ) (good : IsLabelled m) (known
             ∙ sight_of h (slice_index_or m.base.observes x None) p o.what none;
       }
 
-  pub observes_back : (k p : ℕ) → Observes R.base k p → (k < count R.base) × (h.told p ≡ None) × Observes m.base (old m h k) p
+  pub observes_back : (k p : ℕ) → Observes (rest m h fresh).base k p → (k < count (rest m h fresh).base) × (h.told p ≡ None) × Observes m.base (old m h k) p
   observes_back k p o =
-      let inside = observer_within R.base k p o in
+      let inside = observer_within (rest m h fresh).base k p o in
       let both = sight_back h (slice_index_or m.base.observes (old m h k) None) p (sym (sight_at k inside) ∙ o.what) in
       (inside, both.1, record { what = both.0 })
 
   -- the labels in the rest
-  pub label_at : (k : ℕ) → k < count R.base → label_of R k ≡ label_left h (label_of m (old m h k))
+  pub label_at : (k : ℕ) → k < count (rest m h fresh).base → label_of (rest m h fresh) k ≡ label_left h (label_of m (old m h k))
   label_at k inside = get_or-map (λ x. label_left h (label_of m x)) (left m h) k 0 empty (let long = count_left in omega arith)
 
-  pub label_new : (x : ℕ) → x < count m.base → is_left m h x ≡ true → label_of R (new x) ≡ label_left h (label_of m x)
+  pub label_new : (x : ℕ) → x < count m.base → is_left m h x ≡ true → label_of (rest m h fresh) (new x) ≡ label_left h (label_of m x)
   label_new x here e = label_at (new x) (new_inside x here e) ∙ ap (λ y. label_left h (label_of m y)) (old_new x here e)

@@ -2,7 +2,7 @@
 use Rattle.std.proofs.Common.{ℕ, zero, suc, ◌≡◌, ◌⊎◌, inl, inr, ◌<◌, ◌≤◌, Bool, true, false, List, Option, Some, None, length, arith, refl, sym, subst, ap, ◌∙◌}
 use Rattle.std.specs.Prelude.{cond, max, nat_lt, nat_le, ◌==◌, ◌&&◌, not, slice_index_or, slice_set, if◌then◌else◌}
 use Rattle.std.proofs.Math.Path.{fun_ext}
-use Rattle.std.proofs.lemmas.Bool.{cases_eq, eq-eqb, ne_eqb, and_parts}
+use Rattle.std.proofs.lemmas.Bool.{cases_eq, eq-eqb, ne_eqb, and_parts, ltb-true, ltb-false, leb-true, leb-false, le-ltb}
 use Rattle.std.proofs.lemmas.List.{length-set, get_or-set_same, get_or-set_other}
 use Rattle.cstn_label.specs.declared.nodes.NodeId.{NodeId}
 use Rattle.cstn_label.specs.declared.props.Prop.{Prop}
@@ -20,7 +20,8 @@ use Rattle.cstn_lift.proofs.FullLemmas.{full_on}
 use Rattle.cstn_lift.proofs.LoweredLemmas.{observer_back, observer_found}
 use Rattle.cstn_history.specs.declared.errors.FactError.{FactError}
 use Rattle.cstn_history.specs.declared.errors.FactError.TheVariants.{Past, OutOfRange}
-use Rattle.cstn_history.specs.Histories.{IsTimelyHistory, History, IsHistory, IsInTime, IsObservedAt, SettlesMark, Settles, IsOnLetters}
+use Rattle.cstn_label.specs.OnLetters.{IsOnLetters}
+use Rattle.cstn_history.specs.Histories.{IsTimelyHistory, History, IsHistory, IsInTime, IsObservedAt, SettlesMark, Settles}
 use Rattle.cstn_history.specs.Read.{HistoryParts, the_history, IsKeptFor}
 use Rattle.cstn_history.specs.Facts.{settles, is_beyond, now_refusal, again_refusal, done_refusal, since, observed_since, again_told, told_after, told_refusal, latest_expected, again_expected, expected_after, expected_refusal, at_now, with_done, with_told, with_expected}
 use Rattle.cstn_history.proofs.Settled.{settles_absent}
@@ -28,18 +29,6 @@ use Rattle.cstn_history.proofs.Told.{settles_back}
 
 not_beyond : (t : ℕ) → nat_lt most_deadline t ≡ false → t ≤ most_deadline
 not_beyond t e = grind arith
-
-not_le : (a b : ℕ) → nat_le a b ≡ false → b < a
-not_le a b e = grind arith
-
-is_le : (a b : ℕ) → nat_le a b ≡ true → a ≤ b
-is_le a b e = grind arith
-
-not_lt : (a b : ℕ) → nat_lt a b ≡ false → b ≤ a
-not_lt a b e = grind arith
-
-is_lt : (a b : ℕ) → nat_lt a b ≡ true → a < b
-is_lt a b e = grind arith
 
 -- where a test that refuses is passed, it is false, and the rest isn't refused either
 passed : (b : Bool) (e : FactError) (o : Option FactError) → (if b then Some e else o) ≡ None → (b ≡ false) × (o ≡ None)
@@ -49,10 +38,6 @@ passed false e o is = (refl, is)
 accepted : (b : Bool) (e : FactError) → (if b then None else Some e) ≡ None → b ≡ true
 accepted true e is = refl
 accepted false e is = absurd (cc)
-
-not_true : (b : Bool) → not b ≡ true → b ≡ false
-not_true true e = absurd (cc)
-not_true false e = refl
 
 -- an entry that was set, and the others
 module _ {T : Type 0} (f : ℕ → Option T) (x : ℕ) (v : T) where
@@ -92,7 +77,7 @@ module _ (m : Labelled) (h : History) (known : IsHistory m h) (timely : IsInTime
   now_free t e =
       let a = passed (nat_lt t h.now) _ _ e in
       let b = passed (is_beyond t) _ _ a.1 in
-      (not_lt t h.now a.0, not_beyond t b.0)
+      (ltb-false t h.now a.0, not_beyond t b.0)
 
   pub now_history : (t : ℕ) → now_refusal h t ≡ None → IsHistory m (at_now h t)
   now_history t e =
@@ -122,7 +107,7 @@ module _ (m : Labelled) (good : IsLabelled m) (h : History) (known : IsHistory m
     in_range = not_beyond t (passed (is_beyond t) _ _ e).0
 
     inside : x.0 < count m.base
-    inside = not_le (count m.base) x.0 (passed (nat_le (count m.base) x.0) _ _ (passed (is_beyond t) _ _ e).1).0
+    inside = leb-false (count m.base) x.0 (passed (nat_le (count m.base) x.0) _ _ (passed (is_beyond t) _ _ e).1).0
 
     again : again_refusal m h x (h.done x.0) ≡ None
     again = (passed (nat_le (count m.base) x.0) _ _ (passed (is_beyond t) _ _ e).1).1
@@ -244,8 +229,8 @@ module _ (m : Labelled) (good : IsLabelled m) (h : History) (known : IsHistory m
         record {
           u = u;
           observed = since_from p.index u (observer_of m.base p.index) refl at;
-          after = is_lt u t b.1;
-          upto = is_le t (latest_expected (observer_of m.base p.index)) a.1;
+          after = ltb-true u t b.1;
+          upto = leb-true t (latest_expected (observer_of m.base p.index)) a.1;
         }
       where
         tested : (o : Option Bool) → again_expected m h t p u o ≡ None →
@@ -348,12 +333,9 @@ pub latest_other : (x : ℕ) → (x ≡ 0 → ⊥) → latest_expected (Some x) 
 latest_other zero other = absurd (other refl)
 latest_other (suc x) other = refl
 
-lt_false : (a b : ℕ) → b ≤ a → nat_lt a b ≡ false
-lt_false a b h = grind arith
-
 pub now_passes : (h : History) (t : ℕ) → h.now ≤ t → is_beyond t ≡ false → now_refusal h t ≡ None
 now_passes h t low high =
-    ap (λ b. if b then Some (Past h.now) else if is_beyond t then Some (OutOfRange t) else None) (lt_false t h.now low)
+    ap (λ b. if b then Some (Past h.now) else if is_beyond t then Some (OutOfRange t) else None) (le-ltb t h.now low)
     ∙ ap (λ b. if b then Some (OutOfRange t) else None) high
 
 pub timely_now : (m : Labelled) (h : History) (t : ℕ) → IsHistory m h → IsInTime m h → now_refusal h t ≡ None → IsTimelyHistory m (at_now h t)

@@ -1,23 +1,17 @@
 -- What was told, and the labels that are left without it.
-use Rattle.std.proofs.Common.{ℕ, ◌≡◌, ◌⊎◌, inl, inr, ◌<◌, Bool, true, Option, Some, None, arith, refl, sym, subst, ap, ◌∙◌}
+use Rattle.std.proofs.Common.{ℕ, ◌≡◌, ◌⊎◌, inl, inr, ◌<◌, Bool, true, Option, Some, None, refl, sym, subst, ap, ◌∙◌}
 use Rattle.std.specs.List.{range_with_len}
 use Rattle.std.proofs.Math.Path.{fun_ext}
 use Rattle.std.proofs.lemmas.List.Elements.{All-contains}
 use Rattle.std.proofs.lemmas.List.Sums.{list_all-from_AllPass, AllPass-from_list_all}
+use Rattle.cstn_facts.proofs.Ranges.{range_contains, range_all}
 use Rattle.cstn_label.specs.declared.marks.Mark.{Mark}
 use Rattle.cstn_label.specs.declared.marks.Mark.TheVariants.{Absent}
 use Rattle.cstn_label.specs.Labels.{Label, Scenario, MarkFits, Holds, IsMarked, IsMarkWithin, IsWithin, joined, joined_mark}
-use Rattle.cstn_label.proofs.MarkLemmas.{mark_fits_within}
+use Rattle.cstn_label.proofs.MarkLemmas.{mark_fits_within, fits_true, true_fits}
 use Rattle.cstn_lift.specs.Labelled.{Labelled}
 use Rattle.cstn_lift.specs.WellFormed.{IsLabelled}
-use Rattle.cstn_lift.proofs.ListLemmas.{range_contains, range_all}
-use Rattle.cstn_history.specs.Histories.{History, IsHistory, AgreesWith, SettlesMark, Settles, is_fit, allows_mark, allows, mark_left, label_left, IsAllowed}
-
-fit_right : (v : Bool) (a : Mark) → is_fit v a ≡ true → MarkFits v a
-fit_right v a e = grind arith
-
-fit_true : (v : Bool) (a : Mark) → MarkFits v a → is_fit v a ≡ true
-fit_true v a h = grind arith
+use Rattle.cstn_history.specs.Histories.{History, IsHistory, AgreesWith, SettlesMark, Settles, allows_mark, allows, mark_left, label_left, IsAllowed}
 
 pub some_or_none : {T : Type 0} → (o : Option T) → ((v : T) × (o ≡ Some v)) ⊎ (o ≡ None)
 some_or_none None = inr refl
@@ -25,10 +19,10 @@ some_or_none (Some v) = inl (v, refl)
 
 allowed_there : (o : Option Bool) (a : Mark) → ((v : Bool) → o ≡ Some v → MarkFits v a) → allows_mark o a ≡ true
 allowed_there None a h = refl
-allowed_there (Some v) a h = fit_true v a (h v refl)
+allowed_there (Some v) a h = true_fits v a (h v refl)
 
 allowed_back : (o : Option Bool) (a : Mark) (v : Bool) → allows_mark o a ≡ true → o ≡ Some v → MarkFits v a
-allowed_back o a v e is = fit_right v a (subst (λ q. allows_mark q a ≡ true) is e)
+allowed_back o a v e is = fits_true v a (subst (λ q. allows_mark q a ≡ true) is e)
 
 pub allows_true : (h : History) (a : Label) → IsAllowed h a → allows h a ≡ true
 unfolding allows

@@ -7,27 +7,24 @@ use Rattle.std.proofs.Math.Path.{fun_ext}
 use Rattle.std.proofs.lemmas.Bool.{cases_lt, cases_eq, eq-eqb, ne_eqb}
 use Rattle.std.proofs.lemmas.List.Elements.{All-contains}
 use Rattle.std.proofs.lemmas.List.Sums.{list_all-from_AllPass, AllPass-from_list_all}
+use Rattle.std.proofs.lemmas.Option.{cond_some}
+use Rattle.cstn_facts.proofs.Ranges.{range_contains, range_all}
+use Rattle.cstn_facts.proofs.Booleans.{same_truth}
 use Rattle.cstn_label.specs.declared.marks.Mark.{Mark}
 use Rattle.cstn_label.specs.declared.marks.Mark.TheVariants.{Absent}
 use Rattle.cstn_label.specs.declared.knowledge.Known.{Known}
 use Rattle.cstn_label.specs.Labels.{Label, MarkFits, IsPossible, without}
 use Rattle.cstn_label.specs.Words.{has_bit}
 use Rattle.cstn_label.specs.Read.{is_known, the_values, known_value}
-use Rattle.cstn_lift.proofs.ListLemmas.{range_contains, range_all}
-use Rattle.cstn_history.specs.Histories.{History, SettlesMark, Settles, allows, mark_left, label_left, IsAllowed, IsOnLetters}
+use Rattle.cstn_label.specs.OnLetters.{IsOnLetters}
+use Rattle.cstn_history.specs.Histories.{History, SettlesMark, Settles, allows, mark_left, label_left, IsAllowed}
 use Rattle.cstn_history.specs.Facts.{settles_mark, settles}
 use Rattle.cstn_history.proofs.Settled.{allows_true, allows_below, settles_left, settles_allows}
-
-known_by : (b w v : Bool) → (if b then Some w else None) ≡ Some v → (b ≡ true) × (w ≡ v)
-known_by true w v e = (refl, (let same : w ≡ v = cc in same))
-known_by false w v e = absurd (cc)
-
-absent_fits : (v : Bool) (a : Mark) → a ≡ Absent → MarkFits v a
-absent_fits v a e = subst (MarkFits v) (sym e) tt
+use Rattle.cstn_label.proofs.MarkLemmas.{fits_absent}
 
 possible_allows : (k : Known) (h : History) (a : Label) → h.told ≡ known_value k → IsPossible (is_known k) (the_values k) a → IsAllowed h a
 possible_allows k h a same possible p v e =
-    let both = known_by (has_bit k.seen p) (the_values k p) v (sym (ap (λ f. f p) same) ∙ e) in
+    let both = cond_some (has_bit k.seen p) (the_values k p) v (sym (ap (λ f. f p) same) ∙ e) in
     subst (λ w. MarkFits w (a p)) both.1 (possible p both.0)
 
 allows_possible : (k : Known) (h : History) (a : Label) → h.told ≡ known_value k → IsOnLetters a → allows h a ≡ true →
@@ -35,18 +32,13 @@ allows_possible : (k : Known) (h : History) (a : Label) → h.told ≡ known_val
 allows_possible k h a same below e p known = elim (cases_lt p 52) [
   | inl inside ↦ allows_below h a e p (the_values k p) inside
       (ap (λ f. f p) same ∙ ap (λ b. if b then Some (the_values k p) else None) known)
-  | inr past ↦ absent_fits (the_values k p) (a p) (below p past)
+  | inr past ↦ fits_absent (the_values k p) (a p) (below p past)
 ]
-
-both_ways : (b d : Bool) → (b ≡ true → d ≡ true) → (d ≡ true → b ≡ true) → b ≡ d
-both_ways true d f g = sym (f refl)
-both_ways false true f g = g refl
-both_ways false false f g = refl
 
 -- the program's test whether what is told allows a label
 pub allowed_is : (k : Known) (h : History) (a : Label) (b : Bool) → h.told ≡ known_value k → IsOnLetters a →
     (IsTrue b ↔ IsPossible (is_known k) (the_values k) a) → b ≡ allows h a
-allowed_is k h a b same below test = both_ways b (allows h a)
+allowed_is k h a b same below test = same_truth b (allows h a)
     (λ e. allows_true h a (possible_allows k h a same (test.0 e)))
     (λ e. test.1 (allows_possible k h a same below e))
 
@@ -60,7 +52,7 @@ settle_true (Some v) a s = grind arith
 
 settle_absent : (o : Option Bool) (a : Mark) → a ≡ Absent → SettlesMark o a
 settle_absent None a e = e
-settle_absent (Some v) a e = absent_fits v a e
+settle_absent (Some v) a e = fits_absent v a e
 
 pub settles_true : (h : History) (a : Label) → Settles h a → settles h a ≡ true
 unfolding settles
@@ -81,18 +73,18 @@ settle_by (Some v) a fits gone = fits v refl
 
 -- the program's test whether what is told settles a label: nothing is left of it, and it is allowed
 pub settled_is : (h : History) (a : Label) (b : Bool) → IsOnLetters a → b ≡ allows h a → ((p : ℕ) → label_left h a p ≡ Absent) → b ≡ settles h a
-settled_is h a b below allowed gone = both_ways b (settles h a)
+settled_is h a b below allowed gone = same_truth b (settles h a)
     (λ e. settles_true h a (λ p. settle_by (h.told p) (a p) (fits (sym allowed ∙ e) p) (gone p)))
     (λ e. allowed ∙ allows_true h a (settles_allows h a (settles_back h a below e)))
   where
     fits : allows h a ≡ true → (p : ℕ) (v : Bool) → h.told p ≡ Some v → MarkFits v (a p)
     fits e p v is = elim (cases_lt p 52) [
       | inl inside ↦ allows_below h a e p v inside is
-      | inr past ↦ absent_fits v (a p) (below p past)
+      | inr past ↦ fits_absent v (a p) (below p past)
     ]
 
 pub unsettled_is : (h : History) (a : Label) (p : ℕ) → IsOnLetters a → (label_left h a p ≡ Absent → ⊥) → false ≡ settles h a
-unsettled_is h a p below stays = both_ways false (settles h a) (λ e. absurd (cc))
+unsettled_is h a p below stays = same_truth false (settles h a) (λ e. absurd (cc))
     (λ e. absurd (stays (settles_left h a p (settles_back h a below e))))
 
 -- one mark is taken off where its proposition was told
@@ -148,7 +140,7 @@ pub allows_both : (h : History) (a : Label) → IsOnLetters a → IsTrue (allows
 allows_both h a below = (
   (λ e p v is. elim (cases_lt p 52) [
     | inl inside ↦ allows_below h a e p v inside is
-    | inr past ↦ absent_fits v (a p) (below p past)
+    | inr past ↦ fits_absent v (a p) (below p past)
   ]),
   allows_true h a,
 )

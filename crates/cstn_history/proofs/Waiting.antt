@@ -3,6 +3,7 @@ use Rattle.std.proofs.Common.{ℕ, zero, suc, ◌≡◌, inl, inr, ◌<◌, ◌�
 use Rattle.std.specs.Prelude.{◌↔◌, pos, ◌-ℤ◌}
 use Rattle.std.proofs.lemmas.Int.{ints}
 use Rattle.std.proofs.lemmas.List.Elements.{Contains-append_left, Contains-append_right, Contains-append_cases}
+use Rattle.cstn_facts.proofs.Members.{contains_one}
 use Rattle.cstn_label.specs.Labels.{Label, Scenario, Holds}
 use Rattle.cstn_net.specs.Networks.{Constraint, Observes, count, limit}
 use Rattle.cstn_net.specs.Strategies.{Table, Meets}
@@ -13,7 +14,6 @@ use Rattle.cstn_lift.specs.Strategies.{IsExecuted, IsInForce, IsKnownExecuted, I
 use Rattle.cstn_history.specs.Histories.{History, IsHistory}
 use Rattle.cstn_history.specs.Continuations.{CanWait}
 use Rattle.cstn_history.specs.Rest.{is_left, number_of, bare, rest, with_constraint, rest_waiting}
-use Rattle.cstn_history.proofs.Lists.{contains_one}
 use Rattle.cstn_history.proofs.Settled.{as_told, told_itself, told_agrees}
 use Rattle.cstn_history.proofs.Edited.{completed_new}
 use Rattle.cstn_history.proofs.Forces.{bare_full}

@@ -7,13 +7,14 @@ use Rattle.std.proofs.lemmas.Int.{ints, clamps}
 use Rattle.std.proofs.lemmas.List.{length-map, length-append}
 use Rattle.std.proofs.lemmas.List.Elements.{All-nil, All-head, All-tail, All-append, All-contains, All-contains_itself, All-weaker, Contains-append_left}
 use Rattle.std.proofs.lemmas.List.Kept.{AllPairs-cons}
+use Rattle.cstn_facts.proofs.Pairs.{pairs_tail, pairs_head}
+use Rattle.cstn_facts.proofs.Members.{filter_map_all}
 use Rattle.cstn_label.specs.declared.marks.Mark.{Mark}
 use Rattle.cstn_label.specs.Labels.{Label, IsMarked, IsMarkPlain, IsPlain, IsWithin, joined}
 use Rattle.cstn_label.proofs.MarkLemmas.{mark_within_absent}
 use Rattle.cstn_label.proofs.LabelLemmas.{within_through}
 use Rattle.cstn_net.specs.Limits.{most_time_points, most_constraints, most_deadline, most_reaction}
 use Rattle.cstn_net.specs.Networks.{Network, Constraint, Observes, IsWellFormed, IsConstraint, IsOnObserved, IsValue, AreConstraintsFor, count, limit}
-use Rattle.cstn_net.proofs.ListLemmas.{pairs_head, pairs_tail}
 use Rattle.cstn_lift.specs.Labelled.{Labelled, label_of}
 use Rattle.cstn_lift.specs.Completion.{completed, completed_label, full_label}
 use Rattle.cstn_lift.specs.Lowered.{numbered}
@@ -21,7 +22,7 @@ use Rattle.cstn_lift.specs.WellFormed.{IsLabelled}
 use Rattle.cstn_lift.proofs.CompletionLemmas.{completed_contains, completed_complete, within_left}
 use Rattle.cstn_lift.proofs.FullLemmas.{full_within}
 use Rattle.cstn_lift.proofs.Equivalent.{full_from, full_to}
-use Rattle.cstn_lift.proofs.ListLemmas.{numbered_ascending, filter_map_all}
+use Rattle.cstn_lift.proofs.ListLemmas.{numbered_ascending}
 use Rattle.cstn_history.specs.Histories.{History, IsHistory, IsInTime, known_at, or_at, mark_left, label_left, IsAllowed}
 use Rattle.cstn_history.specs.Rest.{left, cut, value_left, is_left, number_of, end_left, moved, constraint_left, bare, late, watched, coming, added, moment_watched, rest}
 use Rattle.cstn_history.proofs.Lists.{place, passing_yes, passing_no}

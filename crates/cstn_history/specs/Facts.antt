@@ -13,12 +13,13 @@ use Rattle.cstn_lift.specs.Completion.{completed_label}
 use Rattle.cstn_lift.specs.Lowered.{observer_of}
 use Rattle.cstn_history.specs.declared.errors.FactError.{FactError}
 use Rattle.cstn_history.specs.declared.errors.FactError.TheVariants.{Past, OutOfRange, NoSuch, Done, Undecided, NotObserved, Told}
-use Rattle.cstn_history.specs.Histories.{History, is_fit}
+use Rattle.cstn_label.specs.Tests.{fits}
+use Rattle.cstn_history.specs.Histories.{History}
 
 -- what was told settles the mark
 abbrev pub settles_mark : Option Bool → Mark → Bool
 settles_mark None a = is_absent a
-settles_mark (Some v) a = is_fit v a
+settles_mark (Some v) a = fits v a
 
 -- what was told of the 52 propositions decides that the label holds
 unfoldable pub settles : History → Label → Bool

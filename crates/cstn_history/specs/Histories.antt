@@ -1,10 +1,11 @@
 -- What has happened while a labelled network was carried out: its history.
-use Rattle.std.specs.Prelude.{ℕ, zero, suc, ◌≡◌, ◌+◌, ◌<◌, ◌≤◌, Bool, true, false, Option, None, Some, List}
+use Rattle.std.specs.Prelude.{ℕ, zero, suc, ◌≡◌, ◌+◌, ◌<◌, ◌≤◌, Bool, true, Option, None, Some, List}
 use Rattle.std.specs.Option.{is_some}
 use Rattle.std.specs.List.{list_all, range_with_len}
 use Rattle.cstn_label.specs.declared.marks.Mark.{Mark}
-use Rattle.cstn_label.specs.declared.marks.Mark.TheVariants.{Absent, Yes, No, Unknown}
+use Rattle.cstn_label.specs.declared.marks.Mark.TheVariants.{Absent}
 use Rattle.cstn_label.specs.Labels.{Label, Scenario, MarkFits}
+use Rattle.cstn_label.specs.Tests.{fits}
 use Rattle.cstn_net.specs.Limits.{most_deadline, most_reaction}
 use Rattle.cstn_net.specs.Networks.{Constraint, Observes, count}
 use Rattle.cstn_lift.specs.Labelled.{Labelled}
@@ -86,28 +87,14 @@ known_at m h p t = or_at (h.expected p) (t + m.base.reaction p)
 abbrev pub AgreesWith : History → Scenario → Type 0
 AgreesWith h s = (p : ℕ) (v : Bool) → h.told p ≡ Some v → s p ≡ v
 
--- the mark fits the value
-abbrev pub is_fit : Bool → Mark → Bool
-is_fit v Absent = true
-is_fit true Yes = true
-is_fit true No = false
-is_fit true Unknown = false
-is_fit false Yes = false
-is_fit false No = true
-is_fit false Unknown = false
-
 -- what was told, if anything, doesn't contradict the mark; an unknown mark is contradicted by either value
 abbrev pub allows_mark : Option Bool → Mark → Bool
 allows_mark None a = true
-allows_mark (Some v) a = is_fit v a
+allows_mark (Some v) a = fits v a
 
 -- what was told contradicts no mark of the label
 abbrev pub IsAllowed : History → Label → Type 0
 IsAllowed h a = (p : ℕ) (v : Bool) → h.told p ≡ Some v → MarkFits v (a p)
-
--- the label marks none but the 52 propositions
-abbrev pub IsOnLetters : Label → Type 0
-IsOnLetters a = (p : ℕ) → 52 ≤ p → a p ≡ Absent
 
 -- what was told of the 52 propositions doesn't contradict the label
 unfoldable pub allows : History → Label → Bool

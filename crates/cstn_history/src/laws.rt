@@ -14,7 +14,8 @@ ghost use Rattle.cstn_lift.specs.Completion.{completed, completed_label, joined_
 ghost use Rattle.cstn_lift.specs.Read.{LabelledParts, the_labelled};
 ghost use Rattle.cstn_lift.specs.WellFormed.{IsLabelled};
 ghost use Rattle.cstn_lift.specs.Strategies.{IsExecuted, IsLabelledConsistent, IsLabelledLeast};
-ghost use Rattle.cstn_history.specs.Histories.{History, IsHistory, IsInTime, IsTimelyHistory, AgreesWith, Settles, IsAllowed, IsOnLetters, allows};
+ghost use Rattle.cstn_label.specs.OnLetters.{IsOnLetters};
+ghost use Rattle.cstn_history.specs.Histories.{History, IsHistory, IsInTime, IsTimelyHistory, AgreesWith, Settles, IsAllowed, allows};
 ghost use Rattle.cstn_history.specs.Histories.{label_left, GoesOn, IsToldMore, edited, nothing_yet};
 ghost use Rattle.cstn_history.specs.Continuations.{Continues, Can, IsLeastNow, IsQuietBefore, IsAlwaysAt, IsNamed, IsEventful, IsNext, IsLeastTable, CanWait};
 ghost use Rattle.cstn_history.specs.Rest.{is_left, number_of, rest, rest_waiting};

@@ -3,6 +3,8 @@ use Rattle.std.proofs.Common.{◌≡◌, ◌⊎◌, inl, inr, Bool, true, false,
 use Rattle.cstn_label.specs.declared.marks.Mark.{Mark}
 use Rattle.cstn_label.specs.declared.marks.Mark.TheVariants.{Absent, Yes, No, Unknown}
 use Rattle.cstn_label.specs.Labels.{joined_mark, IsMarkPlain, IsMarkWithin, MarkFits}
+use Rattle.cstn_label.specs.Marks.{is_marked}
+use Rattle.cstn_label.specs.Tests.{fits}
 
 -- the value that a mark asks for, or else v
 abbrev pub value_of : Mark → Bool → Bool
@@ -79,3 +81,20 @@ absent_or_not Unknown = inr (λ e. cc)
 
 pub fits_absent : (v : Bool) (m : Mark) → m ≡ Absent → MarkFits v m
 fits_absent v m e = rw e tt
+
+pub absent_within : (m n : Mark) → m ≡ Absent → IsMarkWithin m n
+absent_within m n e = rw e tt
+
+-- ---- what the tests on marks tell
+
+pub marked_true : (m : Mark) → (m ≡ Absent → ⊥) → is_marked m ≡ true
+marked_true m named = grind arith
+
+pub true_marked : (m : Mark) → is_marked m ≡ true → m ≡ Absent → ⊥
+true_marked m e is = grind arith
+
+pub fits_true : (v : Bool) (m : Mark) → fits v m ≡ true → MarkFits v m
+fits_true v m h = grind arith
+
+pub true_fits : (v : Bool) (m : Mark) → MarkFits v m → fits v m ≡ true
+true_fits v m h = grind arith

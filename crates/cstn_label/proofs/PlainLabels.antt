@@ -19,10 +19,10 @@ pub each_from : (test : ℕ → Bool) (n : ℕ) → ((p : ℕ) → test p ≡ tr
 each_from test zero h = refl
 each_from test (suc n) h = and_from (test n) (each_below test n) (h n) (each_from test n h)
 
-mark_plain_true : (m : Mark) → IsMarkPlain m → is_mark_plain m ≡ true
+pub mark_plain_true : (m : Mark) → IsMarkPlain m → is_mark_plain m ≡ true
 mark_plain_true m h = grind arith
 
-true_mark_plain : (m : Mark) → is_mark_plain m ≡ true → IsMarkPlain m
+pub true_mark_plain : (m : Mark) → is_mark_plain m ≡ true → IsMarkPlain m
 true_mark_plain m h = grind arith
 
 absent_plain : (m : Mark) → m ≡ Absent → IsMarkPlain m

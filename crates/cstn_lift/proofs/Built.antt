@@ -6,6 +6,7 @@ use Rattle.std.proofs.lemmas.Bool.{cases_Bool}
 use Rattle.std.proofs.lemmas.List.{append-nil, append_assoc, length-map, map-append, take_more, length-take-le}
 use Rattle.std.proofs.lemmas.List.Elements.{All-append, All-cons, All-nil, All-head, All-tail, filter_map-append}
 use Rattle.std.proofs.lemmas.Grind.{flat_map-append}
+use Rattle.cstn_facts.proofs.Ranges.{range_more}
 use Rattle.cstn_label.specs.declared.labels.Label.{Label as Words}
 use Rattle.cstn_label.specs.declared.props.Prop.{Prop}
 use Rattle.cstn_label.specs.declared.marks.Mark.TheVariants.{Absent}
@@ -21,9 +22,10 @@ use Rattle.cstn_lift.specs.Labelled.{Labelled}
 use Rattle.cstn_lift.specs.Completion.{full_label}
 use Rattle.cstn_lift.specs.Lowered.{is_plain, observer_of, with_full_label, guard, guards_of, numbered}
 use Rattle.cstn_lift.specs.Handed.{HasPoints, HasConstraints}
-use Rattle.cstn_lift.proofs.CompletionLemmas.{marked_true}
 use Rattle.cstn_lift.proofs.ListLemmas.{numbered_length, numbered_append}
-use Rattle.cstn_lift.proofs.LoweredLemmas.{plain_true, plain_back, prop_back}
+use Rattle.cstn_lift.proofs.LoweredLemmas.{plain_true, plain_back}
+use Rattle.cstn_net.proofs.Observed.{prop_true}
+use Rattle.cstn_label.proofs.MarkLemmas.{marked_true}
 
 module _ (long : (k : ℕ) (ds : List Draft) → length (constraints_from k ds) ≡ length ds)
     (more : (k i : ℕ) (ds : List Draft) (d : Draft) → i ≡ k + length ds → constraints_from k (ds ++ d ∷ []) ≡ constraints_from k ds ++ constraint_of i d ∷ []) where
@@ -85,12 +87,6 @@ guard_skipped net x p l cs ds marked absent has =
     let given : guard net x (marks l) p ≡ None = rw (marked_true (marks l p) marked, absent) refl in
     subst (λ (o : Option TheConstraint). HasConstraints (cs ++ cons_option o []) ds) (sym given)
     (subst (λ es. HasConstraints es ds) (sym (append-nil cs)) has)
-
-pub range_more : (a n j : ℕ) → a + n ≡ j → range_with_len a (n + 1) ≡ range_with_len a n ++ j ∷ []
-range_more a zero j at = let e : a ≡ j = omega arith in ap (λ i. i ∷ []) e
-range_more a (suc n) j at =
-    let e : suc n + 1 ≡ suc (n + 1) = omega arith in
-    ap (range_with_len a) e ∙ ap (λ is. a ∷ is) (range_more (a + 1) n j (omega arith))
 
 -- numbers of which h gives nothing add nothing at the end of a range
 skipped : {Y : Type 0} → (h : ℕ → Option Y) (from k : ℕ) → ((q : ℕ) → from ≤ q → q < from + k → h q ≡ None) →
@@ -188,7 +184,7 @@ reaction_told f [] p all tick = sym (tick (λ x e. absurd (cc)))
 reaction_told f (t ∷ ts) p all tick =
     let P : TimePoint → Type 0 = λ t. (q : ℕ) → observed t ≡ Some q → t.reaction ≡ f q in
     elim (cases_Bool (is_prop p (observed t))) [
-      | inl here ↦ reaction_if ts t p true here ∙ All-head P t ts all p (prop_back p (observed t) here)
+      | inl here ↦ reaction_if ts t p true here ∙ All-head P t ts all p (prop_true p (observed t) here)
       | inr later ↦ reaction_if ts t p false later ∙ reaction_told f ts p (All-tail P t ts all) (λ none. tick (λ x. nowhere (prop_not p (observed t) later) none x))
     ]
   where
@@ -199,7 +195,7 @@ reaction_told f (t ∷ ts) p all tick =
 pub reaction_untold : (ts : List TimePoint) (p : ℕ) → NoneObserves ts p → reaction_of ts p ≡ 1
 reaction_untold [] p none = refl
 reaction_untold (t ∷ ts) p none = elim (cases_Bool (is_prop p (observed t))) [
-  | inl here ↦ absurd (none 0 (prop_back p (observed t) here))
+  | inl here ↦ absurd (none 0 (prop_true p (observed t) here))
   | inr later ↦ reaction_if ts t p false later ∙ reaction_untold ts p (λ x. none (suc x))
 ]
 

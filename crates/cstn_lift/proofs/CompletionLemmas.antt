@@ -3,7 +3,7 @@ use Rattle.std.proofs.Common.{ℕ, zero, suc, ◌≡◌, ◌⊎◌, inl, inr, �
 use Rattle.std.specs.Prelude.{slice_index_or, if◌then◌else◌}
 use Rattle.std.proofs.lemmas.Bool.{cases_lt}
 use Rattle.cstn_label.specs.declared.marks.Mark.{Mark}
-use Rattle.cstn_label.specs.declared.marks.Mark.TheVariants.{Absent, Yes, No, Unknown}
+use Rattle.cstn_label.specs.declared.marks.Mark.TheVariants.{Absent}
 use Rattle.cstn_label.specs.Labels.{Label, IsMarked, IsMarkWithin, IsWithin, joined, joined_mark, empty}
 use Rattle.cstn_label.proofs.LabelLemmas.{within_itself, within_through, within_same, within_joined}
 use Rattle.cstn_label.specs.Marks.{is_marked}
@@ -12,6 +12,7 @@ use Rattle.cstn_net.proofs.Knowledge.{observer_within}
 use Rattle.cstn_lift.specs.Labelled.{Labelled, label_of}
 use Rattle.cstn_lift.specs.Faults.{ObservesMark}
 use Rattle.cstn_lift.specs.Completion.{is_observed_by, brought_by, joined_upto, rounds, completed, IsCompleteLabel, IsLabelOfObserver}
+use Rattle.cstn_label.proofs.MarkLemmas.{marked_true, true_marked}
 
 mark_within_left : (m n : Mark) → IsMarkWithin m (joined_mark m n)
 mark_within_left m n = grind arith
@@ -27,15 +28,6 @@ within_right a b = λ p. mark_within_right (a p) (b p)
 
 pub empty_within : (a : Label) → IsWithin empty a
 empty_within a = λ p. tt
-
-pub marked_true : (m : Mark) → (m ≡ Absent → ⊥) → is_marked m ≡ true
-marked_true Absent h = absurd (h refl)
-marked_true Yes h = refl
-marked_true No h = refl
-marked_true Unknown h = refl
-
-pub marked_back : (m : Mark) → is_marked m ≡ true → m ≡ Absent → ⊥
-marked_back m h e = grind arith
 
 marked_more : (m n : Mark) → IsMarkWithin m n → is_marked m ≡ true → is_marked n ≡ true
 marked_more m n h k = grind arith
@@ -59,7 +51,7 @@ module _ (m : Labelled) where
 
   marked_here : (a : Label) (o : Option ℕ) → is_observed_by o a ≡ true → (p : ℕ) × (o ≡ Some p) × IsMarked a p
   marked_here a None e = absurd (cc)
-  marked_here a (Some p) e = (p, refl, marked_back (a p) e)
+  marked_here a (Some p) e = (p, refl, true_marked (a p) e)
 
   brought_within : (a c : Label) (x : ℕ) → ((p : ℕ) → Observes m.base x p → IsMarked a p → IsWithin (label_of m x) c) →
       IsWithin (brought_by m x a) c
@@ -115,7 +107,7 @@ module _ (m : Labelled) where
       within_through a (rounds m n a) (rounds m (suc n) a) (rounds_contain n a) (round_contains (rounds m n a))
 
   marked_within : (a c : Label) (p : ℕ) → IsWithin a c → IsMarked a p → IsMarked c p
-  marked_within a c p h marked = marked_back (c p) (marked_more (a p) (c p) (h p) (marked_true (a p) marked))
+  marked_within a c p h marked = true_marked (c p) (marked_more (a p) (c p) (h p) (marked_true (a p) marked))
 
   rounds_least : (n : ℕ) (a c : Label) → IsWithin a c → IsCompleteLabel m c → IsWithin (rounds m n a) c
   rounds_least zero a c h closed = h
@@ -281,7 +273,7 @@ pub seen_by : (net : Network) (a b : Label) (o : Option ℕ) (x : ℕ) → o ≡
     is_observed_by o a ≡ true → ObservesMark net b x
 seen_by net a b None x at same e = absurd (cc)
 seen_by net a b (Some p) x at same e =
-    (p, record { what = sym at }, subst (λ l. IsMarked l p) same (marked_back (a p) e))
+    (p, record { what = sym at }, subst (λ l. IsMarked l p) same (true_marked (a p) e))
 
 pub unseen_by : (net : Network) (a b : Label) (o : Option ℕ) (x : ℕ) → o ≡ slice_index_or net.observes x None → a ≡ b →
     is_observed_by o a ≡ false → ObservesMark net b x → ⊥

@@ -1,9 +1,7 @@
 -- Which fault of labels is the lowest.
-use Rattle.std.proofs.Common.{ℕ, ◌≡◌, ◌⊎◌, inl, inr, ◌<◌, ◌≤◌, List, length, arith, refl, sym, subst, ap, ◌∙◌}
+use Rattle.std.proofs.Common.{ℕ, ◌≡◌, ◌⊎◌, inl, inr, ◌<◌, ◌≤◌, List, length, arith, sym, subst, ap, ◌∙◌}
 use Rattle.std.specs.Prelude.{map}
 use Rattle.std.proofs.lemmas.List.{get_or-map}
-use Rattle.cstn_label.specs.declared.marks.Mark.{Mark}
-use Rattle.cstn_label.specs.declared.marks.Mark.TheVariants.{Absent, Yes, No, Unknown}
 use Rattle.cstn_label.specs.Labels.{Label, IsPlain, empty}
 use Rattle.cstn_net.specs.Limits.{most_constraints}
 use Rattle.cstn_net.specs.Networks.{IsWellFormed, Observes, count}
@@ -15,6 +13,7 @@ use Rattle.cstn_lift.specs.Completion.{completed, completed_label}
 use Rattle.cstn_lift.specs.WellFormed.{IsLabelled}
 use Rattle.cstn_lift.specs.Lowered.{lowered}
 use Rattle.cstn_lift.specs.Faults.{ObservesMark, HasLiftFault, lift_number, IsLowestLiftFault, IsLiftRefusal, HasGoodLabels}
+use Rattle.cstn_net.proofs.NoFault.{stable_absent}
 
 -- the label at the place x of the completed labels is the completed label of x
 pub whole_at : (m : Labelled) → length m.labels ≡ count m.base → (whole : List Label) → whole ≡ map (completed m) m.labels →
@@ -28,13 +27,6 @@ pub first_same : (n : ℕ) (P Q : ℕ → Type 0) (x : ℕ) → ((y : ℕ) → y
 first_same n P Q x to back first =
     let inside = first.inside in
     record { inside = inside; here = to x inside first.here; before = λ y before q. first.before y before (back y (omega arith) q) }
-
--- a mark that can't be other than absent is absent
-absent_if : (a : Mark) → ((a ≡ Absent → ⊥) → ⊥) → a ≡ Absent
-absent_if Absent h = refl
-absent_if Yes h = absurd (h (λ e. cc))
-absent_if No h = absurd (h (λ e. cc))
-absent_if Unknown h = absurd (h (λ e. cc))
 
 module _ (m : Labelled) (good : HasGoodLabels m) where
   pub circle_lowest : (f : LiftError) → HasLiftFault m f → 4 ≤ lift_number f
@@ -71,7 +63,7 @@ module _ (m : Labelled) (good : HasGoodLabels m) where
     origin = good.origin;
     plain = good.plain;
     observed = good.observed;
-    no_circle = λ x p o. absent_if (completed_label m x p) (λ marked. none x (within x p o) (p, o, marked));
+    no_circle = λ x p o. stable_absent (completed_label m x p) (λ marked. none x (within x p o) (p, o, marked));
     completed_plain = plain;
   }
 

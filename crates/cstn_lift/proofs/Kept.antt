@@ -1,8 +1,10 @@
 -- The lowered network keeps what is plain and waits for what is marked, at all propositions.
-use Rattle.std.proofs.Common.{ℕ, ◌≡◌, ◌<◌, ◌++◌, Bool, true, false, List, Option, Some, None, arith, refl, sym, subst, ap, ◌∙◌}
+use Rattle.std.proofs.Common.{ℕ, ◌≡◌, ◌<◌, ◌++◌, Bool, true, false, List, Option, Some, None, refl, sym, subst, ap, ◌∙◌}
 use Rattle.std.specs.Prelude.{◌↔◌, map, if◌then◌else◌, option_map, pos, ◌-ℤ◌, IsTrue}
-use Rattle.std.specs.List.{All, Contains, filter_map, flat_map, range_with_len}
-use Rattle.std.proofs.lemmas.List.Elements.{All-contains, All-contains_itself, All-weaker, Contains-append_left}
+use Rattle.std.specs.List.{Contains, range_with_len}
+use Rattle.std.proofs.lemmas.List.Elements.{Contains-append_left}
+use Rattle.cstn_facts.proofs.Members.{filter_map_contains, flat_map_contains, filter_map_from, flat_map_from}
+use Rattle.cstn_facts.proofs.Ranges.{range_contains, range_from}
 use Rattle.cstn_label.specs.Labels.{IsPlain}
 use Rattle.cstn_label.specs.Marks.{is_marked}
 use Rattle.cstn_net.specs.Networks.{Constraint, count}
@@ -11,30 +13,11 @@ use Rattle.cstn_lift.specs.Completion.{completed, completed_label, full_label}
 use Rattle.cstn_lift.specs.WellFormed.{IsLabelled}
 use Rattle.cstn_lift.specs.Lowered.{is_plain, observer_of, with_full_label, full_constraints, guard, guards_of, guards_with, guards}
 use Rattle.cstn_lift.specs.Kept.{IsConstraintOf, IsKept, IsLowered, IsFull, IsGuard}
-use Rattle.cstn_lift.proofs.CompletionLemmas.{marked_back}
-use Rattle.cstn_lift.proofs.ListLemmas.{filter_map_contains, flat_map_contains, range_contains, numbered_contains, filter_map_all, flat_map_all, range_all}
+use Rattle.cstn_lift.proofs.ListLemmas.{numbered_contains}
 use Rattle.cstn_lift.proofs.LoweredLemmas.{plain_true, plain_back, only, completed_at, guard_is, observer_back}
 use Rattle.cstn_lift.proofs.Equivalent.{full_observed}
 use Rattle.cstn_lift.proofs.WellFormed.{above, plain_and_observed}
-
--- what `filter_map` makes of a list comes from one of its elements
-filter_map_from : {X Y : Type 0} → (h : X → Option Y) (xs : List X) (y : Y) → Contains (filter_map h xs) y →
-    (x : X) × Contains xs x × (h x ≡ Some y)
-filter_map_from {X} {Y} h xs y has =
-    let P : Y → Type 0 = λ z. (x : X) × Contains xs x × (h x ≡ Some z) in
-    All-contains P (filter_map h xs) y
-    (filter_map_all P h xs (All-weaker (Contains xs) (λ x. (z : Y) → h x ≡ Some z → P z) (λ x among z is. (x, among, is)) xs (All-contains_itself xs))) has
-
-flat_map_from : {X Y : Type 0} → (f : X → List Y) (xs : List X) (y : Y) → Contains (flat_map f xs) y →
-    (x : X) × Contains xs x × Contains (f x) y
-flat_map_from {X} {Y} f xs y has =
-    let P : Y → Type 0 = λ z. (x : X) × Contains xs x × Contains (f x) z in
-    All-contains P (flat_map f xs) y
-    (flat_map_all P f xs (All-weaker (Contains xs) (λ x. All P (f x))
-    (λ x among. All-weaker (Contains (f x)) P (λ z there. (x, among, there)) (f x) (All-contains_itself (f x))) xs (All-contains_itself xs))) has
-
-range_from : (n i : ℕ) → Contains (range_with_len 0 n) i → i < n
-range_from n i has = All-contains (λ k. k < n) (range_with_len 0 n) i (range_all (λ k. k < n) 0 n (λ k low high. omega arith)) has
+use Rattle.cstn_label.proofs.MarkLemmas.{true_marked}
 
 module _ (m : Labelled) (good : IsLabelled m) where
   plain_over_all : (c : Constraint) → IsConstraintOf m c → is_plain (full_label m c) ≡ true → IsPlain (full_label m c)
@@ -103,7 +86,7 @@ module _ (m : Labelled) (good : IsLabelled m) where
         prop = p;
         observer = j;
         observes = observer_back m.base j p f;
-        marked = marked_back (completed_label m x p) e;
+        marked = true_marked (completed_label m x p) e;
         is = sym same;
       }
 

@@ -1,7 +1,7 @@
 -- Labels as the program has them, in two words, and lists of them.
 use Rattle.std.proofs.Common.{ℕ, ◌≡◌, ◌<◌, ◌+◌, Bool, true, ◌&&◌, eqb, List, inl, inr, arith, refl, sym, subst, ap, ◌∙◌, length}
 use Rattle.std.specs.Prelude.{map, slice_index_or}
-use Rattle.std.proofs.lemmas.Bool.{eqb-true, cases_lt}
+use Rattle.std.proofs.lemmas.Bool.{eqb-true, cases_lt, eq-eqb}
 use Rattle.std.proofs.lemmas.List.{get_or-map}
 use Rattle.cstn_label.specs.declared.labels.Label.{Label as Words}
 use Rattle.cstn_label.specs.Labels.{empty}
@@ -35,12 +35,9 @@ upto_next P n before here y upto = elim (cases_lt y n) [
   | inr later ↦ let at : n ≡ y = omega arith in subst P at here
 ]
 
-tested : (a b : ℕ) → a ≡ b → eqb a b ≡ true
-tested a b e = grind arith
-
 -- equal labels are the same words
 pub same_tested : (a b : Words) → a ≡ b → (eqb a.yes b.yes && eqb a.no b.no) ≡ true
 same_tested a b same =
-    let y = tested a.yes b.yes (ap (λ w. w.yes) same) in
-    let n = tested a.no b.no (ap (λ w. w.no) same) in
+    let y = eq-eqb a.yes b.yes (ap (λ w. w.yes) same) in
+    let n = eq-eqb a.no b.no (ap (λ w. w.no) same) in
     rw (y, n) refl

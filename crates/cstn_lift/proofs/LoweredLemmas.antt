@@ -1,13 +1,15 @@
 -- The constraints of the lowered network.
 use Rattle.std.proofs.Common.{ℕ, ◌≡◌, ◌⊎◌, inl, inr, ◌<◌, ◌≤◌, Bool, true, false, Option, Some, None, arith, refl, sym, subst, ap, ◌∙◌, ◌++◌}
-use Rattle.std.specs.Prelude.{map, slice_index_or, if◌then◌else◌, option_map, ℤ, pos, ◌-ℤ◌, ◌==◌}
+use Rattle.std.specs.Prelude.{map, slice_index_or, if◌then◌else◌, option_map, ℤ, pos, ◌-ℤ◌}
 use Rattle.std.specs.List.{All, Contains, range_with_len}
-use Rattle.std.proofs.lemmas.Bool.{cases_lt, cases_Bool}
+use Rattle.std.proofs.lemmas.Bool.{cases_lt, cases_Bool, eq-eqb}
 use Rattle.std.proofs.lemmas.List.{get_or-map}
 use Rattle.std.proofs.lemmas.List.Elements.{All-append, All-contains, All-contains_itself, All-weaker, Contains-append_left, Contains-append_right}
 use Rattle.std.proofs.lemmas.List.Quantifiers.{position-Some}
 use Rattle.std.proofs.lemmas.List.Sums.{list_all-from_AllPass, AllPass-from_list_all}
-use Rattle.cstn_label.specs.declared.marks.Mark.{Mark}
+use Rattle.cstn_facts.proofs.Members.{filter_map_contains, flat_map_contains, filter_map_all, flat_map_all}
+use Rattle.cstn_facts.proofs.Ranges.{range_contains, range_all}
+use Rattle.cstn_facts.proofs.Filters.{position_at}
 use Rattle.cstn_label.specs.declared.marks.Mark.TheVariants.{Absent}
 use Rattle.cstn_label.specs.Labels.{Label, IsMarked, IsMarkPlain, IsPlain, empty}
 use Rattle.cstn_label.specs.Marks.{is_marked, is_mark_plain}
@@ -17,14 +19,10 @@ use Rattle.cstn_lift.specs.Labelled.{Labelled, label_in}
 use Rattle.cstn_lift.specs.Completion.{completed, completed_label, full_label}
 use Rattle.cstn_lift.specs.WellFormed.{IsLabelled}
 use Rattle.cstn_lift.specs.Lowered.{is_plain, observer_of, with_full_label, full_constraints, guard, guards_of, guards_with, guards, lowered}
-use Rattle.cstn_lift.proofs.CompletionLemmas.{marked_true, marked_back}
-use Rattle.cstn_lift.proofs.ListLemmas.{filter_map_contains, flat_map_contains, range_contains, numbered_contains, numbered_all, filter_map_all, flat_map_all, range_all, position_found}
-
-mark_plain_true : (a : Mark) → IsMarkPlain a → is_mark_plain a ≡ true
-mark_plain_true a h = grind arith
-
-mark_plain_back : (a : Mark) → is_mark_plain a ≡ true → IsMarkPlain a
-mark_plain_back a h = grind arith
+use Rattle.cstn_lift.proofs.ListLemmas.{numbered_contains, numbered_all}
+use Rattle.cstn_label.proofs.PlainLabels.{mark_plain_true, true_mark_plain}
+use Rattle.cstn_net.proofs.Observed.{prop_true}
+use Rattle.cstn_label.proofs.MarkLemmas.{marked_true, true_marked}
 
 pub plain_true : (a : Label) → IsPlain a → is_plain a ≡ true
 unfolding is_plain
@@ -34,34 +32,27 @@ plain_true a h = list_all-from_AllPass (λ p. is_mark_plain (a p)) (range_with_l
 pub plain_back : (a : Label) → ((p : ℕ) → 52 ≤ p → a p ≡ Absent) → is_plain a ≡ true → IsPlain a
 unfolding is_plain
 plain_back a above h p = elim (cases_lt p 52) [
-  | inl inside ↦ mark_plain_back (a p) (All-contains (λ q. is_mark_plain (a q) ≡ true) (range_with_len 0 52) p
+  | inl inside ↦ true_mark_plain (a p) (All-contains (λ q. is_mark_plain (a q) ≡ true) (range_with_len 0 52) p
       (AllPass-from_list_all (λ q. is_mark_plain (a q)) (range_with_len 0 52) h) (range_contains 52 p inside))
   | inr past ↦ subst IsMarkPlain (sym (above p past)) tt
 ]
 
-prop_true : (p q : ℕ) → p ≡ q → (p == q) ≡ true
-prop_true p q e = grind arith
-
-pub prop_back : (p : ℕ) (o : Option ℕ) → is_prop p o ≡ true → o ≡ Some p
-prop_back p None e = absurd (cc)
-prop_back p (Some q) e = let same : q ≡ p = grind arith in ap Some same
-
 -- the time-point that is found for a proposition is its observer
 pub observer_found : (net : Network) → IsNetwork net → (j p : ℕ) → Observes net j p → observer_of net p ≡ Some j
 observer_found net good j p o =
-    position_found (is_prop p) net.observes j None (observer_within net j p o)
+    position_at (is_prop p) net.observes j None (observer_within net j p o)
     (λ k before. elim (cases_Bool (is_prop p (slice_index_or net.observes k None))) [
       | inr other ↦ other
       | inl found ↦
-          let same = good.one_observer k j p (record { what = prop_back p (slice_index_or net.observes k None) found }) o in
+          let same = good.one_observer k j p (record { what = prop_true p (slice_index_or net.observes k None) found }) o in
           absurd (omega arith)
     ])
-    (ap (is_prop p) o.what ∙ prop_true p p refl)
+    (ap (is_prop p) o.what ∙ eq-eqb p p refl)
 
 pub observer_back : (net : Network) (j p : ℕ) → observer_of net p ≡ Some j → Observes net j p
 observer_back net j p e =
     let at = position-Some (is_prop p) net.observes j None e in
-    record { what = prop_back p (slice_index_or net.observes j None) at.1 }
+    record { what = prop_true p (slice_index_or net.observes j None) at.1 }
 
 some_or_none : (o : Option ℕ) → ((j : ℕ) × (o ≡ Some j)) ⊎ (o ≡ None)
 some_or_none None = inr refl
@@ -155,7 +146,7 @@ module _ (m : Labelled) (good : IsLabelled m) where
         record {
           here = here;
           observes = observer_back m.base j p f;
-          marked = subst (λ l. IsMarked l p) whole (marked_back (a p) e);
+          marked = subst (λ l. IsMarked l p) whole (true_marked (a p) e);
           between = record { from = refl; to = refl; value = refl; marks = whole };
         },
       ))

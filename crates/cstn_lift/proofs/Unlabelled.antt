@@ -1,10 +1,12 @@
 -- A network without labels is its own lowered network, but for ids.
-use Rattle.std.proofs.Common.{ℕ, suc, ◌≡◌, inl, inr, ◌+◌, ◌<◌, Option, Some, None, List, [], ◌∷◌, ◌++◌, length, arith, refl, sym, subst, ap, ◌∙◌}
+use Rattle.std.proofs.Common.{ℕ, suc, ◌≡◌, inl, inr, ◌+◌, ◌<◌, Some, None, List, [], ◌∷◌, ◌++◌, length, arith, refl, sym, subst, ap, ◌∙◌}
 use Rattle.std.specs.Prelude.{map, slice_index_or, if◌then◌else◌}
-use Rattle.std.specs.List.{All, cons_option, filter_map, flat_map, range_with_len}
+use Rattle.std.specs.List.{range_with_len}
 use Rattle.std.proofs.lemmas.Bool.{cases_lt}
 use Rattle.std.proofs.lemmas.List.{append-nil}
-use Rattle.std.proofs.lemmas.List.Elements.{All-head, All-tail, All-weaker}
+use Rattle.std.proofs.lemmas.List.Elements.{All-weaker}
+use Rattle.cstn_facts.proofs.Ranges.{range_all}
+use Rattle.cstn_facts.proofs.Members.{filter_map_whole, filter_map_none, flat_map_none}
 use Rattle.cstn_label.specs.Labels.{Label, IsPlain, IsWithin, empty, joined}
 use Rattle.cstn_label.proofs.LabelLemmas.{within_itself, within_same, joined_empty}
 use Rattle.cstn_net.specs.Networks.{Constraint, IsConstraint, count}
@@ -14,25 +16,7 @@ use Rattle.cstn_lift.specs.WellFormed.{IsLabelled}
 use Rattle.cstn_lift.specs.Lowered.{with_full_label, full_constraints, guard, guards_of, guards_with, guards, numbered, lowered}
 use Rattle.cstn_lift.proofs.CompletionLemmas.{completed_contains, completed_least, empty_within}
 use Rattle.cstn_lift.proofs.FullLemmas.{past_empty}
-use Rattle.cstn_lift.proofs.ListLemmas.{range_all}
 use Rattle.cstn_lift.proofs.LoweredLemmas.{plain_true, completed_at}
-
-filter_map_whole : {X : Type 0} → (h : X → Option X) (xs : List X) → All (λ x. h x ≡ Some x) xs → filter_map h xs ≡ xs
-filter_map_whole h [] all = refl
-filter_map_whole {X} h (x ∷ xs) all =
-    ap (λ (o : Option X). cons_option o (filter_map h xs)) (All-head (λ x. h x ≡ Some x) x xs all)
-    ∙ ap (λ ys. x ∷ ys) (filter_map_whole h xs (All-tail (λ x. h x ≡ Some x) x xs all))
-
-filter_map_none : {X Y : Type 0} → (h : X → Option Y) (xs : List X) → All (λ x. h x ≡ None) xs → filter_map h xs ≡ []
-filter_map_none h [] all = refl
-filter_map_none {X} {Y} h (x ∷ xs) all =
-    ap (λ (o : Option Y). cons_option o (filter_map h xs)) (All-head (λ x. h x ≡ None) x xs all)
-    ∙ filter_map_none h xs (All-tail (λ x. h x ≡ None) x xs all)
-
-flat_map_none : {X Y : Type 0} → (f : X → List Y) (xs : List X) → All (λ x. f x ≡ []) xs → flat_map f xs ≡ []
-flat_map_none f [] all = refl
-flat_map_none f (x ∷ xs) all =
-    ap (λ ys. ys ++ flat_map f xs) (All-head (λ x. f x ≡ []) x xs all) ∙ flat_map_none f xs (All-tail (λ x. f x ≡ []) x xs all)
 
 pub numbered_same : (k : ℕ) (cs : List Constraint) → ((i : ℕ) (d : Constraint) → i < length cs → (slice_index_or cs i d).id ≡ k + i) →
     numbered k cs ≡ cs
@@ -43,7 +27,7 @@ numbered_same k (c ∷ cs) ids =
     ap (λ n. record c { id = n } ∷ numbered (k + 1) cs) (sym first) ∙ ap (λ ds. c ∷ ds) rest
 
 module _ (m : Labelled) (good : IsLabelled m) (none : (x : ℕ) → x < count m.base → label_of m x ≡ empty) where
-  all_empty : (x : ℕ) → label_of m x ≡ empty
+  pub all_empty : (x : ℕ) → label_of m x ≡ empty
   all_empty x = elim (cases_lt x (count m.base)) [
     | inl inside ↦ none x inside
     | inr past ↦ past_empty m good x past

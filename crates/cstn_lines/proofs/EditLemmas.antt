@@ -5,6 +5,7 @@ use Rattle.std.specs.List.{list_all}
 use Rattle.std.specs.Int.{w32}
 use Rattle.std.specs.Option.{option_map, option_and_then}
 use Rattle.std.proofs.lemmas.Slice.Eq.{bytes_eq-Decides}
+use Rattle.cstn_facts.proofs.Options.{then_read, map_read}
 use Rattle.cstn_label.specs.declared.marks.Mark.TheVariants.{Absent}
 use Rattle.cstn_label.specs.Labels.{Label}
 use Rattle.cstn_text.specs.Names.{IsName}
@@ -30,6 +31,10 @@ part_free (b ∷ bytes) high =
   where
     other : (b : ℕ) → 32 < b → not (b == 32) ≡ true
     other b above = grind arith
+
+-- a number before a space is cut off there
+pub number_cut : (n : ℕ) (rest : List ℕ) → n < 2 ^ 32 → cut_at_space (printed_number n ++ 32 ∷ rest) ≡ Some (printed_number n, rest)
+number_cut n rest small = joined_cut (printed_number n) rest (part_free (printed_number n) (number_part n (omega arith)).high)
 
 word_back : (word rest : List ℕ) → bytes_eq (word ++ 32 ∷ rest) (codes "check") ≡ false → list_all (λ b. not (b == 32)) word ≡ true → edit_read (word ++ 32 ∷ rest) ≡ edited_read (word, rest)
 word_back word rest other part = ap (λ check. if check then Some asked else option_and_then edited_read (cut_at_space (word ++ 32 ∷ rest))) other ∙ ap (option_and_then edited_read) (joined_cut word rest part)
@@ -89,25 +94,13 @@ IsWritten line text = IsTextOf line text × IsEdit line
 same_line : (a b : Edit) (text : List ℕ) → a ≡ b → IsWritten a text → IsWritten b text
 same_line a b text e is = subst (λ (line : Edit). IsWritten line text) e is
 
--- where `option_and_then` or `option_map` has a value, so has the option that it was made from
-pub binds : {A B : Type 0} (f : A → Option B) (o : Option A) (b : B) → option_and_then f o ≡ Some b → (a : A) × (o ≡ Some a) × (f a ≡ Some b)
-binds f None b is = absurd (cc)
-binds f (Some a) b is = (a, refl, is)
-
-pub maps : {A B : Type 0} (f : A → B) (o : Option A) (b : B) → option_map f o ≡ Some b → (a : A) × (o ≡ Some a) × (f a ≡ b)
-maps f None b is = absurd (cc)
-maps f (Some a) b is = (a, refl, just (f a) b is)
-  where
-    just : {X : Type 0} (x y : X) → Some x ≡ Some y → x ≡ y
-    just x y e = cc
-
 -- a text of two parts with a space between, where each part is equal to another text
 pub spaced : (text left right printed more : List ℕ) → text ≡ left ++ 32 ∷ right → printed ≡ left → right ≡ more → text ≡ printed ++ 32 ∷ more
 spaced text left right printed more parts first second = parts ∙ ap (λ bs. bs ++ 32 ∷ right) (sym first) ∙ ap (λ bs. printed ++ 32 ∷ bs) second
 
 pub id_only : (text : List ℕ) (id : ℕ) → id_read text ≡ Some id → (printed_number id ≡ text) × (id < 2 ^ 32)
 id_only text id is =
-    let number = binds (λ n. if nat_lt n (2 ^ 32) then Some n else None) (number_read text) id is in
+    let number = then_read (number_read text) (λ n. if nat_lt n (2 ^ 32) then Some n else None) id is in
     let same = below number.0 id number.2 in
     (ap printed_number (sym same.0) ∙ (number_printed text number.0 number.1).0, same.1)
   where
@@ -116,15 +109,15 @@ id_only text id is =
 
 removed_only : (rest : List ℕ) (line : Edit) → option_map removed (id_read rest) ≡ Some line → IsWritten line (codes "remove" ++ 32 ∷ rest)
 removed_only rest line is =
-    let id = maps removed (id_read rest) line is in
+    let id = map_read (id_read rest) removed line is in
     let its = id_only rest id.0 id.1 in
     same_line (removed id.0) line _ id.2 (ap (λ bs. codes "remove" ++ 32 ∷ bs) (sym its.0), its.1)
 
 change_only : (rest : List ℕ) (line : Edit) → change_read rest ≡ Some line → IsWritten line (codes "change" ++ 32 ∷ rest)
 change_only rest line is =
-    let parts = binds with_value (cut_at_space rest) line is in
-    let id = binds (λ id. option_map (changed id) (value_read parts.0.1)) (id_read parts.0.0) line parts.2 in
-    let most = maps (changed id.0) (value_read parts.0.1) line id.2 in
+    let parts = then_read (cut_at_space rest) with_value line is in
+    let id = then_read (id_read parts.0.0) (λ id. option_map (changed id) (value_read parts.0.1)) line parts.2 in
+    let most = map_read (value_read parts.0.1) (changed id.0) line id.2 in
     let its = id_only parts.0.0 id.0 id.1 in
     let limit = value_printed parts.0.1 most.0 most.1 in
     let whole = spaced rest parts.0.0 parts.0.1 _ _ (cut_joined 32 rest parts.0.0 parts.0.1 parts.1) its.0 (sym limit.0) in
@@ -132,13 +125,13 @@ change_only rest line is =
 
 add_only : (rest : List ℕ) (line : Edit) → add_read rest ≡ Some line → IsWritten line (codes "add" ++ 32 ∷ rest)
 add_only rest line is =
-    let one = binds after_name (cut_at_space rest) line is in
-    let two = binds (after_names one.0) (cut_at_space one.0.1) line one.2 in
-    let three = binds (limit_read one.0.0 two.0.0) (cut_at_space two.0.1) line two.2 in
-    let most = binds (λ most. option_and_then (ends_read one.0.0 two.0.0 most) (label_read three.0.1)) (value_read three.0.0) line three.2 in
-    let label = binds (ends_read one.0.0 two.0.0 most.0) (label_read three.0.1) line most.2 in
-    let from = binds (λ f. option_map (λ t. added f t most.0 label.0) (name_read two.0.0)) (name_read one.0.0) line label.2 in
-    let to = maps (λ t. added from.0 t most.0 label.0) (name_read two.0.0) line from.2 in
+    let one = then_read (cut_at_space rest) after_name line is in
+    let two = then_read (cut_at_space one.0.1) (after_names one.0) line one.2 in
+    let three = then_read (cut_at_space two.0.1) (limit_read one.0.0 two.0.0) line two.2 in
+    let most = then_read (value_read three.0.0) (λ most. option_and_then (ends_read one.0.0 two.0.0 most) (label_read three.0.1)) line three.2 in
+    let label = then_read (label_read three.0.1) (ends_read one.0.0 two.0.0 most.0) line most.2 in
+    let from = then_read (name_read one.0.0) (λ f. option_map (λ t. added f t most.0 label.0) (name_read two.0.0)) line label.2 in
+    let to = map_read (name_read two.0.0) (λ t. added from.0 t most.0 label.0) line from.2 in
     let first = name_printed one.0.0 from.0 from.1 in
     let second = name_printed two.0.0 to.0 to.1 in
     let limit = value_printed three.0.0 most.0 most.1 in
@@ -170,7 +163,7 @@ edit_written text line is = at (bytes_eq text (codes "check")) refl is
     at : (check : Bool) → check ≡ bytes_eq text (codes "check") → (if check then Some asked else option_and_then edited_read (cut_at_space text)) ≡ Some line → IsWritten line text
     at true check e = same_line asked line text (just asked line e) ((bytes_eq-Decides text (codes "check")).0 (sym check), tt)
     at false check e =
-        let parts = binds edited_read (cut_at_space text) line e in
+        let parts = then_read (cut_at_space text) edited_read line e in
         subst (λ (x : List ℕ). IsWritten line x) (sym (cut_joined 32 text parts.0.0 parts.0.1 parts.1)) (edited_only parts.0.0 parts.0.1 line parts.2)
 
 pub edit_only : (text : List ℕ) (line : Edit) → edit_read text ≡ Some line → IsTextOf line text

@@ -7,24 +7,27 @@ use Rattle.std.specs.Option.{option_map, option_and_then}
 use Rattle.std.proofs.lemmas.Bool.{ne_eqb}
 use Rattle.std.proofs.lemmas.List.Elements.{All-nil, All-cons, All-head, All-tail}
 use Rattle.std.proofs.lemmas.Slice.Eq.{bytes_eq-Decides}
+use Rattle.cstn_facts.proofs.Options.{then_read, map_read}
 use Rattle.cstn_label.specs.Letters.{letter_of}
 use Rattle.cstn_net.specs.Limits.{most_deadline}
 use Rattle.cstn_text.specs.Cuts.{cut_at}
 use Rattle.cstn_text.specs.Names.{IsName}
+use Rattle.cstn_text.specs.SmallNumbers.{u32_read}
 use Rattle.cstn_text.specs.Numbers.{number_within, printed_number, printed_value}
 use Rattle.cstn_text.specs.PrintedNames.{name_read, printed_name}
 use Rattle.cstn_text.specs.PrintedLabels.{printed_label}
 use Rattle.cstn_text.proofs.CutLemmas.{cut_joined}
-use Rattle.cstn_text.proofs.PartLemmas.{name_part, number_part}
+use Rattle.cstn_text.proofs.PartLemmas.{name_part}
 use Rattle.cstn_text.proofs.PrintedNameLemmas.{name_back, name_printed}
 use Rattle.cstn_text.specs.Parts.{Parts, parts_at, joined}
 use Rattle.cstn_text.proofs.SplitLemmas.{parts_cut, parts_open, parts_joined}
-use Rattle.cstn_text.proofs.ReadingLemmas.{part_free, part_back, within_back, within_said}
+use Rattle.cstn_text.proofs.ReadingLemmas.{part_free, part_back, within_back, within_said, u32_back}
 use Rattle.cstn_lines.specs.LiveLines.{cut_at_space, prop_read, truth_read, printed_truth}
 use Rattle.cstn_lines.specs.EditLines.{Edit, added, removed, changed, asked, edited_read, IsEdit, printed_edit}
-use Rattle.cstn_lines.specs.FollowLines.{Follow, done_at, came_at, now_at, awaited_at, edits, ends_by, asks_next, asks_by, asks_blame, asks_rest, moment_of, each_name_read, names_read, done_read, outcome_read, came_read, awaited_read, followed_read, follow_read, IsFollow, printed_follow, IsTextOf}
-use Rattle.cstn_lines.proofs.LiveLemmas.{joined_cut, letter_back, letter_is_part, prop_only, truth_back, truth_only}
-use Rattle.cstn_lines.proofs.EditLemmas.{binds, maps, spaced, add_back, change_back, id_back, edited_only}
+use Rattle.cstn_lines.specs.FollowLines.{Follow, done_at, came_at, now_at, awaited_at, edits, ends_by, asks_next, asks_by, asks_blame, asks_rest, each_name_read, names_read, done_read, outcome_read, came_read, awaited_read, followed_read, follow_read, IsFollow, printed_follow, IsTextOf}
+use Rattle.cstn_lines.proofs.LiveLemmas.{joined_cut, letter_is_part, prop_only, truth_back, truth_only}
+use Rattle.cstn_lines.proofs.EditLemmas.{number_cut, spaced, add_back, change_back, id_back, edited_only}
+use Rattle.cstn_label.proofs.LetterLemmas.{letter_back}
 
 -- ---- names, one after the other
 
@@ -93,34 +96,27 @@ names_back name (other ∷ names) are =
     ∙ ap (option_and_then (λ n. option_map (λ more. n ∷ more) (names_read rest))) (name_back name is)
     ∙ ap (option_map (λ more. name ∷ more)) (names_back other names (All-tail IsName name (other ∷ names) are))
 
-moment_back : (t : ℕ) → t < 2 ^ 32 → moment_of (printed_number t) ≡ Some t
-moment_back t small = within_back 0 4294967295 t (omega arith) (omega arith) (omega arith)
-
--- a moment before a space is cut off there
-moment_cut : (t : ℕ) (rest : List ℕ) → t < 2 ^ 32 → cut_at_space (printed_number t ++ 32 ∷ rest) ≡ Some (printed_number t, rest)
-moment_cut t rest small = part_back (printed_number t) rest (number_part t (omega arith))
-
 done_back : (t : ℕ) (names : List (List ℕ)) → t < 2 ^ 32 → 1 ≤ length names → All IsName names → done_read (printed_number t ++ more_names names) ≡ Some (done_at t names)
 done_back t [] small some are = absurd (omega arith)
 done_back t (name ∷ names) small some are =
     let rest = printed_name name ++ more_names names in
-    ap (option_and_then (λ parts. option_and_then (λ m. option_map (done_at m) (names_read parts.1)) (moment_of parts.0))) (moment_cut t rest small)
-    ∙ ap (option_and_then (λ m. option_map (done_at m) (names_read rest))) (moment_back t small)
+    ap (option_and_then (λ parts. option_and_then (λ m. option_map (done_at m) (names_read parts.1)) (u32_read parts.0))) (number_cut t rest small)
+    ∙ ap (option_and_then (λ m. option_map (done_at m) (names_read rest))) (u32_back t small)
     ∙ ap (option_map (done_at t)) (names_back name names are)
 
 came_back : (t p : ℕ) (value : Bool) → t < 2 ^ 32 → p < 52 → came_read (printed_number t ++ 32 ∷ letter_of p ∷ 32 ∷ printed_truth value) ≡ Some (came_at t p value)
 came_back t p value small letter =
     let rest = letter_of p ∷ 32 ∷ printed_truth value in
-    ap (option_and_then (λ parts. option_and_then (λ m. outcome_read m parts.1) (moment_of parts.0))) (moment_cut t rest small)
-    ∙ ap (option_and_then (λ m. outcome_read m rest)) (moment_back t small)
+    ap (option_and_then (λ parts. option_and_then (λ m. outcome_read m parts.1) (u32_read parts.0))) (number_cut t rest small)
+    ∙ ap (option_and_then (λ m. outcome_read m rest)) (u32_back t small)
     ∙ ap (option_and_then (λ parts. option_and_then (λ q. option_map (came_at t q) (truth_read parts.1)) (prop_read parts.0))) (joined_cut (letter_of p ∷ []) (printed_truth value) (letter_is_part p))
     ∙ ap (option_and_then (λ q. option_map (came_at t q) (truth_read (printed_truth value)))) (letter_back p letter)
     ∙ ap (option_map (came_at t p)) (truth_back value)
 
 awaited_back : (t p : ℕ) → t < 2 ^ 32 → p < 52 → awaited_read (printed_number t ++ 32 ∷ letter_of p ∷ []) ≡ Some (awaited_at t p)
 awaited_back t p small letter =
-    ap (option_and_then (λ parts. option_and_then (λ m. option_map (awaited_at m) (prop_read parts.1)) (moment_of parts.0))) (moment_cut t (letter_of p ∷ []) small)
-    ∙ ap (option_and_then (λ m. option_map (awaited_at m) (prop_read (letter_of p ∷ [])))) (moment_back t small)
+    ap (option_and_then (λ parts. option_and_then (λ m. option_map (awaited_at m) (prop_read parts.1)) (u32_read parts.0))) (number_cut t (letter_of p ∷ []) small)
+    ∙ ap (option_and_then (λ m. option_map (awaited_at m) (prop_read (letter_of p ∷ [])))) (u32_back t small)
     ∙ ap (option_map (awaited_at t)) (letter_back p letter)
 
 -- none of the words that stand alone begins a line that has a space
@@ -156,7 +152,7 @@ follow_back (done_at t (name ∷ names)) is =
     let rest = printed_number t ++ more_names (name ∷ names) in
     word_back (codes "did") rest (refl, refl, refl, refl) refl ∙ done_back t (name ∷ names) is.0 is.1 is.2
 follow_back (came_at t p value) is = word_back (codes "saw") (printed_number t ++ 32 ∷ letter_of p ∷ 32 ∷ printed_truth value) (refl, refl, refl, refl) refl ∙ came_back t p value is.0 is.1
-follow_back (now_at t) is = word_back (codes "now") (printed_number t) (refl, refl, refl, refl) refl ∙ ap (option_map now_at) (moment_back t is)
+follow_back (now_at t) is = word_back (codes "now") (printed_number t) (refl, refl, refl, refl) refl ∙ ap (option_map now_at) (u32_back t is)
 follow_back (awaited_at t p) is = word_back (codes "await") (printed_number t ++ 32 ∷ letter_of p ∷ []) (refl, refl, refl, refl) refl ∙ awaited_back t p is.0 is.1
 follow_back (edits edit) is = edit_line_back edit is
 follow_back (ends_by ticks) is =
@@ -176,20 +172,20 @@ IsWritten line text = IsTextOf line text × IsFollow line
 same_line : (a b : Follow) (text : List ℕ) → a ≡ b → IsWritten a text → IsWritten b text
 same_line a b text e is = subst (λ (line : Follow). IsWritten line text) e is
 
-moment_only : (text : List ℕ) (t : ℕ) → moment_of text ≡ Some t → (printed_number t ≡ text) × (t < 2 ^ 32)
+moment_only : (text : List ℕ) (t : ℕ) → u32_read text ≡ Some t → (printed_number t ≡ text) × (t < 2 ^ 32)
 moment_only text t is = let its = within_said 0 4294967295 text t is in (sym its.2, omega (arith, its.1))
 
 -- the names that were read are those that the parts print, joined again
 each_name_only : (parts : List (List ℕ)) (tail : List ℕ) (names : List (List ℕ)) → each_name_read parts tail ≡ Some names → (1 ≤ length names) × All IsName names × (more_names names ≡ 32 ∷ joined 32 parts tail)
 unfolding joined
 each_name_only [] tail names is =
-    let name = maps (λ n. n ∷ []) (name_read tail) names is in
+    let name = map_read (name_read tail) (λ n. n ∷ []) names is in
     let its = name_printed tail name.0 name.1 in
     subst (λ (ns : List (List ℕ)). (1 ≤ length ns) × All IsName ns × (more_names ns ≡ 32 ∷ tail)) name.2
     (omega arith, All-cons IsName name.0 [] its.1 (All-nil IsName), ap (λ (bs : List ℕ). 32 ∷ bs) (append-nil (printed_name name.0) ∙ its.0))
 each_name_only (part ∷ parts) tail names is =
-    let name = binds (λ n. option_map (λ more. n ∷ more) (each_name_read parts tail)) (name_read part) names is in
-    let more = maps (λ more. name.0 ∷ more) (each_name_read parts tail) names name.2 in
+    let name = then_read (name_read part) (λ n. option_map (λ more. n ∷ more) (each_name_read parts tail)) names is in
+    let more = map_read (each_name_read parts tail) (λ more. name.0 ∷ more) names name.2 in
     let its = name_printed part name.0 name.1 in
     let others = each_name_only parts tail more.0 more.1 in
     subst (λ (ns : List (List ℕ)). (1 ≤ length ns) × All IsName ns × (more_names ns ≡ 32 ∷ (part ++ 32 ∷ joined 32 parts tail))) more.2
@@ -206,9 +202,9 @@ moment_then text left right t is printed = cut_joined 32 text left right is ∙ 
 
 done_only : (rest : List ℕ) (line : Follow) → done_read rest ≡ Some line → IsWritten line (codes "did" ++ 32 ∷ rest)
 done_only rest line is =
-    let parts = binds (λ parts. option_and_then (λ t. option_map (done_at t) (names_read parts.1)) (moment_of parts.0)) (cut_at_space rest) line is in
-    let t = binds (λ t. option_map (done_at t) (names_read parts.0.1)) (moment_of parts.0.0) line parts.2 in
-    let names = maps (done_at t.0) (names_read parts.0.1) line t.2 in
+    let parts = then_read (cut_at_space rest) (λ parts. option_and_then (λ t. option_map (done_at t) (names_read parts.1)) (u32_read parts.0)) line is in
+    let t = then_read (u32_read parts.0.0) (λ t. option_map (done_at t) (names_read parts.0.1)) line parts.2 in
+    let names = map_read (names_read parts.0.1) (done_at t.0) line t.2 in
     let moment = moment_only parts.0.0 t.0 t.1 in
     let its = names_only parts.0.1 names.0 names.1 in
     let whole : rest ≡ printed_number t.0 ++ more_names names.0 = moment_then rest parts.0.0 parts.0.1 t.0 parts.1 moment.0 ∙ ap (λ (bs : List ℕ). printed_number t.0 ++ bs) (sym its.2) in
@@ -216,31 +212,31 @@ done_only rest line is =
 
 outcome_only : (t : ℕ) (rest : List ℕ) (line : Follow) → t < 2 ^ 32 → outcome_read t rest ≡ Some line → IsWritten line (codes "saw" ++ 32 ∷ (printed_number t ++ 32 ∷ rest))
 outcome_only t rest line small is =
-    let parts = binds (λ parts. option_and_then (λ p. option_map (came_at t p) (truth_read parts.1)) (prop_read parts.0)) (cut_at_space rest) line is in
-    let p = binds (λ p. option_map (came_at t p) (truth_read parts.0.1)) (prop_read parts.0.0) line parts.2 in
-    let value = maps (came_at t p.0) (truth_read parts.0.1) line p.2 in
+    let parts = then_read (cut_at_space rest) (λ parts. option_and_then (λ p. option_map (came_at t p) (truth_read parts.1)) (prop_read parts.0)) line is in
+    let p = then_read (prop_read parts.0.0) (λ p. option_map (came_at t p) (truth_read parts.0.1)) line parts.2 in
+    let value = map_read (truth_read parts.0.1) (came_at t p.0) line p.2 in
     let letter = prop_only parts.0.0 p.0 p.1 in
     let whole = spaced rest parts.0.0 parts.0.1 _ _ (cut_joined 32 rest parts.0.0 parts.0.1 parts.1) letter.0 (sym (truth_only parts.0.1 value.0 value.1)) in
     same_line (came_at t p.0 value.0) line _ value.2 (ap (λ (bs : List ℕ). codes "saw" ++ 32 ∷ (printed_number t ++ 32 ∷ bs)) whole, (small, letter.1))
 
 came_only : (rest : List ℕ) (line : Follow) → came_read rest ≡ Some line → IsWritten line (codes "saw" ++ 32 ∷ rest)
 came_only rest line is =
-    let parts = binds (λ parts. option_and_then (λ t. outcome_read t parts.1) (moment_of parts.0)) (cut_at_space rest) line is in
-    let t = binds (λ t. outcome_read t parts.0.1) (moment_of parts.0.0) line parts.2 in
+    let parts = then_read (cut_at_space rest) (λ parts. option_and_then (λ t. outcome_read t parts.1) (u32_read parts.0)) line is in
+    let t = then_read (u32_read parts.0.0) (λ t. outcome_read t parts.0.1) line parts.2 in
     let moment = moment_only parts.0.0 t.0 t.1 in
     subst (λ (bs : List ℕ). IsWritten line (codes "saw" ++ 32 ∷ bs)) (sym (moment_then rest parts.0.0 parts.0.1 t.0 parts.1 moment.0)) (outcome_only t.0 parts.0.1 line moment.1 t.2)
 
-now_only : (rest : List ℕ) (line : Follow) → option_map now_at (moment_of rest) ≡ Some line → IsWritten line (codes "now" ++ 32 ∷ rest)
+now_only : (rest : List ℕ) (line : Follow) → option_map now_at (u32_read rest) ≡ Some line → IsWritten line (codes "now" ++ 32 ∷ rest)
 now_only rest line is =
-    let t = maps now_at (moment_of rest) line is in
+    let t = map_read (u32_read rest) now_at line is in
     let moment = moment_only rest t.0 t.1 in
     same_line (now_at t.0) line _ t.2 (ap (λ (bs : List ℕ). codes "now" ++ 32 ∷ bs) (sym moment.0), moment.1)
 
 awaited_only : (rest : List ℕ) (line : Follow) → awaited_read rest ≡ Some line → IsWritten line (codes "await" ++ 32 ∷ rest)
 awaited_only rest line is =
-    let parts = binds (λ parts. option_and_then (λ t. option_map (awaited_at t) (prop_read parts.1)) (moment_of parts.0)) (cut_at_space rest) line is in
-    let t = binds (λ t. option_map (awaited_at t) (prop_read parts.0.1)) (moment_of parts.0.0) line parts.2 in
-    let p = maps (awaited_at t.0) (prop_read parts.0.1) line t.2 in
+    let parts = then_read (cut_at_space rest) (λ parts. option_and_then (λ t. option_map (awaited_at t) (prop_read parts.1)) (u32_read parts.0)) line is in
+    let t = then_read (u32_read parts.0.0) (λ t. option_map (awaited_at t) (prop_read parts.0.1)) line parts.2 in
+    let p = map_read (prop_read parts.0.1) (awaited_at t.0) line t.2 in
     let moment = moment_only parts.0.0 t.0 t.1 in
     let letter = prop_only parts.0.1 p.0 p.1 in
     let whole : rest ≡ printed_number t.0 ++ 32 ∷ letter_of p.0 ∷ [] = moment_then rest parts.0.0 parts.0.1 t.0 parts.1 moment.0 ∙ ap (λ (bs : List ℕ). printed_number t.0 ++ 32 ∷ bs) (sym letter.0) in
@@ -248,19 +244,19 @@ awaited_only rest line is =
 
 deadline_only : (rest : List ℕ) (line : Follow) → option_map ends_by (number_within 0 most_deadline rest) ≡ Some line → IsWritten line (codes "deadline" ++ 32 ∷ rest)
 deadline_only rest line is =
-    let ticks = maps ends_by (number_within 0 most_deadline rest) line is in
+    let ticks = map_read (number_within 0 most_deadline rest) ends_by line is in
     let its = within_said 0 most_deadline rest ticks.0 ticks.1 in
     same_line (ends_by ticks.0) line _ ticks.2 (ap (λ (bs : List ℕ). codes "deadline" ++ 32 ∷ bs) its.2, its.1)
 
 by_only : (rest : List ℕ) (line : Follow) → option_map asks_by (name_read rest) ≡ Some line → IsWritten line (codes "by" ++ 32 ∷ rest)
 by_only rest line is =
-    let name = maps asks_by (name_read rest) line is in
+    let name = map_read (name_read rest) asks_by line is in
     let its = name_printed rest name.0 name.1 in
     same_line (asks_by name.0) line _ name.2 (ap (λ (bs : List ℕ). codes "by" ++ 32 ∷ bs) (sym its.0), its.1)
 
 edit_of_only : (word rest : List ℕ) (line : Follow) → option_map edits (edited_read (word, rest)) ≡ Some line → IsWritten line (word ++ 32 ∷ rest)
 edit_of_only word rest line is =
-    let edit = maps edits (edited_read (word, rest)) line is in
+    let edit = map_read (edited_read (word, rest)) edits line is in
     let its = edited_only word rest edit.0 edit.1 in
     same_line (edits edit.0) line _ edit.2 (its.0, its.1)
 
@@ -273,7 +269,7 @@ followed_only word rest line is =
     spelled bytes same written = subst (λ (w : List ℕ). IsWritten line (w ++ 32 ∷ rest)) (sym ((bytes_eq-Decides word bytes).0 same)) written
 
     at : (did saw now await deadline by : Bool) → did ≡ bytes_eq word (codes "did") → saw ≡ bytes_eq word (codes "saw") → now ≡ bytes_eq word (codes "now") → await ≡ bytes_eq word (codes "await") → deadline ≡ bytes_eq word (codes "deadline") → by ≡ bytes_eq word (codes "by")
-        → (if did then done_read rest else if saw then came_read rest else if now then option_map now_at (moment_of rest) else if await then awaited_read rest
+        → (if did then done_read rest else if saw then came_read rest else if now then option_map now_at (u32_read rest) else if await then awaited_read rest
         else if deadline then option_map ends_by (number_within 0 most_deadline rest) else if by then option_map asks_by (name_read rest) else option_map edits (edited_read (word, rest))) ≡ Some line
         → IsWritten line (word ++ 32 ∷ rest)
     at true saw now await deadline by a b c d e f said = spelled (codes "did") (sym a) (done_only rest line said)
@@ -301,7 +297,7 @@ follow_written text line is =
     at false false true check a b c d said = same_line asks_rest line text (just asks_rest line said) (spelled (codes "rest") (sym c), tt)
     at false false false true a b c d said = same_line (edits asked) line text (just (edits asked) line said) (spelled (codes "check") (sym d), tt)
     at false false false false a b c d said =
-        let parts = binds followed_read (cut_at_space text) line said in
+        let parts = then_read (cut_at_space text) followed_read line said in
         subst (λ (x : List ℕ). IsWritten line x) (sym (cut_joined 32 text parts.0.0 parts.0.1 parts.1)) (followed_only parts.0.0 parts.0.1 line parts.2)
 
 pub follow_only : (text : List ℕ) (line : Follow) → follow_read text ≡ Some line → IsTextOf line text

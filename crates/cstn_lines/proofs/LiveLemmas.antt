@@ -10,6 +10,7 @@ use Rattle.cstn_text.specs.Numbers.{number_read, printed_number}
 use Rattle.cstn_text.proofs.CutLemmas.{cut_back, cut_joined}
 use Rattle.cstn_text.proofs.NumberLemmas.{number_back, number_printed}
 use Rattle.cstn_lines.specs.LiveLines.{Live, moment_at, seen, due_now, cut_at_space, moment_read, prop_read, truth_read, seen_read, operands_read, live_read, IsLive, printed_truth, printed_live}
+use Rattle.cstn_label.proofs.LetterLemmas.{letter_back}
 
 -- a word without a space, then a space and more bytes, are cut at that space
 pub joined_cut : (word rest : List ℕ) → list_all (λ b. not (b == 32)) word ≡ true → cut_at_space (word ++ 32 ∷ rest) ≡ Some (word, rest)
@@ -23,9 +24,6 @@ joined_cut word rest none = cut_back 32 word rest (no_space word none)
 
 chosen : (t : ℕ) → t < 2 ^ 32 → (if nat_lt t (2 ^ 32) then Some (moment_at t) else None) ≡ Some (moment_at t)
 chosen t small = grind arith
-
-pub letter_back : (p : ℕ) → p < 52 → prop_of (letter_of p) ≡ Some p
-letter_back p small = grind arith
 
 pub letter_is_part : (p : ℕ) → list_all (λ b. not (b == 32)) (letter_of p ∷ []) ≡ true
 letter_is_part p = grind arith

@@ -133,7 +133,7 @@ pub no_bytes : (told : Option (List ℕ)) → told ≡ after_bytes [] told
 no_bytes None = refl
 no_bytes (Some xs) = refl
 
-more_bytes : (told mid now : Option (List ℕ)) (before taken : List ℕ) → told ≡ after_bytes before mid → mid ≡ after_bytes taken now → told ≡ after_bytes (before ++ taken) now
+pub more_bytes : (told mid now : Option (List ℕ)) (before taken : List ℕ) → told ≡ after_bytes before mid → mid ≡ after_bytes taken now → told ≡ after_bytes (before ++ taken) now
 more_bytes told mid None before taken is then = rw (is, then) refl
 more_bytes told mid (Some xs) before taken is then = rw (is, then, append_assoc) refl
 

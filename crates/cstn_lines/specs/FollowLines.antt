@@ -5,6 +5,7 @@ use Rattle.std.specs.Option.{option_map, option_and_then}
 use Rattle.cstn_label.specs.Letters.{letter_of}
 use Rattle.cstn_net.specs.Limits.{most_deadline}
 use Rattle.cstn_text.specs.Names.{IsName}
+use Rattle.cstn_text.specs.SmallNumbers.{u32_read}
 use Rattle.cstn_text.specs.Numbers.{number_within, printed_number}
 use Rattle.cstn_text.specs.PrintedNames.{name_read, printed_name}
 use Rattle.cstn_text.specs.Parts.{parts_at}
@@ -40,10 +41,6 @@ the_follow (By name) = asks_by name
 the_follow Blame = asks_blame
 the_follow Rest = asks_rest
 
--- a moment is a number below 2^32
-abbrev pub moment_of : List ℕ → Option ℕ
-moment_of text = number_within 0 4294967295 text
-
 -- the names that the parts print, and the one that the text after the last space prints
 abbrev pub each_name_read : List (List ℕ) → List ℕ → Option (List (List ℕ))
 each_name_read [] tail = option_map (λ name. name ∷ []) (name_read tail)
@@ -55,7 +52,7 @@ names_read text = each_name_read (parts_at 32 text).0 (parts_at 32 text).1
 
 -- a moment, a space, and names
 abbrev pub done_read : List ℕ → Option Follow
-done_read text = option_and_then (λ parts. option_and_then (λ t. option_map (done_at t) (names_read parts.1)) (moment_of parts.0)) (cut_at_space text)
+done_read text = option_and_then (λ parts. option_and_then (λ t. option_map (done_at t) (names_read parts.1)) (u32_read parts.0)) (cut_at_space text)
 
 -- the outcome of a letter, a space, and `true` or `false`, which came at a moment
 abbrev pub outcome_read : ℕ → List ℕ → Option Follow
@@ -63,18 +60,18 @@ outcome_read t text = option_and_then (λ parts. option_and_then (λ p. option_m
 
 -- a moment, a space, and an outcome
 abbrev pub came_read : List ℕ → Option Follow
-came_read text = option_and_then (λ parts. option_and_then (λ t. outcome_read t parts.1) (moment_of parts.0)) (cut_at_space text)
+came_read text = option_and_then (λ parts. option_and_then (λ t. outcome_read t parts.1) (u32_read parts.0)) (cut_at_space text)
 
 -- a moment, a space, and a letter
 abbrev pub awaited_read : List ℕ → Option Follow
-awaited_read text = option_and_then (λ parts. option_and_then (λ t. option_map (awaited_at t) (prop_read parts.1)) (moment_of parts.0)) (cut_at_space text)
+awaited_read text = option_and_then (λ parts. option_and_then (λ t. option_map (awaited_at t) (prop_read parts.1)) (u32_read parts.0)) (cut_at_space text)
 
 -- what the word of a line and what follows it say
 abbrev pub followed_read : List ℕ × List ℕ → Option Follow
 followed_read parts =
     if bytes_eq parts.0 (codes "did") then done_read parts.1
     else if bytes_eq parts.0 (codes "saw") then came_read parts.1
-    else if bytes_eq parts.0 (codes "now") then option_map now_at (moment_of parts.1)
+    else if bytes_eq parts.0 (codes "now") then option_map now_at (u32_read parts.1)
     else if bytes_eq parts.0 (codes "await") then awaited_read parts.1
     else if bytes_eq parts.0 (codes "deadline") then option_map ends_by (number_within 0 most_deadline parts.1)
     else if bytes_eq parts.0 (codes "by") then option_map asks_by (name_read parts.1)

@@ -2,10 +2,11 @@
 ghost use Rattle.std.specs.Prelude.{◌≡◌, ◌||◌, true, IfOk, OnErr, codes, bytes_eq};
 ghost use Rattle.std.specs.Option.{option_map};
 ghost use Rattle.cstn_net.specs.Limits.{most_deadline};
+ghost use Rattle.cstn_text.specs.SmallNumbers.{u32_read};
 ghost use Rattle.cstn_text.specs.Numbers.{number_within};
 ghost use Rattle.cstn_text.specs.PrintedNames.{name_read};
 ghost use Rattle.cstn_lines.specs.EditLines.{edited_read};
-ghost use Rattle.cstn_lines.specs.FollowLines.{the_follow, now_at, edits, ends_by, asks_by, moment_of, names_read, done_read, outcome_read, came_read};
+ghost use Rattle.cstn_lines.specs.FollowLines.{the_follow, now_at, edits, ends_by, asks_by, names_read, done_read, outcome_read, came_read};
 ghost use Rattle.cstn_lines.specs.FollowLines.{awaited_read, followed_read, follow_read, IsNaming};
 
 use crate::edits::{EditLine, NameText, read_edited, read_name_text};
@@ -162,7 +163,7 @@ fn read_outcome(t: u32, bytes: &[u8]) -> Option<FollowLine>
 }
 
 fn read_now(bytes: &[u8]) -> Option<FollowLine>
-    ensures { option_map the_follow result ≡ option_map now_at (moment_of bytes.now) }
+    ensures { option_map the_follow result ≡ option_map now_at (u32_read bytes.now) }
 {
     let t = read_moment(bytes)?;
     Some(FollowLine::Now { t })
@@ -195,7 +196,7 @@ fn read_by(alloc: Global, bytes: &[u8]) -> Result<Option<FollowLine>, AllocError
 
 // A moment in ticks, from 0 to 4,294,967,295.
 fn read_moment(bytes: &[u8]) -> Option<u32>
-    ensures { result ≡ moment_of bytes.now }
+    ensures { result ≡ u32_read bytes.now }
 {
     read_number_within(0, u32::MAX, bytes)
 }

@@ -10,7 +10,7 @@ use Rattle.cstn_rules.specs.declared.entries.Entry.{Entry}
 use Rattle.cstn_pool.specs.declared.slot_id.SlotId.{SlotId}
 use Rattle.cstn_pool.specs.Slots.{value_at}
 use Rattle.cstn_minset.specs.Sets.{Entries, IsThere, IsOver, IsCovered}
-use Rattle.cstn_log.specs.Entries.{HasId, IsDominator, IsCoveredBy, IsLive}
+use Rattle.cstn_log.specs.Entries.{HasId, IsBoundAt, IsDominator, IsCoveredBy, IsLive}
 use Rattle.cstn_log.specs.Kept.{IsKept, IsPooled, IsTabled}
 
 -- no id has an empty slot
@@ -48,6 +48,10 @@ unplaced table entries ids slot is other = go (get_or table slot None) refl
 
 pub few : (slots : List (Option (ℕ × Entry))) (births : ℕ) (entries : List Entry) (ids : List SlotId) → IsPooled slots births entries ids → length ids ≤ length slots
 few slots births entries ids is = omega (arith, is.used, count_by-le-length is_some slots)
+
+-- the entry of a bound that is read
+pub entry_with : (entries : List Entry) (k : ℕ) (b : Bound) (at : IsBoundAt entries k b) → slice_get entries k ≡ Some (record { bound = b; why = at.entry.why })
+entry_with entries k b at = subst (λ z. slice_get entries k ≡ Some (record { bound = z; why = at.entry.why })) at.is at.there
 
 -- what is read at a place
 pub one_read : {X : Type 0} (xs : List X) (k : ℕ) (x : X) → k < length xs → x ≡ get_or xs k x → slice_get xs k ≡ Some x

@@ -1,10 +1,10 @@
 -- Lists whose entries name their premises by slots.
 use Rattle.std.proofs.Common.{ℕ, zero, suc, ◌≡◌, ◌≢◌, inl, inr, ◌+◌, ◌<◌, ◌≤◌, Bool, true, Option, Some, None, List, [], ◌∷◌, ◌++◌, length, map, get_or, set, arith, refl, sym, subst, ap, ◌∙◌, length-append}
-use Rattle.std.specs.Prelude.{slice_get, IsSome}
+use Rattle.std.specs.Prelude.{slice_get, IsSome, option_map}
 use Rattle.std.proofs.lemmas.Bool.{cases_Bool}
 use Rattle.std.proofs.lemmas.List.{map-append, map-id, get_or-set_other, get_or-set_same, length-map}
 use Rattle.std.proofs.lemmas.List.Sums.{count_by-le-length}
-use Rattle.std.proofs.lemmas.Option.{slice_get-get_or, slice_get-map, none-some, same_Some}
+use Rattle.std.proofs.lemmas.Option.{slice_get-get_or, slice_get-map, get_or_from_slice_get, none-some, same_Some}
 use Rattle.std.specs.Option.{is_some}
 use Rattle.cstn_label.specs.declared.bounds.Bound.{Bound}
 use Rattle.cstn_rules.specs.declared.entries.Entry.{Entry}
@@ -14,7 +14,7 @@ use Rattle.cstn_pool.specs.declared.slot_id.SlotId.{SlotId}
 use Rattle.cstn_pool.specs.Slots.{Slots}
 use Rattle.cstn_log.specs.Cuts.{PremisesBelow, PremisesMarked, is_marked, rank, renumbered, replaced, chosen_from, chosen}
 use Rattle.cstn_log.specs.Lists.{Listing, IsFiled, IsSlot, AreSlots, AreApart, AreHeldIn, placed, with_held, stored_in, birth_of, id_in, ids_in}
-use Rattle.cstn_log.specs.Kept.{AreLeft}
+use Rattle.cstn_log.specs.Kept.{AreLeft, AreStored, slots_of}
 use Rattle.cstn_log.proofs.ListLemmas.{get_left, get_more, get_map, map_same}
 use Rattle.cstn_log.proofs.KeptLemmas.{one_read}
 use Rattle.cstn_log.proofs.PushLemmas.{count_filled}
@@ -259,6 +259,44 @@ module _ (pool new : List (Option (ℕ × Entry))) (slots : List ℕ) (marks : L
     held = λ k s there. (let from = chosen_comes marks slots k s there in rw (same_there from.0 s from.1 from.2) (is.held from.0 s from.1));
     count = omega (arith, left.count, is.count, length_chosen marks slots);
   }
+
+-- ---- entries as the pool stores them
+
+slots_back : (pool : List (Option (ℕ × Entry))) (slots : List ℕ) → slots_of (ids_in pool slots) ≡ slots
+slots_back pool [] = refl
+slots_back pool (s ∷ slots) = ap (λ (l : List ℕ). s ∷ l) (slots_back pool slots)
+
+slot_again : (places slots : List ℕ) (s : ℕ) → IsFiled places slots → IsSlot slots s → get_or slots (get_or places s 0) 0 ≡ s
+slot_again places slots s filed slot =
+    ap (λ (p : ℕ). get_or slots p 0) (slot_place places slots s filed slot)
+    ∙ get_or_from_slice_get slots slot.place s 0 slot.there
+
+-- a rule that names its premises by slots names them so again, where each is replaced by its place and that by its slot
+named_again : (places slots : List ℕ) (why : Why) → IsFiled places slots → AreSlots slots why → replaced slots (replaced places why) ≡ why
+named_again places slots Base filed are = refl
+named_again places slots (Chain by s) filed are = ap (Chain by) (slot_again places slots s filed are)
+named_again places slots (Wait s t) filed are =
+    rw (slot_again places slots s filed are.0, slot_again places slots t filed are.1) refl
+
+-- the pool of a list stores each entry under its id
+pub pool_stores : (places slots : List ℕ) (pool : List (Option (ℕ × Entry))) → IsFiled places slots →
+    ((k : ℕ) (e : Entry) → slice_get (stored_in pool slots) k ≡ Some e → AreSlots slots e.why) → AreHeldIn pool slots →
+    AreStored pool (map (placed places) (stored_in pool slots)) (ids_in pool slots)
+pool_stores places slots pool filed named is k id there =
+    let from = get_map (id_in pool) slots k id there in
+    let x = some_there (get_or pool from.0 None) (is.held k from.0 from.1) in
+    let read = stored_at pool slots k from.0 x.0 is.held from.1 x.1 in
+    let e : Entry = placed places x.0.1 in
+    let at : slice_get (map (placed places) (stored_in pool slots)) k ≡ Some e =
+    slice_get-map (placed places) (stored_in pool slots) k ∙ ap (option_map (placed places)) read in
+    let birth : birth_of (get_or pool from.0 None) ≡ x.0.0 = ap birth_of x.1 in
+    let slot : from.0 ≡ id.slot = ap (λ (y : SlotId). y.slot) from.2 in
+    let born : x.0.0 ≡ id.birth = sym birth ∙ ap (λ (y : SlotId). y.birth) from.2 in
+    let held : get_or pool id.slot None ≡ Some (id.birth, x.0.1) =
+    ap (λ (s : ℕ). get_or pool s None) (sym slot) ∙ x.1 ∙ ap (λ (n : ℕ). Some (n, x.0.1)) born in
+    let why : x.0.1.why ≡ replaced (slots_of (ids_in pool slots)) e.why =
+    sym (named_again places slots x.0.1.why filed (named k x.0.1 read)) ∙ ap (λ (l : List ℕ). replaced l e.why) (sym (slots_back pool slots)) in
+    (e, x.0.1, at, held, refl, why)
 
 -- a list as contracts see it
 abbrev pub listing : List ℕ → List ℕ → Slots Entry → ℕ → Listing

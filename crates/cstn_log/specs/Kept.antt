@@ -1,5 +1,5 @@
 -- How a log keeps its entries.
-use Rattle.std.specs.Prelude.{◌≡◌, ◌⊎◌, ℕ, ◌<◌, ◌≤◌, ◌+◌, ◌*◌, ◌/◌, Bool, true, false, List, length, Option, None, Some, slice_get, slice_index_or}
+use Rattle.std.specs.Prelude.{◌≡◌, ◌⊎◌, ℕ, ◌<◌, ◌≤◌, ◌+◌, ◌*◌, ◌/◌, Bool, true, false, List, length, map, Option, None, Some, slice_get, slice_index_or}
 use Rattle.cstn_label.specs.declared.bounds.Bound.{Bound}
 use Rattle.cstn_net.specs.Limits.{most_load}
 use Rattle.cstn_rules.specs.declared.entries.Entry.{Entry}
@@ -7,7 +7,7 @@ use Rattle.cstn_pool.specs.declared.slot_id.SlotId.{SlotId}
 use Rattle.cstn_pool.specs.Slots.{live_of}
 use Rattle.cstn_minset.specs.Sets.{Entries, IsPlaced, IsCovered}
 use Rattle.cstn_log.specs.Entries.{IsCoveredBy, IsLive, AllNew}
-use Rattle.cstn_log.specs.Cuts.{is_marked, rank, renumbered}
+use Rattle.cstn_log.specs.Cuts.{is_marked, rank, renumbered, replaced}
 use Rattle.cstn_label.specs.declared.props.Prop.{Prop}
 use Rattle.cstn_log.specs.declared.sets.PlaceSets.{PlaceSets}
 use Rattle.cstn_log.specs.PlaceSets.{AreMarked, AreStanding}
@@ -23,6 +23,16 @@ pub record IsIdAt (ids : List SlotId) (slot birth k : ℕ) : Type 0 where
 -- the pool holds the bound of each entry under its id
 abbrev pub AreHeld : List (Option (ℕ × Entry)) → List Entry → List SlotId → Type 0
 AreHeld slots entries ids = (k : ℕ) (id : SlotId) → slice_get ids k ≡ Some id → (e : Entry) × (held : Entry) × (slice_get entries k ≡ Some e) × (slice_index_or slots id.slot None ≡ Some (id.birth, held)) × (held.bound ≡ e.bound)
+
+-- the slots of the ids
+abbrev pub slots_of : List SlotId → List ℕ
+slots_of ids = map (λ id. id.slot) ids
+
+-- the pool holds each entry under its id, with its premises named by their slots
+abbrev pub AreStored : List (Option (ℕ × Entry)) → List Entry → List SlotId → Type 0
+AreStored slots entries ids = (k : ℕ) (id : SlotId) → slice_get ids k ≡ Some id
+    → (e : Entry) × (held : Entry) × (slice_get entries k ≡ Some e) × (slice_index_or slots id.slot None ≡ Some (id.birth, held))
+    × (held.bound ≡ e.bound) × (held.why ≡ replaced (slots_of ids) e.why)
 
 -- the pool holds an entry for each id and nothing else, and births ascend along the ids
 pub record IsPooled (slots : List (Option (ℕ × Entry))) (births : ℕ) (entries : List Entry) (ids : List SlotId) : Type 0 where

@@ -1,9 +1,23 @@
-// Laws of cut lists.
-ghost use Rattle.std.specs.Prelude.{ℕ, ◌≡◌, ◌⊎◌, ◌<◌, ◌-◌, List, length};
+// Laws of logs, and of lists that are cut.
+ghost use Rattle.std.specs.Prelude.{ℕ, ◌≡◌, ◌⊎◌, ◌<◌, ◌≤◌, ◌-◌, List, length};
+ghost use Rattle.cstn_net.specs.Limits.{most_load};
 ghost use Rattle.cstn_net.specs.Networks.{Network};
 ghost use Rattle.cstn_rules.specs.Derivations.{Entry, IsDerivation};
 ghost use Rattle.cstn_log.specs.Ancestors.{IsAncestor, DependsOn, HasThose};
 ghost use Rattle.cstn_log.specs.Cuts.{AllEarlier, part, dropped};
+ghost use Rattle.cstn_log.specs.Entries.{AllNew};
+
+use crate::log::Log;
+
+/// Does nothing. A log has at most as many entries as its cap, which is at most 4,194,304, and none of them is dominated by an
+/// earlier one.
+pub fn log_is_well_formed(log: &Log)
+    ensures at_most { length log.now.entries ≤ log.now.cap }
+    ensures largest { log.now.cap ≤ most_load }
+    ensures all_new { AllNew log.now.entries }
+{
+    let _ = log.len();
+}
 
 /// A part has exactly the last entry and its ancestors, and what is left without a constraint exactly the entries that neither it
 /// gave nor descend from one that it gave; both in order, with premises at their new places.

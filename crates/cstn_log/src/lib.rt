@@ -18,5 +18,5 @@ pub use caps::Cap;
 pub use cuts::{
     cuts_are_derivations, cuts_are_known, dropping_leaves_derivations, parts_are_derivations,
 };
-pub use laws::cut_lists_follow_ancestors;
+pub use laws::{cut_lists_follow_ancestors, log_is_well_formed};
 pub use log::Log;

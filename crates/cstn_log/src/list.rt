@@ -5,7 +5,7 @@ ghost use Rattle.cstn_net.specs.Limits.{most_load};
 ghost use Rattle.cstn_rules.specs.declared.entries.Entry.{Entry as TheEntry};
 ghost use Rattle.cstn_pool.specs.Slots.{live_of};
 ghost use Rattle.cstn_log.specs.Entries.{HasId, IsBoundAt, the_entries};
-ghost use Rattle.cstn_log.specs.Kept.{AreLeft, IsPooled, renewed};
+ghost use Rattle.cstn_log.specs.Kept.{AreLeft, AreStored, IsPooled, renewed};
 ghost use Rattle.cstn_log.specs.Cuts.{PremisesBelow, AllEarlier, IsClosedUnder, replaced, chosen};
 ghost use Rattle.cstn_log.specs.Lists.{Listing, AreApart, IsFiled, ids_in};
 
@@ -77,7 +77,8 @@ impl EntryList {
 
     // The pool, which holds each entry under its id, with its premises named by slots.
     pub fn pool(&self) -> &Pool<Entry>
-        ensures { result.now ≡ self.now.pool }
+        ensures pool { result.now ≡ self.now.pool }
+        ensures stored { AreStored self.now.pool.slots self.now.entries self.now.ids }
     {
         &self.pool
     }

@@ -12,7 +12,7 @@ ghost use Rattle.cstn_rules.specs.Derivations.{Follows, IsDerivation, IsRefutati
 ghost use Rattle.cstn_minset.specs.Sets.{IsPlaced};
 ghost use Rattle.cstn_log.specs.Entries.{State, HasId, AreBornFrom, the_entries, IsBoundAt, IsDominator, IsCoveredBy, IsLive, AllNew, bases, first_entries};
 ghost use Rattle.cstn_log.specs.Cuts.{PremisesBelow, is_marked as is_marked_at, chosen, marked_staying, with_ancestors, last_marked, cut, part, dropped};
-ghost use Rattle.cstn_log.specs.Kept.{IsIdAt};
+ghost use Rattle.cstn_log.specs.Kept.{IsIdAt, AreStored};
 ghost use Rattle.cstn_label.specs.declared.props.Prop.{Prop as TheProp};
 ghost use Rattle.cstn_log.specs.Blocks.{has_number};
 ghost use Rattle.cstn_log.specs.PlaceSets.{IsMarkedAt, IsAtNode, AreMarked, AreStanding};
@@ -412,12 +412,10 @@ impl Log {
         self.place(id).is_some()
     }
 
-    /// The pool, which holds the bound of each entry under its id, and nothing else.
+    /// The pool, which holds each entry under its id, with its premises named by their slots, and nothing else.
     pub fn pool(&self) -> &Pool<Entry>
         ensures births { result.now.births ≡ self.now.births }
-        ensures held { (k : ℕ) (id : SlotId) → slice_get self.now.ids k ≡ Some id
-            → (e : Entry) × (held : Entry) × (slice_get self.now.entries k ≡ Some e) × (slice_index_or result.now.slots id.slot None ≡ Some (id.birth, held))
-            × (held.bound ≡ e.bound) }
+        ensures held { AreStored result.now.slots self.now.entries self.now.ids }
         ensures exactly { (s : ℕ) (e : ℕ × Entry) → slice_index_or result.now.slots s None ≡ Some e → (k : ℕ) × IsIdAt self.now.ids s e.0 k }
     {
         self.list.pool()

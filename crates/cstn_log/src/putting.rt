@@ -32,6 +32,6 @@ pub fn place_all(minimal: &mut MinSet, list: &EntryList)
 {
     domination_is_an_order();
     for k in 0..list.len() {
-        minimal.place(&list.entry(k).bound, list.id(k));
+        minimal.place(&list.bound(k), list.id(k));
     }
 }

@@ -60,7 +60,7 @@ pub fn put_all(
     ensures room { (room_of marking.old ≤ room_of marking.new) × (room_of standing.old ≤ room_of standing.new) }
 {
     for k in 0..list.len() {
-        let b = list.entry(k).bound;
+        let b = list.bound(k);
         marking.put_marked(b.label, k as u32);
         put_standing(standing, watched, b.node, k as u32);
     }

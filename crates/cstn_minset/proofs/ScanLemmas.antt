@@ -3,11 +3,11 @@ use Rattle.std.proofs.Common.{◌≡◌, inl, inr, ℕ, ◌+◌, ◌<◌, List, 
 use Rattle.std.specs.Prelude.{Option, None, Some, slice_get, IsTrue, ◌↔◌}
 use Rattle.std.proofs.lemmas.Bool.{cases_eq}
 use Rattle.std.proofs.lemmas.Option.{same_Some}
-use Rattle.cstn_rows.specs.declared.page.Record.{Record}
-use Rattle.cstn_rows.specs.declared.page.Page.{Page}
-use Rattle.cstn_rows.specs.Chains.{IsFirstKey}
-use Rattle.cstn_rows.specs.Pages.{Paged, IsPageOf, numbered, most_pages}
-use Rattle.cstn_rows.proofs.HomeLemmas.{first_page, page_of_in, pages_are_numbers}
+use Rattle.cstn_minset.specs.declared.page.Record.{Record}
+use Rattle.cstn_minset.specs.declared.page.Page.{Page}
+use Rattle.cstn_minset.specs.Chains.{IsFirstKey}
+use Rattle.cstn_minset.specs.Pages.{Paged, IsPageOf, numbered, most_pages}
+use Rattle.cstn_minset.proofs.HomeLemmas.{first_page, page_of_in, pages_are_numbers}
 use Rattle.cstn_minset.specs.Sets.{IsNoneOf, IsNoneOn}
 
 -- a scan of a row stands at a page, and no record of the pages before it is of the kind

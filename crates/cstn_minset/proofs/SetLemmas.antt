@@ -12,10 +12,10 @@ use Rattle.cstn_label.specs.declared.labels.Label.{Label}
 use Rattle.cstn_label.specs.Labels.{IsWithin}
 use Rattle.cstn_label.specs.Read.{marks}
 use Rattle.cstn_pool.specs.declared.slot_id.SlotId.{SlotId}
-use Rattle.cstn_rows.specs.declared.page.Record.{Record}
-use Rattle.cstn_rows.specs.declared.page.Page.{Page}
-use Rattle.cstn_rows.specs.Pages.{Paged, on_page, held, SameRows}
-use Rattle.cstn_rows.proofs.RowLemmas.{at_all, all_from}
+use Rattle.cstn_minset.specs.declared.page.Record.{Record}
+use Rattle.cstn_minset.specs.declared.page.Page.{Page}
+use Rattle.cstn_minset.specs.Pages.{Paged, on_page, held, SameRows}
+use Rattle.cstn_minset.proofs.RowLemmas.{at_all, all_from}
 use Rattle.cstn_minset.specs.Sets.{Places, Entries, entry_at, IsPlaced, IsOver, IsCovered, IsCleared, record_of, records_from, IsListed, IsRecordAt, IsNoneOf, IsRecordOver, IsRecordUnder, IsMinimal, IsKept}
 use Rattle.cstn_minset.proofs.BoundLemmas.{MarksEnd, least_or_not, within_or_not, one_is_over}
 use Rattle.cstn_minset.proofs.TableLemmas.{placed_less, less_placed, minimal_less, minimal_none}

@@ -5,8 +5,8 @@ use Rattle.std.proofs.lemmas.Bool.{cases_eq}
 use Rattle.std.proofs.lemmas.List.{get_or-set_other, get_or-set_same, length-set, length-replicate}
 use Rattle.std.proofs.lemmas.Option.{none-some, same_Some}
 use Rattle.cstn_label.specs.declared.bounds.Bound.{Bound}
-use Rattle.cstn_rows.specs.declared.page.Record.{Record}
-use Rattle.cstn_rows.specs.Pages.{Paged, held, SameRows}
+use Rattle.cstn_minset.specs.declared.page.Record.{Record}
+use Rattle.cstn_minset.specs.Pages.{Paged, held, SameRows}
 use Rattle.cstn_minset.specs.Sets.{Entries, entry_at, IsPlaced, record_of, bound_of, recorded, entries_from, table_of, no_birth, birth_at, IsListed, IsNoneInSlot, IsInSlot, IsMinimal, IsKept, AreBirths, IsStored}
 use Rattle.cstn_minset.proofs.TableLemmas.{placed_more, placed_less, none_of}
 use Rattle.cstn_minset.proofs.SetLemmas.{all_cons, all_head, all_tail, at_slot, eq_or_not, weight_yes, weight_no, sum_zero, records_emptied, held_at, held_all, put_step, take_step, none_kept}

@@ -2,8 +2,8 @@
 use Rattle.std.specs.Prelude.{◌≡◌, ℕ, ◌<◌, ◌≤◌, List, Option, None, Some, MatchOption, slice_get, nat_lt, if◌then◌else◌}
 use Rattle.cstn_label.specs.declared.bounds.Bound.{Bound}
 use Rattle.cstn_pool.specs.declared.slot_id.SlotId.{SlotId}
-use Rattle.cstn_rows.specs.declared.page.Record.{Record}
-use Rattle.cstn_rows.specs.declared.page.Page.{Page}
+use Rattle.cstn_minset.specs.declared.page.Record.{Record}
+use Rattle.cstn_minset.specs.declared.page.Page.{Page}
 use Rattle.cstn_minset.specs.declared.passes.Sought.{Sought}
 use Rattle.cstn_minset.specs.declared.passes.Sought.TheVariants.{At, Marking}
 use Rattle.cstn_minset.specs.Sets.{IsAt, IsMarking, IsRecordAt, bound_of, birth_at}

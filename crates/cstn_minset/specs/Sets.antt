@@ -5,9 +5,9 @@ use Rattle.cstn_label.specs.Bounds.{Dominates}
 use Rattle.cstn_label.specs.Labels.{IsMarked, IsWithin}
 use Rattle.cstn_label.specs.Read.{marks, the_bound}
 use Rattle.cstn_pool.specs.declared.slot_id.SlotId.{SlotId}
-use Rattle.cstn_rows.specs.declared.page.Record.{Record}
-use Rattle.cstn_rows.specs.declared.page.Page.{Page}
-use Rattle.cstn_rows.specs.Pages.{Paged, held}
+use Rattle.cstn_minset.specs.declared.page.Record.{Record}
+use Rattle.cstn_minset.specs.declared.page.Page.{Page}
+use Rattle.cstn_minset.specs.Pages.{Paged, held}
 
 -- what each slot holds: nothing, or a birth and a bound
 abbrev pub Entries : Type 0

@@ -4,8 +4,12 @@
 
 mod births;
 mod laws;
+mod links;
 mod min_set;
+mod page;
 mod passes;
+mod places;
+mod rows;
 mod scan;
 
 pub use laws::{placing_leaves_what_nothing_later_dominates, walks_meet_each_once};

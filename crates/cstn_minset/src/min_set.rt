@@ -4,11 +4,12 @@ ghost use Rattle.cstn_minset.specs.Sets.{Places, Entries, entry_at, IsPlaced, Is
 ghost use Rattle.cstn_minset.specs.Sets.{IsFirstSlot, IsMinimal};
 
 use crate::births::{Births, NO_BIRTH};
+use crate::page::Record;
 use crate::passes::{Sought, earliest};
+use crate::rows::Rows;
 use crate::scan::{bound_in, place_under, slot_over};
 use cstn_label::{Bound, NodeId, Prop, labels_are_their_marks};
 use cstn_pool::SlotId;
-use cstn_rows::{Record, Rows};
 use std::alloc::{AllocError, Global};
 use std::marker::Model;
 

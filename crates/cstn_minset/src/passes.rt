@@ -4,9 +4,10 @@ ghost use Rattle.cstn_minset.specs.Sets.{bound_of};
 ghost use Rattle.cstn_minset.specs.Passes.{kind_of, IsCandidate, IsOnPage, IsOnPages, IsEarliest, earlier as the_earlier};
 
 use crate::births::Births;
+use crate::page::{Page, Record};
+use crate::rows::Rows;
 use cstn_label::{Mark, NodeId, Prop};
 use cstn_pool::SlotId;
-use cstn_rows::{Page, Record, Rows};
 
 /// What is looked for: the bounds at a time-point, or those whose label marks a proposition.
 #[derive(Clone, Copy)]

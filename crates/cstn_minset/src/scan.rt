@@ -1,11 +1,12 @@
 //! Looking through the rows of records for one that dominates a bound, or that a bound dominates.
 ghost use Rattle.std.specs.Prelude.{◌≡◌, ◌<◌, ◌↔◌, ℕ, Some, IsTrue, IfSome, IfNone, slice_get};
-ghost use Rattle.cstn_rows.specs.declared.page.Record.{Record as TheRecord};
-ghost use Rattle.cstn_rows.specs.Pages.{IsPage};
+ghost use Rattle.cstn_minset.specs.declared.page.Record.{Record as TheRecord};
+ghost use Rattle.cstn_minset.specs.Pages.{IsPage};
 ghost use Rattle.cstn_minset.specs.Sets.{IsRecordOver, IsRecordUnder, IsRecordAt, IsNoneOf, IsNoneOn, IsNoneInSlot, IsInSlot, bound_of};
 
+use crate::page::{Page, Record};
+use crate::rows::Rows;
 use cstn_label::{Bound, NodeId};
-use cstn_rows::{Page, Record, Rows};
 
 /// The slot of a record that dominates the bound; None exactly where none does.
 pub fn slot_over(rows: &Rows, b: &Bound) -> Option<u32>

@@ -16,11 +16,11 @@ use Rattle.std.proofs.lemmas.List.Elements.{All-map, All-push, All-filter, All-h
 use Rattle.std.proofs.lemmas.List.Quantifiers.{all_pairs_push}
 use Rattle.std.proofs.lemmas.List.Filters.{length-filter_both}
 use Rattle.std.proofs.lemmas.List.Kept.{AllPairs-filter}
+use Rattle.cstn_facts.proofs.Pairs.{all_unmap, pairs_unmap, pairs_map, pairs_tail, pairs_head}
 use Rattle.cstn_net.specs.declared.constraints.Constraint.{Constraint}
 use Rattle.cstn_net.specs.declared.points.TimePoint.{TimePoint}
 use Rattle.cstn_net.specs.Networks.{Network, IsConstraint, IsValue, IsWellFormed}
 use Rattle.cstn_net.specs.Read.{NetworkParts, the_network, the_constraint, has_id, without_id, with_most, observed, IsInRange}
-use Rattle.cstn_net.proofs.ListLemmas.{all_unmap, pairs_unmap, pairs_map, pairs_head, pairs_tail}
 use Rattle.cstn_net.proofs.WellFormed.{well_formed_with}
 
 -- the constraints are those of a well-formed network with these time-points

@@ -5,6 +5,8 @@ use Rattle.std.specs.List.{All}
 use Rattle.std.proofs.lemmas.Bool.{cases_lt}
 use Rattle.std.proofs.lemmas.List.{length-map}
 use Rattle.std.proofs.lemmas.List.Elements.{All-map, All-head, All-tail}
+use Rattle.cstn_facts.proofs.Pairs.{pairs_map}
+use Rattle.cstn_facts.proofs.Places.{some_within}
 use Rattle.cstn_label.specs.declared.nodes.NodeId.{NodeId}
 use Rattle.cstn_label.specs.declared.marks.Mark.TheVariants.{Absent}
 use Rattle.cstn_label.specs.Labels.{Label, IsPlain}
@@ -19,8 +21,7 @@ use Rattle.cstn_net.specs.Read.{observed, reaction_of, the_constraint}
 use Rattle.cstn_net.specs.Observers.{KnowsObservers, IsUnseen}
 use Rattle.cstn_net.specs.Faults.{IsFirst}
 use Rattle.cstn_net.specs.Drafts.{BuilderParts, LacksObserver, HasTwins, IsLeastOfFirst, IsDraftAmong, IsSized, IsSound, HasNetFault, HasReaction, net_number, observations, constraints_from}
-use Rattle.cstn_net.proofs.ListLemmas.{pairs_map}
-use Rattle.cstn_net.proofs.ObserverLemmas.{prop_below, stands_within}
+use Rattle.cstn_net.proofs.ObserverLemmas.{prop_below}
 use Rattle.cstn_net.proofs.ChangeLemmas.{net_of}
 use Rattle.cstn_net.proofs.DraftLemmas.{constraints_length, all_constraints, ids_ascend}
 
@@ -53,7 +54,7 @@ lowest_from b k sized upto values named single plain (NotObserved prop) has = el
 ]
 lowest_from b k sized upto values named single plain (TwoObservers prop first second) has = elim (cases_lt 7 k) [
   | inl looked ↦
-      let within = stands_within (observations b) second.0 prop.index has.other in
+      let within = some_within (observations b) second.0 prop.index has.other in
       let many = length-map b.points observed in
       absurd (single looked (record {
         x = first.0;
@@ -126,7 +127,7 @@ least_alike P Q there back xs p h = record {
   least = λ q below d found. h.least q below d (back q _ found);
 }
 
-letters_below : (points : List TimePoint) (x p : ℕ) → get_or (map observed points) x None ≡ Some p → p < 52
+pub letters_below : (points : List TimePoint) (x p : ℕ) → get_or (map observed points) x None ≡ Some p → p < 52
 letters_below [] x p e = cc
 letters_below (t ∷ ts) zero p e = prop_below t.observes p e
 letters_below (t ∷ ts) (suc x) p e = letters_below ts x p e
@@ -163,7 +164,7 @@ made_well_formed b table h sized sound among =
     let origin = sized.origin in
     let few_constraints = sized.few_constraints in
     let within : (x p : ℕ) → get_or (observations b) x None ≡ Some p → x < length b.points = λ x p e.
-    let inside = stands_within (observations b) x p e in omega arith in
+    let inside = some_within (observations b) x p e in omega arith in
     let twins : (x y p : ℕ) → x < y → get_or (observations b) x None ≡ Some p → get_or (observations b) y None ≡ Some p → ⊥ =
     λ x y p lt one other. sound.no_twins (record { x = x; y = y; p = p; ordered = lt; before = within y p other; one = one; other = other }) in
     record {

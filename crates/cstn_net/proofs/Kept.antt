@@ -1,7 +1,8 @@
 -- A strategy of a network is also one of the network with a later deadline or with fewer constraints.
 use Rattle.std.proofs.Common.{ℕ, zero, suc, ◌≤◌, List, arith}
 use Rattle.std.specs.List.{Contains}
-use Rattle.cstn_net.specs.Networks.{Network, Constraint, limit}
+use Rattle.cstn_net.specs.Limits.{most_deadline}
+use Rattle.cstn_net.specs.Networks.{Network, Constraint, IsWellFormed, limit}
 use Rattle.cstn_net.specs.Strategies.{Schedule, Table, IsKnown, IsStrategy}
 
 abbrev pub with_deadline : Network → ℕ → Network
@@ -16,6 +17,15 @@ known_later_end net h at t p k = record { observer = k.observer; observes = reco
 
 known_with : (net : Network) (cs : List Constraint) (at : Schedule) (t p : ℕ) → IsKnown net at t p → IsKnown (with_list net cs) at t p
 known_with net cs at t p k = record { observer = k.observer; observes = record { what = k.observes.what }; passed = k.passed }
+
+-- a time-point's limit is at most the deadline, and in a well-formed network at most the greatest deadline
+pub limit_upto : (net : Network) (x : ℕ) → limit net x ≤ net.deadline
+limit_upto net zero = omega arith
+limit_upto net (suc x) = omega arith
+
+pub limit_in_time : (net : Network) → IsWellFormed net → (x : ℕ) → limit net x ≤ most_deadline
+limit_in_time net good zero = omega arith
+limit_in_time net good (suc x) = good.in_time
 
 limit_grows : (net : Network) (h x : ℕ) → net.deadline ≤ h → limit net x ≤ limit (with_deadline net h) x
 limit_grows net h zero upto = omega arith

@@ -9,8 +9,7 @@ pub mod Plain
 pub mod Branch
 pub mod Late
 pub mod Ticks
--- Lists, and networks with other constraints.
-pub mod ListLemmas
+-- Networks with other constraints.
 pub mod WellFormed
 pub mod ChangeLemmas
 -- Observers and links.

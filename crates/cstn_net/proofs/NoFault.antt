@@ -1,5 +1,5 @@
 -- What has no lowest fault has none, and a builder without one makes a well-formed network.
-use Rattle.std.proofs.Common.{◌≡◌, ◌≢◌, ℕ, zero, suc, ◌+◌, ◌<◌, ◌≤◌, List, [], ◌∷◌, length, map, take, get_or, refl, ◌∙◌, subst, arith, Option, Some, None, inl, inr}
+use Rattle.std.proofs.Common.{◌≡◌, ◌≢◌, ℕ, zero, suc, ◌+◌, ◌<◌, ◌≤◌, List, length, map, take, get_or, refl, ◌∙◌, subst, arith, Option, None, inl, inr}
 use Rattle.std.specs.Prelude.{ℤ, pos, negsuc, replicate}
 use Rattle.std.specs.List.{All, HoldsAt}
 use Rattle.std.proofs.lemmas.Bool.{cases_lt}
@@ -22,9 +22,9 @@ use Rattle.cstn_net.specs.Networks.{IsValue, IsWellFormed}
 use Rattle.cstn_net.specs.Drafts.{BuilderParts, HasReaction, HasTwins, IsSized, IsSound, IsDraftAmong, LacksObserver, HasNetFault, IsLowestNetFault, net_number, observations, constraints_from}
 use Rattle.cstn_net.specs.Observers.{KnowsObservers, noted}
 use Rattle.cstn_net.specs.Read.{observed}
-use Rattle.cstn_net.proofs.ObserverLemmas.{prop_below, no_observers, noted_length, observers_turn}
+use Rattle.cstn_net.proofs.ObserverLemmas.{no_observers, noted_length, observers_turn}
 use Rattle.cstn_net.proofs.ChangeLemmas.{net_of}
-use Rattle.cstn_net.proofs.FaultLemmas.{made_well_formed}
+use Rattle.cstn_net.proofs.FaultLemmas.{letters_below, made_well_formed}
 
 -- what has no lowest fault has none
 pub no_faults : {E : Type 0} (HasFault : E → Type 0) (number : E → ℕ) → ((e : E) → IsLowestFault HasFault number e → ⊥) → (n : ℕ) (e : E) → number e ≤ n → HasFault e → ⊥
@@ -98,11 +98,6 @@ at_most m n h = elim (cases_lt m n) [
 at_least_one : (n : ℕ) → (n ≡ 0 → ⊥) → 0 < n
 at_least_one zero h = absurd (h refl)
 at_least_one (suc n) h = omega arith
-
-letters_below : (points : List TimePoint) (x p : ℕ) → get_or (map observed points) x None ≡ Some p → p < 52
-letters_below [] x p e = absurd (cc)
-letters_below (t ∷ ts) zero p e = prop_below t.observes p e
-letters_below (t ∷ ts) (suc x) p e = letters_below ts x p e
 
 pub letter_of_label : (a : Lent) (q : ℕ) → marks a q ≢ Absent → q < 52
 letter_of_label a q named = elim (cases_lt q 52) [

@@ -4,7 +4,7 @@ use Rattle.std.proofs.Common.{ℕ, zero, suc, ◌≡◌, ◌<◌, ◌≤◌, Boo
 use Rattle.std.specs.Prelude.{◌↔◌}
 use Rattle.std.specs.List.{list_any}
 use Rattle.std.proofs.Math.Path.{fun_ext}
-use Rattle.std.proofs.lemmas.Bool.{eqb-true, eq-eqb, and_parts, cases_Bool}
+use Rattle.std.proofs.lemmas.Bool.{eqb-true, eq-eqb, and_parts, cases_Bool, or_left, or_right}
 use Rattle.std.proofs.lemmas.List.Elements.{All-contains}
 use Rattle.cstn_label.specs.Labels.{Scenario, Label, Holds, MarkFits}
 use Rattle.cstn_label.proofs.MarkLemmas.{absent_or_not, fits_absent}
@@ -13,28 +13,22 @@ use Rattle.cstn_net.specs.Strategies.{Table, IsStrategy, IsConsistent, IsLeast}
 use Rattle.cstn_net.specs.Scenarios.{is_observed, IsScenarioOf, observed_alone, IsStrategyOnObserved, IsLeastOnObserved}
 use Rattle.cstn_net.proofs.Dynamic.{same_moments}
 
-just_it : (p : ℕ) (o : Option ℕ) → is_prop p o ≡ true → o ≡ Some p
-just_it p None e = cc
-just_it p (Some q) e = ap (λ n. Some n) (eqb-true q p e)
+pub prop_true : (p : ℕ) (o : Option ℕ) → is_prop p o ≡ true → o ≡ Some p
+prop_true p None e = cc
+prop_true p (Some q) e = ap (λ n. Some n) (eqb-true q p e)
 
-it_is : (p : ℕ) (o : Option ℕ) → o ≡ Some p → is_prop p o ≡ true
-it_is p None e = cc
-it_is p (Some q) e = subst (λ v. is_prop p v ≡ true) (sym e) (eq-eqb p p refl)
-
-or_first : (b c : Bool) → b ≡ true → (b || c) ≡ true
-or_first b c e = grind arith
-
-or_second : (b c : Bool) → c ≡ true → (b || c) ≡ true
-or_second b c e = grind arith
+pub true_prop : (p : ℕ) (o : Option ℕ) → o ≡ Some p → is_prop p o ≡ true
+true_prop p None e = cc
+true_prop p (Some q) e = subst (λ v. is_prop p v ≡ true) (sym e) (eq-eqb p p refl)
 
 or_rest : (b c : Bool) → b ≡ false → (b || c) ≡ true → c ≡ true
 or_rest b c n e = grind arith
 
 -- where a test on the list finds p, some place has it, and the other way round
-place_of : (os : List (Option ℕ)) (p : ℕ) → list_any (is_prop p) os ≡ true → (x : ℕ) × (get_or os x None ≡ Some p)
+pub place_of : (os : List (Option ℕ)) (p : ℕ) → list_any (is_prop p) os ≡ true → (x : ℕ) × (get_or os x None ≡ Some p)
 place_of [] p e = cc
 place_of (o ∷ os) p e = elim (cases_Bool (is_prop p o)) [
-  | inl here ↦ (zero, just_it p o here)
+  | inl here ↦ (zero, prop_true p o here)
   | inr other ↦
       let rest = place_of os p (or_rest (is_prop p o) (list_any (is_prop p) os) other e) in
       (suc rest.0, rest.1)
@@ -42,8 +36,8 @@ place_of (o ∷ os) p e = elim (cases_Bool (is_prop p o)) [
 
 found_at : (os : List (Option ℕ)) (p x : ℕ) → get_or os x None ≡ Some p → list_any (is_prop p) os ≡ true
 found_at [] p x e = cc
-found_at (o ∷ os) p zero e = or_first (is_prop p o) (list_any (is_prop p) os) (it_is p o e)
-found_at (o ∷ os) p (suc x) e = or_second (is_prop p o) (list_any (is_prop p) os) (found_at os p x e)
+found_at (o ∷ os) p zero e = or_left (is_prop p o) (list_any (is_prop p) os) (true_prop p o e)
+found_at (o ∷ os) p (suc x) e = or_right (is_prop p o) (list_any (is_prop p) os) (found_at os p x e)
 
 module _ (net : Network) where
   -- an observed proposition keeps its value in `observed_alone`

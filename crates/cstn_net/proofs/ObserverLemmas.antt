@@ -6,7 +6,8 @@ use Rattle.cstn_label.specs.Labels.{Label}
 use Rattle.cstn_net.specs.Networks.{Network, Observes, IsOnObserved, IsLeastUnobserved, is_prop}
 use Rattle.std.specs.Option.{option_map}
 use Rattle.std.proofs.lemmas.Bool.{cases_lt, cases_eq, eq-eqb, ne_eqb}
-use Rattle.std.proofs.lemmas.List.{map_more, get_or-map, length-map, get_or_past, length-take-le, get_or-set_same, get_or-set_other, length-set}
+use Rattle.std.proofs.lemmas.List.{map_more, get_or-map, length-map, length-take-le, get_or-set_same, get_or-set_other, length-set}
+use Rattle.cstn_facts.proofs.Places.{some_within}
 use Rattle.cstn_label.specs.declared.nodes.NodeId.{NodeId}
 use Rattle.cstn_label.specs.declared.props.Prop.{Prop}
 use Rattle.cstn_net.specs.declared.points.TimePoint.{TimePoint}
@@ -54,12 +55,6 @@ old_or_new (x ∷ xs) o (suc y) p e = elim (old_or_new xs o y p e) [
   | inr new ↦ inr (ap suc new.0, new.1)
 ]
 
-pub stands_within : (xs : List (Option ℕ)) (y p : ℕ) → get_or xs y None ≡ Some p → y < length xs
-stands_within xs y p e = elim (cases_lt y (length xs)) [
-  | inl h ↦ h
-  | inr past ↦ let none = get_or_past xs y None past in cc
-]
-
 module _ (observes : List (Option ℕ)) (table : List (Option NodeId)) (x : NodeId) (at_end : length observes ≡ x.0) (h : KnowsObservers observes table) where
   noted_none : KnowsObservers (observes ++ None ∷ []) table
   noted_none = record {
@@ -78,7 +73,7 @@ module _ (observes : List (Option ℕ)) (table : List (Option NodeId)) (x : Node
       | inr new ↦
           let other = new.1 in
           let same : p ≡ q = cc in
-          let before = stands_within observes z.0 p (h.right p z there) in
+          let before = some_within observes z.0 p (h.right p z there) in
           let last = new.0 in
           (z, subst (λ q. get_or table q None ≡ Some z) same there, omega arith)
     ];
@@ -184,7 +179,7 @@ no_reaction_by points table p h free = reaction_none points p (λ x there. let f
 pub observer_inside : (points : List TimePoint) (table : List (Option NodeId)) (p : ℕ) (x : NodeId) →
     KnowsObservers (map observed points) table → get_or table p None ≡ Some x → x.0 < length points
 observer_inside points table p x h there =
-    subst (λ n. x.0 < n) (length-map points observed) (stands_within (map observed points) x.0 p (h.right p x there))
+    subst (λ n. x.0 < n) (length-map points observed) (some_within (map observed points) x.0 p (h.right p x there))
 
 module _ (observes : List (Option ℕ)) (table : List (Option NodeId)) (h : KnowsObservers observes table) (x : NodeId) (o : Option ℕ) (at_x : get_or observes x.0 None ≡ o) where
   -- where no two earlier time-points observe one proposition, a time-point that isn't the first observer of its proposition

@@ -16,7 +16,8 @@ use Rattle.cstn_lift.specs.Strategies.{IsExecuted}
 use Rattle.cstn_lift.specs.WellFormed.{IsLabelled}
 use Rattle.cstn_lift.proofs.FullLemmas.{full_on}
 use Rattle.cstn_lift.proofs.LoweredLemmas.{observer_found, observer_back}
-use Rattle.cstn_history.specs.Histories.{History, IsObservedAt, AgreesWith, SettlesMark, IsOnLetters, is_done, known_at}
+use Rattle.cstn_label.specs.OnLetters.{IsOnLetters}
+use Rattle.cstn_history.specs.Histories.{History, IsObservedAt, AgreesWith, SettlesMark, is_done, known_at}
 use Rattle.cstn_history.specs.Continuations.{IsAwaited}
 use Rattle.cstn_history.specs.Facts.{settles, since, observed_since}
 use Rattle.cstn_history.proofs.Settled.{some_or_none, as_told, told_agrees, told_same, settles_holds}
@@ -119,11 +120,6 @@ module _ (m : Labelled) (h : History) (good : IsLabelled m) where
       let upto = by.2 in
       let is = b.3 in
       (b.2, record { since = b.0; observed = observed_back p b.0 b.1; passed = omega arith })
-
--- when what is ready comes
-pub coming_parts : (b : Bool) (n u : ℕ) → (if b then Some n else None) ≡ Some u → (b ≡ true) × (n ≡ u)
-coming_parts true n u e = (refl, (let same : n ≡ u = cc in same))
-coming_parts false n u e = absurd (cc)
 
 -- the test of a label, by whether it is plain
 pub plain_same : (a : Label) (b : Bool) → (b ≡ true → IsPlain a) → (IsPlain a → b ≡ true) → ((p : ℕ) → 52 ≤ p → a p ≡ Absent) → b ≡ is_plain a

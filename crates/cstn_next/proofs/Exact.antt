@@ -4,6 +4,8 @@ use Rattle.std.specs.Prelude.{◌↔◌, if◌then◌else◌, pos, ◌≤ℤ◌}
 use Rattle.std.specs.List.{Contains}
 use Rattle.std.proofs.lemmas.Int.{ints}
 use Rattle.std.proofs.lemmas.Bool.{and_parts, and_from, eqb-true, eq-eqb}
+use Rattle.std.proofs.lemmas.Option.{cond_some}
+use Rattle.cstn_facts.proofs.Ranges.{mapped, mapped_from, passing, passing_from}
 use Rattle.cstn_label.specs.declared.marks.Mark.TheVariants.{Absent}
 use Rattle.cstn_label.specs.Labels.{Scenario, Holds, IsPlain, MarkFits}
 use Rattle.cstn_label.specs.Marks.{is_plain}
@@ -31,8 +33,8 @@ use Rattle.cstn_history.proofs.ToRest.{executed_left}
 use Rattle.cstn_history.proofs.Decides.{least_both}
 use Rattle.cstn_history.proofs.NextMoment.{quiet_upto}
 use Rattle.cstn_next.specs.Next.{IsPlannedBy, IsAllDone, is_ready, latest, coming_at, coming_moments, awaited_from, awaited_moments, earliest, next_moment, is_upto, named, awaited}
-use Rattle.cstn_next.proofs.Lists.{IsBy, by_left, by_right, earlier_one, earliest_by, earliest_one, mapped, mapped_from, passing, passing_from}
-use Rattle.cstn_next.proofs.Coming.{upto_true, upto_by, ready_coming, ready_executed, ready_from, awaited_at, awaited_letter, awaited_now, awaited_back, coming_parts}
+use Rattle.cstn_next.proofs.Lists.{IsBy, by_left, by_right, earlier_one, earliest_by, earliest_one}
+use Rattle.cstn_next.proofs.Coming.{upto_true, upto_by, ready_coming, ready_executed, ready_from, awaited_at, awaited_letter, awaited_now, awaited_back}
 
 least_one : (m : Labelled) (h : History) (s : Scenario) (x t u : ℕ) → IsLeastNow m h s x t → IsLeastNow m h s x u → t ≡ u
 least_one m h s x t u a b =
@@ -170,7 +172,7 @@ module _ (m : Labelled) (h : History) (fresh : ℕ) (bounds : List Bound) (plan 
 
   named_from : (t x : ℕ) → NoneBefore t → x < count m.base → IsBy (coming_at m h bounds x) t → IsNamed m h t x
   named_from t x first here by =
-      let parts = coming_parts (is_ready m h x) (max h.now (latest bounds (new x))) by.0 by.1 in
+      let parts = cond_some (is_ready m h x) (max h.now (latest bounds (new x))) by.0 by.1 in
       let upto = by.2 in
       let is = parts.1 in
       let none = ready_coming m h good x parts.0 in
@@ -211,7 +213,7 @@ module _ (m : Labelled) (h : History) (fresh : ℕ) (bounds : List Bound) (plan 
     found = elim (earlier_one (earliest (coming_moments m h bounds)) (earliest (awaited_moments m h)) t is) [
       | inl step ↦
           let x = mapped_from (coming_at m h bounds) (count m.base) (Some t) (earliest_one (coming_moments m h bounds) t step) in
-          let parts = coming_parts (is_ready m h x.0) (max h.now (latest bounds (new x.0))) t x.2 in
+          let parts = cond_some (is_ready m h x.0) (max h.now (latest bounds (new x.0))) t x.2 in
           let at = parts.1 in
           (omega arith, inr (x.0, named_from t x.0 first_here x.1 (t, x.2, omega arith)))
       | inr outcome ↦

@@ -1,15 +1,16 @@
 -- The latest moments, as the program finds them one bound after the other, and the lists that it makes for all time-points.
 use Rattle.std.proofs.Common.{ℕ, suc, ◌≡◌, inl, inr, ◌+◌, ◌<◌, ◌≤◌, max, Bool, true, false, not, cond, ◌&&◌, List, [], ◌∷◌, ◌++◌, Option, Some, None, map, drop, length, get_or, arith, refl, sym, subst, ap, ◌∙◌}
-use Rattle.std.specs.Prelude.{◌==◌, slice_get, slice_index, slice_index_or, slice_set, replicate, if◌then◌else◌}
-use Rattle.std.specs.List.{All, filter, range_with_len}
-use Rattle.std.proofs.lemmas.Bool.{cases_lt, cases_eq, cond-true, cond-false, and_from, eq-eqb, ne_eqb}
-use Rattle.std.proofs.lemmas.List.{get_or-replicate, length-replicate, get_or_past, get_or-set_same, get_or-set_other, length-map, map-append, map-id}
-use Rattle.std.proofs.lemmas.List.Elements.{All-head, All-tail, filter-append}
+use Rattle.std.specs.Prelude.{◌==◌, slice_get, slice_index, slice_index_or, slice_set, if◌then◌else◌}
+use Rattle.std.specs.List.{filter, range_with_len}
+use Rattle.std.proofs.lemmas.Bool.{cases_eq, cond-true, cond-false, and_from, eq-eqb, ne_eqb}
+use Rattle.std.proofs.lemmas.List.{get_or-set_same, get_or-set_other, length-map, map-append, map-id}
+use Rattle.std.proofs.lemmas.List.Elements.{filter-append}
 use Rattle.std.proofs.lemmas.List.Filters.{length-filter_both}
 use Rattle.std.proofs.lemmas.List.FromFn.{length-range_with_len, get_or-range_with_len, map-range_with_len_more}
 use Rattle.std.proofs.lemmas.List.{get_or-map}
 use Rattle.std.proofs.lemmas.Option.{slice_get-get_or, slice_get_within}
 use Rattle.std.proofs.Math.Seq.{drop-cons}
+use Rattle.cstn_facts.proofs.Filters.{filter_agree_on}
 use Rattle.cstn_label.specs.declared.bounds.Bound.{Bound as ProgramBound}
 use Rattle.cstn_label.specs.Read.{the_bound}
 use Rattle.cstn_label.specs.Marks.{is_plain}
@@ -21,15 +22,6 @@ use Rattle.cstn_history.specs.Histories.{History}
 use Rattle.cstn_history.specs.Rest.{number_of, is_left}
 use Rattle.cstn_history.specs.Handed.{AreNumbers}
 use Rattle.cstn_next.specs.Next.{latest}
-
-pub zero_at : (n k : ℕ) → ◌≡◌ {A = ℕ} (slice_index_or (replicate n 0) k 0) 0
-zero_at n k =
-    let zeros : List ℕ = replicate n 0 in
-    let size : length zeros ≡ n = length-replicate n 0 in
-    elim (cases_lt k n) [
-      | inl inside ↦ get_or-replicate n k 0 0 inside
-      | inr past ↦ get_or_past zeros k 0 (omega arith)
-    ]
 
 drop_next : (bounds : List ProgramBound) (k : ℕ) (b : ProgramBound) → slice_get bounds k ≡ Some b → drop k bounds ≡ b ∷ drop (k + 1) bounds
 drop_next bounds k b at =
@@ -92,14 +84,9 @@ noted xs x t plain inside is less k = elim (cases_eq k x) [
 
 -- ---- what passes by a list of what f gives
 
-agree_on : {X : Type 0} (p q : X → Bool) (xs : List X) → All (λ x. p x ≡ q x) xs → filter p xs ≡ filter q xs
-agree_on p q [] all = refl
-agree_on p q (x ∷ xs) all =
-    rw (All-head (λ y. p y ≡ q y) x xs all) (ap (λ l. cond (q x) (x ∷ l) l) (agree_on p q xs (All-tail (λ y. p y ≡ q y) x xs all)))
-
 pub filled_by : (test : Option ℕ → Bool) (f : ℕ → Option ℕ) (n : ℕ) →
     filter (λ x. test (slice_index_or (map f (range_with_len 0 n)) x None)) (range_with_len 0 n) ≡ filter (λ x. test (f x)) (range_with_len 0 n)
-filled_by test f n = agree_on (λ x. test (slice_index_or (map f (range_with_len 0 n)) x None)) (λ x. test (f x)) (range_with_len 0 n) (λ k d inside.
+filled_by test f n = filter_agree_on (λ x. test (slice_index_or (map f (range_with_len 0 n)) x None)) (λ x. test (f x)) (range_with_len 0 n) (λ k d inside.
     let size = length-range_with_len 0 n in
     let at = get_or-range_with_len 0 n k d (omega arith) in
     let x = get_or (range_with_len 0 n) k d in

@@ -3,6 +3,7 @@ use Rattle.std.proofs.Common.{ℕ, ◌≡◌, List, Option, Some, None, length, 
 use Rattle.std.specs.Prelude.{◌↔◌, IsNone, IfSome, slice_index_or}
 use Rattle.std.specs.List.{Contains, filter, range_with_len}
 use Rattle.std.specs.List.Sorted.{IsStrictlyIncreasing}
+use Rattle.cstn_facts.proofs.Ranges.{passing_ascends}
 use Rattle.cstn_label.specs.Bounds.{Bound}
 use Rattle.cstn_net.specs.Networks.{count}
 use Rattle.cstn_lift.specs.Labelled.{Labelled}
@@ -12,7 +13,6 @@ use Rattle.cstn_next.specs.declared.moments.NextMoment.{NextMoment}
 use Rattle.cstn_next.specs.Next.{IsPlannedBy, IsAllDone, TellsNext, coming_at, coming_moments, awaited_from, awaited_moments, is_upto, named, awaited, next_moment}
 use Rattle.cstn_next.proofs.Exact.{is_next, named_exactly, awaited_exactly, done_exactly}
 use Rattle.cstn_next.proofs.Filled.{filled, filled_by}
-use Rattle.cstn_next.proofs.Lists.{passing_ascends}
 
 module _ (m : Labelled) (h : History) (fresh : ℕ) (bounds : List Bound) (plan : IsPlannedBy m h fresh bounds) where
   pub told_next : (o : Option NextMoment) → TellsNext m h bounds o → IfSome o (λ n. IsNext m h n.moment)

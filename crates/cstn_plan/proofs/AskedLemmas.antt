@@ -4,21 +4,14 @@ use Rattle.std.specs.Prelude.{ℤ, pos, negsuc, ◌≤ℤ◌, slice_index_or}
 use Rattle.std.specs.List.{Contains}
 use Rattle.std.proofs.lemmas.Int.{ints}
 use Rattle.std.proofs.lemmas.Bool.{cases_Bool, cases_lt, cond-true, cond-false, and_parts, and_from, eqb-true, eq-eqb}
-use Rattle.cstn_label.specs.declared.marks.Mark.{Mark}
 use Rattle.cstn_label.specs.Labels.{Label, Scenario, Holds, MarkFits, empty}
 use Rattle.cstn_label.specs.declared.marks.Mark.TheVariants.{Absent}
-use Rattle.cstn_label.proofs.MarkLemmas.{absent_or_not, fits_absent, mark_within_absent}
+use Rattle.cstn_label.proofs.MarkLemmas.{absent_or_not, fits_absent, mark_within_absent, fits_true, true_fits}
 use Rattle.cstn_net.specs.Networks.{Network, IsNetwork, Observes, IsOnObserved, count}
 use Rattle.cstn_label.specs.Bounds.{Bound}
-use Rattle.cstn_plan.specs.Asked.{fits, fits_seen, fits_upto, moment_of, greatest, asked}
+use Rattle.cstn_plan.specs.Asked.{fits_seen, fits_upto, moment_of, greatest, asked}
 use Rattle.cstn_rules.specs.Closed.{IsClosed}
 use Rattle.cstn_net.proofs.Knowledge.{observer_within}
-
-pub fits_true : (v : Bool) (m : Mark) → fits v m ≡ true → MarkFits v m
-fits_true v m h = grind arith
-
-pub true_fits : (v : Bool) (m : Mark) → MarkFits v m → fits v m ≡ true
-true_fits v m h = grind arith
 
 seen_at : (s : Scenario) (a : Label) (o : Option ℕ) (p : ℕ) → o ≡ Some p → fits_seen s a o ≡ true → MarkFits (s p) (a p)
 seen_at s a o p e h = fits_true (s p) (a p) (rw e at h)

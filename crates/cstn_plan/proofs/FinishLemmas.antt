@@ -1,15 +1,10 @@
 -- Conclusions that are finished.
-use Rattle.std.proofs.Common.{ℕ, zero, suc, ◌≤◌, Option, Some, None, arith}
+use Rattle.std.proofs.Common.{ℕ, Option, Some, None}
 use Rattle.cstn_label.specs.declared.marks.Mark.{Mark}
 use Rattle.cstn_label.specs.declared.marks.Mark.TheVariants.{Absent}
 use Rattle.cstn_label.specs.Labels.{Label}
 use Rattle.cstn_label.proofs.LabelLemmas.{kept_without}
-use Rattle.cstn_net.specs.Networks.{Network, limit}
 use Rattle.cstn_rules.specs.Rules.{without_own}
-
-pub limit_deadline : (net : Network) (x : ℕ) → limit net x ≤ net.deadline
-limit_deadline net zero = omega arith
-limit_deadline net (suc x) = omega arith
 
 -- a property of the absent mark and of a conclusion's mark is one of that mark when the conclusion is finished
 pub kept_own : (P : Mark → Type 0) (o : Option ℕ) (a : Label) (q : ℕ) → P Absent → P (a q) → P (without_own o a q)

@@ -1,23 +1,12 @@
 -- The moments that a list of bounds asks for.
-use Rattle.std.specs.Prelude.{ℕ, zero, suc, ◌≡◌, Bool, true, false, cond, ◌&&◌, ◌==◌, max, List, [], ◌∷◌, Option, Some, None, slice_index_or, ℤ, pos, negsuc, ◌<ℤ◌}
+use Rattle.std.specs.Prelude.{ℕ, zero, suc, ◌≡◌, Bool, true, cond, ◌&&◌, ◌==◌, max, List, [], ◌∷◌, Option, Some, None, slice_index_or, ℤ, pos, negsuc, ◌<ℤ◌}
 use Rattle.std.specs.List.{Contains}
-use Rattle.cstn_label.specs.declared.marks.Mark.{Mark}
 use Rattle.cstn_label.specs.Labels.{Label, Scenario, IsPossible}
-use Rattle.cstn_label.specs.declared.marks.Mark.TheVariants.{Absent, Yes, No, Unknown}
+use Rattle.cstn_label.specs.Tests.{fits}
 use Rattle.cstn_net.specs.Networks.{Network, count}
 use Rattle.cstn_net.specs.Strategies.{Schedule, Table, IsStrategy, IsKnown}
 use Rattle.cstn_net.specs.Bounds.{HoldsIn}
 use Rattle.cstn_label.specs.Bounds.{Bound}
-
--- whether a mark fits a truth value
-abbrev pub fits : Bool → Mark → Bool
-fits v Absent = true
-fits true Yes = true
-fits true No = false
-fits true Unknown = false
-fits false Yes = false
-fits false No = true
-fits false Unknown = false
 
 -- the mark on what is observed, if anything is, fits the scenario
 abbrev pub fits_seen : Scenario → Label → Option ℕ → Bool

@@ -116,9 +116,3 @@ got xs k x inside at =
 
 pub past : (xs : List ℕ) (k : ℕ) → false ≡ nat_lt k (length xs) → slice_get xs k ≡ None
 past xs k outside = slice_get_past xs k (grind arith)
-
-pub asked_for : (a b : ℕ) → a ≡ b → nat_eq a b ≡ true
-asked_for a b same = grind arith
-
-pub another : (a b : ℕ) → (a ≡ b → ⊥) → nat_eq a b ≡ false
-another a b other = grind arith

@@ -1,8 +1,6 @@
 -- What is printed of a refutation is read again.
-use Rattle.std.proofs.Common.{ℕ, ◌≡◌, ◌+◌, ◌-◌, ◌<◌, ◌≤◌, ◌^◌, true, List, [], ◌∷◌, ◌++◌, length, min, arith, refl, ap, ◌∙◌, append_assoc, length-append}
+use Rattle.std.proofs.Common.{ℕ, ◌≡◌, ◌+◌, ◌-◌, ◌<◌, ◌^◌, true, List, ◌∷◌, ◌++◌, min, arith, refl, sym, ap, subst, ◌∙◌, append_assoc}
 use Rattle.std.specs.Prelude.{is_some, if◌then◌else◌, Option, Some, None, codes}
-use Rattle.std.specs.List.{All}
-use Rattle.std.proofs.lemmas.List.Elements.{All-get_or, All-head, All-tail}
 use Rattle.cstn_net.specs.Limits.{most_load}
 use Rattle.cstn_rules.specs.declared.entries.Why.{Why}
 use Rattle.cstn_rules.specs.declared.entries.Why.TheVariants.{Base, Chain, Wait}
@@ -13,17 +11,14 @@ use Rattle.cstn_text.specs.Parts.{IsOnePart, part}
 use Rattle.cstn_text.specs.PrintedLabels.{printed_label, label_read}
 use Rattle.cstn_text.proofs.PartLemmas.{number_part}
 use Rattle.cstn_text.proofs.PrintedLabelLemmas.{label_back}
-use Rattle.cstn_listing.specs.Listings.{AreLines as AreLinesOf}
-use Rattle.cstn_text.proofs.ReadingLemmas.{word_part, part_back, within_back, IsFree, free, spaced, number_free}
-use Rattle.cstn_listing.proofs.ListingLemmas.{ends_some, text_back as listing_back}
-use Rattle.cstn_refute.specs.Steps.{◌>>=◌, place_read, places_read, why_read, is_place, rule_read, named_bound_read, step_read, printed_why}
-use Rattle.cstn_refute.specs.Texts.{tells, told, step_lines, printed_steps, shown}
-use Rattle.cstn_refute.specs.Orders.{bound_with, step_with, AreLines, IsTextOfSteps}
+use Rattle.cstn_text.proofs.ReadingLemmas.{word_part, part_back, within_back, IsFree, free, spaced, number_free, u32_back}
+use Rattle.cstn_text.proofs.PlaceLemmas.{AreReadBack, listing_back, printed_back}
+pub use Rattle.cstn_text.proofs.PlaceLemmas.{listing_grows}
+use Rattle.cstn_refute.specs.Steps.{◌>>=◌, places_read, why_read, is_place, rule_read, named_bound_read, step_read, printed_why, printed_step}
+use Rattle.cstn_refute.specs.Texts.{tells, told, shown}
+use Rattle.cstn_refute.specs.Orders.{bound_with, step_with, IsStepLine, IsTextOfSteps}
 use Rattle.cstn_refute.specs.Written.{ArePlaces, IsPrintableBound, IsPrintableStep, AreWritten}
 use Rattle.cstn_refute.proofs.BoundLemmas.{named_back, bound_free}
-
-place_back : (n : ℕ) → n < 2 ^ 32 → place_read (printed_number n) ≡ Some n
-place_back n small = within_back 0 4294967295 n (omega arith) (omega arith) (omega arith)
 
 places_back : (i j : ℕ) (rest : List ℕ) → i < 2 ^ 32 → j < 2 ^ 32 →
     places_read (printed_number i ++ (32 ∷ printed_number j ++ 32 ∷ rest)) ≡ Some (i, j, rest)
@@ -31,8 +26,8 @@ places_back i j rest p q =
     rw (
       part_back (printed_number i) (printed_number j ++ 32 ∷ rest) (number_part i (omega arith)),
       part_back (printed_number j) rest (number_part j (omega arith)),
-      place_back i p,
-      place_back j q,
+      u32_back i p,
+      u32_back j q,
     ) refl
 
 abbrev rule_of : Option (List ℕ × List ℕ) → Option (Why × List ℕ)
@@ -100,47 +95,21 @@ step_free names k e label are small is read =
     (bound_free names e.bound label are (record { node = is.node; low = is.low; high = is.high; marks = is.marks }) read)
 
 -- the lines of steps, in any order of marks, are read
-lines_read : (names : List (List ℕ)) (before : List Entry) (k : ℕ) (steps : List Entry) (text : List ℕ) → AreNames names → length before ≡ k →
-    k + length steps ≤ most_load → All (IsPrintableStep names) steps → AreLines names k steps text → AreLinesOf (step_lines names) before steps text
-lines_read names before k [] text are long few each lines = lines
-lines_read names before k (e ∷ steps) text are long few each (label, rest, read, whole, lines) =
-    let small : k < most_load = omega (arith, few) in
-    let here = All-head (IsPrintableStep names) e steps each in
-    let longer : length (before ++ e ∷ []) ≡ k + 1 = length-append before (e ∷ []) ∙ omega (arith, long) in (
-      step_with names k e label,
-      rest,
-      ap (λ n. step_read names n (step_with names k e label)) long ∙ step_back names k e label are small here read,
-      step_free names k e label are small here read,
-      whole,
-      lines_read names (before ++ e ∷ []) (k + 1) steps rest are longer (omega (arith, few)) (All-tail (IsPrintableStep names) e steps each) lines,
-    )
+steps_read : (names : List (List ℕ)) → AreNames names → AreReadBack most_load (step_read names) (IsPrintableStep names) (IsStepLine names)
+steps_read names are = λ k e line small is its.
+    let back = ap (step_read names k) its.2 ∙ step_back names k e its.0 are small is its.1 in
+    (back, subst IsFree (sym its.2) (step_free names k e its.0 are small is its.1))
 
 -- a text of a load and steps, in any order of marks, says them
 pub text_back : (names : List (List ℕ)) (load : ℕ) (steps : List Entry) (text : List ℕ) → AreNames names → AreWritten names load steps → IsTextOfSteps names load steps text →
     told names text ≡ tells load steps
-text_back names load steps text are is (rest, whole, lines) =
-    listing_back (step_lines names) (word_part (codes "no") (omega arith) refl) text load steps (record {
-      low = is.load_low;
-      high = is.load_high;
-      ends = ends_some steps is.some;
-      lines = rest;
-      text = whole;
-      each = lines_read names [] 0 steps rest are refl (omega (arith, is.few)) is.each lines;
-    })
-
-printed_lines : (names : List (List ℕ)) (k : ℕ) (steps : List Entry) → All (IsPrintableStep names) steps → AreLines names k steps (printed_steps names k steps)
-printed_lines names k [] each = refl
-printed_lines names k (e ∷ steps) each =
-    let here = All-get_or (IsPrintableStep names) (e ∷ steps) 0 e (omega arith) each in (
-      printed_label e.bound.label,
-      printed_steps names (k + 1) steps,
-      label_back e.bound.label here.marks,
-      refl,
-      printed_lines names (k + 1) steps (All-tail (IsPrintableStep names) e steps each),
-    )
+text_back names load steps text are is lines =
+    listing_back (codes "no") most_load (step_read names) (IsPrintableStep names) (IsStepLine names) (word_part (codes "no") (omega arith) refl) (omega arith)
+    (steps_read names are) load steps text is lines
 
 -- what is shown of a load and steps says them
 pub shown_back : (names : List (List ℕ)) (load : ℕ) (steps : List Entry) → AreNames names → AreWritten names load steps →
     told names (shown names load steps) ≡ tells load steps
 shown_back names load steps are is =
-    text_back names load steps (shown names load steps) are is (printed_steps names 0 steps, refl, printed_lines names 0 steps is.each)
+    printed_back (codes "no") most_load (step_read names) (IsPrintableStep names) (IsStepLine names) (word_part (codes "no") (omega arith) refl) (omega arith)
+    (steps_read names are) (printed_step names) (λ k e here. (printed_label e.bound.label, label_back e.bound.label here.marks, refl)) load steps is

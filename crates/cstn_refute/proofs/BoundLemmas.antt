@@ -3,6 +3,7 @@ use Rattle.std.proofs.Common.{ℕ, ◌≡◌, ◌≤◌, List, [], ◌∷◌, �
 use Rattle.std.specs.Prelude.{Option, Some, ℤ, pos, negsuc, ◌≤ℤ◌}
 use Rattle.std.proofs.lemmas.Int.{ints}
 use Rattle.std.proofs.lemmas.Option.{same_Some}
+use Rattle.cstn_facts.proofs.Options.{then_read}
 use Rattle.cstn_label.specs.Labels.{Label}
 use Rattle.cstn_label.specs.Bounds.{Bound}
 use Rattle.cstn_text.specs.Names.{AreNames}
@@ -13,7 +14,7 @@ use Rattle.cstn_text.proofs.AnyOrderLemmas.{label_text_part}
 use Rattle.cstn_text.proofs.LabelReadLemmas.{label_small}
 use Rattle.cstn_text.proofs.PartLemmas.{number_part}
 use Rattle.cstn_text.specs.Parts.{part, node_read}
-use Rattle.cstn_text.proofs.ReadingLemmas.{then_read, within_said, part_said, node_said, part_back, within_back, node_back, name_one_part, IsFree, free, spaced, number_free}
+use Rattle.cstn_text.proofs.ReadingLemmas.{within_said, part_said, node_said, part_back, within_back, node_back, name_one_part, IsFree, free, spaced, number_free}
 use Rattle.cstn_refute.specs.Limits.{most_least}
 use Rattle.cstn_refute.specs.Steps.{◌>>=◌, bound_read, named_bound_read}
 use Rattle.cstn_refute.specs.Orders.{bound_with}

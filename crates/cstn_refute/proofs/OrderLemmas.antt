@@ -1,30 +1,34 @@
--- A text that says a load and steps is the printed one, but for the order of marks.
-use Rattle.std.proofs.Common.{ℕ, ◌≡◌, ◌+◌, ◌-◌, ◌≤◌, Bool, true, false, List, [], ◌∷◌, ◌++◌, length, min, arith, refl, sym, ap, ◌∙◌, subst, append_assoc, length-append}
+-- A text that says a load and steps can be written, and is the printed one, but for the order of marks.
+use Rattle.std.proofs.Common.{ℕ, ◌≡◌, ◌-◌, ◌≤◌, Bool, true, false, List, ◌∷◌, ◌++◌, min, arith, refl, sym, ap, ◌∙◌, subst, append_assoc}
 use Rattle.std.specs.Prelude.{is_some, if◌then◌else◌, bytes_eq, Option, Some, None, codes}
 use Rattle.std.proofs.lemmas.Option.{same_Some}
 use Rattle.std.proofs.lemmas.Slice.Eq.{bytes_eq-Decides}
+use Rattle.cstn_facts.proofs.Options.{then_read, if_read}
 use Rattle.cstn_net.specs.Limits.{most_load}
 use Rattle.cstn_rules.specs.declared.entries.Why.{Why}
 use Rattle.cstn_rules.specs.declared.entries.Why.TheVariants.{Base, Chain, Wait}
 use Rattle.cstn_rules.specs.Derivations.{Entry}
+use Rattle.cstn_text.specs.SmallNumbers.{u32_read}
 use Rattle.cstn_text.specs.Numbers.{number_within, printed_number}
 use Rattle.cstn_text.specs.PrintedLabels.{label_read}
 use Rattle.cstn_text.specs.Parts.{part}
-use Rattle.cstn_listing.specs.Listings.{AreLines as AreLinesOf}
-use Rattle.cstn_text.proofs.ReadingLemmas.{then_read, if_read, within_said, part_said}
-use Rattle.cstn_listing.proofs.ListingLemmas.{text_said}
-use Rattle.cstn_refute.specs.Steps.{◌>>=◌, place_read, places_read, chain_read, wait_read, why_read, is_place, rule_read, named_bound_read, step_read, printed_why}
-use Rattle.cstn_refute.specs.Texts.{tells, told, step_lines}
-use Rattle.cstn_refute.specs.Orders.{bound_with, step_with, AreLines, IsTextOfSteps}
+use Rattle.cstn_text.proofs.ReadingLemmas.{within_said, part_said}
+use Rattle.cstn_text.proofs.PlaceLemmas.{AreSaid, listing_said}
+pub use Rattle.cstn_text.proofs.ListingLemmas.{told_first, first_wrong, told_viewed, wrong_viewed, told_last}
+use Rattle.cstn_refute.specs.Steps.{◌>>=◌, places_read, chain_read, wait_read, why_read, is_place, rule_read, named_bound_read, step_read, printed_why}
+use Rattle.cstn_refute.specs.Texts.{tells, told}
+use Rattle.cstn_refute.specs.Orders.{bound_with, step_with, IsStepLine, IsTextOfSteps}
+use Rattle.cstn_refute.specs.Written.{IsPrintableStep, AreWritten}
 use Rattle.cstn_refute.proofs.BoundLemmas.{named_said}
+use Rattle.cstn_refute.proofs.SaidLemmas.{step_said}
 
 places_text : (bytes : List ℕ) (found : ℕ × ℕ × List ℕ) → places_read bytes ≡ Some found →
     bytes ≡ printed_number found.0 ++ (32 ∷ printed_number found.1 ++ 32 ∷ found.2)
 places_text bytes found e =
     let one = then_read (part bytes) _ found e in
     let other = then_read (part one.0.1) _ found one.2 in
-    let i = then_read (place_read one.0.0) _ found other.2 in
-    let j = then_read (place_read other.0.0) _ found i.2 in
+    let i = then_read (u32_read one.0.0) _ found other.2 in
+    let j = then_read (u32_read other.0.0) _ found i.2 in
     let same : (i.0, j.0, other.0.1) ≡ found = same_Some _ found j.2 in
     subst (λ (f : ℕ × ℕ × List ℕ). bytes ≡ printed_number f.0 ++ (32 ∷ printed_number f.1 ++ 32 ∷ f.2)) same
     (part_said bytes one.0 one.1
@@ -112,17 +116,19 @@ step_text names k line e is =
           ∙ sym (append_assoc (printed_number k) (32 ∷ printed_why rule.0.0) (32 ∷ bound_with names b.0 its.label)),
     )
 
--- the lines of steps are as they are printed, but for the order of marks
-lines_text : (names : List (List ℕ)) (before : List Entry) (k : ℕ) (steps : List Entry) (text : List ℕ) → length before ≡ k → AreLinesOf (step_lines names) before steps text →
-    AreLines names k steps text
-lines_text names before k [] text long lines = lines
-lines_text names before k (e ∷ steps) text long (line, rest, read, free, whole, lines) =
-    let step = step_text names k line e (subst (λ n. step_read names n line ≡ Some e) long read) in
-    let longer : length (before ++ e ∷ []) ≡ k + 1 = length-append before (e ∷ []) ∙ omega (arith, long) in
-    (step.0, rest, step.1, whole ∙ ap (λ (t : List ℕ). t ++ 10 ∷ rest) step.2, lines_text names (before ++ e ∷ []) (k + 1) steps rest longer lines)
+-- a step's line says a step that can be written, and is its line, but for the order of marks
+steps_said : (names : List (List ℕ)) → AreSaid most_load (step_read names) (IsPrintableStep names) (IsStepLine names)
+steps_said names = λ k line e is. let said = step_said names k line e is in (said.0, said.1, step_text names k line e is)
+
+text_says : (names : List (List ℕ)) (bytes : List ℕ) (load : ℕ) (steps : List Entry) → told names bytes ≡ tells load steps →
+    AreWritten names load steps × IsTextOfSteps names load steps bytes
+text_says names bytes load steps e =
+    listing_said (codes "no") most_load (step_read names) (IsPrintableStep names) (IsStepLine names) (steps_said names) bytes load steps e
+
+-- what a text says can be written
+pub text_said : (names : List (List ℕ)) (bytes : List ℕ) (load : ℕ) (steps : List Entry) → told names bytes ≡ tells load steps → AreWritten names load steps
+text_said names bytes load steps e = (text_says names bytes load steps e).0
 
 -- a text that says a load and steps is the one that is printed, but for the order of the marks in the labels
 pub text_is : (names : List (List ℕ)) (bytes : List ℕ) (load : ℕ) (steps : List Entry) → told names bytes ≡ tells load steps → IsTextOfSteps names load steps bytes
-text_is names bytes load steps e =
-    let is = text_said (step_lines names) bytes load steps e in
-    (is.lines, is.text, lines_text names [] 0 steps is.lines refl is.each)
+text_is names bytes load steps e = (text_says names bytes load steps e).1

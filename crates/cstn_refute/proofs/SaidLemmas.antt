@@ -1,32 +1,29 @@
--- What a text says can be written.
-use Rattle.std.proofs.Common.{ℕ, ◌≡◌, ◌+◌, ◌-◌, ◌<◌, ◌≤◌, ◌^◌, Bool, true, false, List, [], ◌∷◌, ◌++◌, length, min, arith, refl, sym, subst, length-append}
+-- What a line says can be written.
+use Rattle.std.proofs.Common.{ℕ, ◌≡◌, ◌-◌, ◌<◌, ◌≤◌, ◌^◌, Bool, true, false, List, min, arith, refl, sym, subst}
 use Rattle.std.specs.Prelude.{is_some, if◌then◌else◌, bytes_eq, Option, Some, None, codes}
-use Rattle.std.specs.List.{All}
 use Rattle.std.proofs.lemmas.Option.{same_Some}
-use Rattle.std.proofs.lemmas.List.Elements.{All-nil, All-cons}
+use Rattle.cstn_facts.proofs.Options.{then_read, if_read}
 use Rattle.cstn_net.specs.Limits.{most_load}
 use Rattle.cstn_rules.specs.declared.entries.Why.{Why}
 use Rattle.cstn_rules.specs.declared.entries.Why.TheVariants.{Base, Chain, Wait}
 use Rattle.cstn_rules.specs.Derivations.{Entry}
+use Rattle.cstn_text.specs.SmallNumbers.{u32_read}
 use Rattle.cstn_text.specs.Numbers.{number_within}
 use Rattle.cstn_text.specs.Parts.{part}
-use Rattle.cstn_listing.specs.Listings.{AreLines}
-use Rattle.cstn_text.proofs.ReadingLemmas.{then_read, if_read, within_said}
-use Rattle.cstn_listing.proofs.ListingLemmas.{some_ends, text_said as listing_said}
-use Rattle.cstn_refute.specs.Steps.{◌>>=◌, place_read, places_read, chain_read, wait_read, why_read, is_place, rule_read, named_bound_read, step_read}
-use Rattle.cstn_refute.specs.Texts.{tells, told, step_lines}
-use Rattle.cstn_refute.specs.Written.{ArePlaces, IsPrintableStep, AreWritten}
+use Rattle.cstn_text.proofs.ReadingLemmas.{within_said}
+use Rattle.cstn_refute.specs.Steps.{◌>>=◌, places_read, chain_read, wait_read, why_read, is_place, rule_read, named_bound_read, step_read}
+use Rattle.cstn_refute.specs.Written.{ArePlaces, IsPrintableStep}
 use Rattle.cstn_refute.proofs.BoundLemmas.{named_said}
 
-place_said : (text : List ℕ) (n : ℕ) → place_read text ≡ Some n → n < 2 ^ 32
+place_said : (text : List ℕ) (n : ℕ) → u32_read text ≡ Some n → n < 2 ^ 32
 place_said text n e = omega (arith, (within_said 0 4294967295 text n e).1)
 
 places_said : (bytes : List ℕ) (found : ℕ × ℕ × List ℕ) → places_read bytes ≡ Some found → (found.0 < 2 ^ 32) × (found.1 < 2 ^ 32)
 places_said bytes found e =
     let one = then_read (part bytes) _ found e in
     let other = then_read (part one.0.1) _ found one.2 in
-    let i = then_read (place_read one.0.0) _ found other.2 in
-    let j = then_read (place_read other.0.0) _ found i.2 in
+    let i = then_read (u32_read one.0.0) _ found other.2 in
+    let j = then_read (u32_read other.0.0) _ found i.2 in
     let same : (i.0, j.0, other.0.1) ≡ found = same_Some _ found j.2 in
     subst (λ (f : ℕ × ℕ × List ℕ). (f.0 < 2 ^ 32) × (f.1 < 2 ^ 32)) same (place_said one.0.0 i.0 i.1, place_said other.0.0 j.0 j.1)
 
@@ -79,20 +76,3 @@ step_said names k line e is =
     let rules = rule_said k line rule.0 rule.1 in
     let bound = (named_said names rule.0.1 b.0 b.1).written in
     (rules.0, subst (IsPrintableStep names) same (record { node = bound.node; low = bound.low; high = bound.high; marks = bound.marks; places = rules.1 }))
-
--- what the lines that are left say can be written, and there are few enough
-lines_written : (names : List (List ℕ)) (before steps : List Entry) (text : List ℕ) → length before ≤ most_load → AreLines (step_lines names) before steps text →
-    (length before + length steps ≤ most_load) × All (IsPrintableStep names) steps
-lines_written names before [] text few lines = (omega (arith, few), All-nil (IsPrintableStep names))
-lines_written names before (e ∷ steps) text few (line, rest, read, free, whole, lines) =
-    let step = step_said names (length before) line e read in
-    let longer = length-append before (e ∷ []) in
-    let more = lines_written names (before ++ e ∷ []) steps rest (omega (arith, longer, step.0)) lines in
-    (omega (arith, longer, more.0), All-cons (IsPrintableStep names) e steps step.1 more.1)
-
--- what a text says can be written
-pub text_said : (names : List (List ℕ)) (bytes : List ℕ) (load : ℕ) (steps : List Entry) → told names bytes ≡ tells load steps → AreWritten names load steps
-text_said names bytes load steps e =
-    let is = listing_said (step_lines names) bytes load steps e in
-    let written = lines_written names [] steps is.lines (omega arith) is.each in
-    record { load_low = is.low; load_high = is.high; some = some_ends steps is.ends; few = omega (arith, written.0); each = written.1 }

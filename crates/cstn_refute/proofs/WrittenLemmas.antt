@@ -1,10 +1,8 @@
 -- Steps of the program that can be written.
-use Rattle.std.proofs.Common.{ℕ, ◌≡◌, ◌<◌, ◌≤◌, List, [], ◌∷◌, length, map, arith, sym, subst}
+use Rattle.std.proofs.Common.{ℕ, ◌≡◌, ◌<◌, List, [], ◌∷◌, length, map, arith, sym, subst}
 use Rattle.std.specs.List.{All}
 use Rattle.std.proofs.lemmas.List.{length-map}
 use Rattle.std.proofs.lemmas.List.Elements.{All-nil, All-cons, All-get_or, All-tail}
-use Rattle.cstn_label.specs.declared.labels.Label.{Label}
-use Rattle.cstn_label.specs.declared.marks.Mark.TheVariants.{Absent}
 use Rattle.cstn_label.specs.Read.{marks}
 use Rattle.cstn_rules.specs.declared.entries.Entry.{Entry as DeclaredEntry}
 use Rattle.cstn_rules.specs.Read.{the_entry}
@@ -13,6 +11,7 @@ use Rattle.cstn_refute.specs.Refutations.{RefutationParts, IsStep, AreSteps, Fit
 use Rattle.cstn_refute.specs.Texts.{told, tells, shown}
 use Rattle.cstn_refute.specs.Written.{ArePlaces, IsPrintableStep, AreWritten}
 use Rattle.cstn_refute.proofs.BackLemmas.{shown_back}
+use Rattle.cstn_label.proofs.LetterLemmas.{MarksEnd}
 
 first : (P : DeclaredEntry → Type 0) (x : DeclaredEntry) (xs : List DeclaredEntry) → All P (x ∷ xs) → P x
 first P x xs all = All-get_or P (x ∷ xs) 0 x (omega arith) all
@@ -22,10 +21,6 @@ IsNamed names e = e.bound.node.0 < length names
 
 abbrev HasPlaces : DeclaredEntry → Type 0
 HasPlaces e = ArePlaces e.why
-
--- no proposition above 51 is marked
-abbrev pub MarksEnd : Type 0
-MarksEnd = (a : Label) (p : ℕ) → 52 ≤ p → marks a p ≡ Absent
 
 are_written : MarksEnd → (names : List (List ℕ)) (xs : List DeclaredEntry) → All (IsNamed names) xs → All IsStep xs → All HasPlaces xs →
     All (IsPrintableStep names) (map the_entry xs)

@@ -6,6 +6,7 @@ use Rattle.cstn_net.specs.Limits.{most_load}
 use Rattle.cstn_rules.specs.declared.entries.Why.{Why}
 use Rattle.cstn_rules.specs.declared.entries.Why.TheVariants.{Base, Chain, Wait}
 use Rattle.cstn_rules.specs.Derivations.{Entry}
+use Rattle.cstn_text.specs.SmallNumbers.{u32_read}
 use Rattle.cstn_text.specs.Numbers.{number_within, printed_number, printed_value}
 use Rattle.cstn_text.specs.PrintedNames.{printed_name}
 use Rattle.cstn_text.specs.PrintedLabels.{label_read, printed_label}
@@ -17,15 +18,11 @@ infixl 20 ◌>>=◌
 abbrev pub ◌>>=◌ : {A B : Type 0} → Option A → (A → Option B) → Option B
 o >>= f = option_and_then f o
 
--- a constraint's id or a step's place is a number below 2^32
-abbrev pub place_read : List ℕ → Option ℕ
-place_read text = number_within 0 4294967295 text
-
 -- two such numbers, each with a space after it, and what follows
 abbrev pub places_read : List ℕ → Option (ℕ × ℕ × List ℕ)
 places_read bytes =
     part bytes >>= (λ one. part one.1 >>= (λ other.
-    place_read one.0 >>= (λ i. place_read other.0 >>= (λ j. Some (i, j, other.1)))))
+    u32_read one.0 >>= (λ i. u32_read other.0 >>= (λ j. Some (i, j, other.1)))))
 
 abbrev pub chain_read : List ℕ → Option (Why × List ℕ)
 chain_read bytes = places_read bytes >>= (λ found. Some (Chain found.0 found.1, found.2))

@@ -1,12 +1,12 @@
 -- What a text can say.
 use Rattle.std.specs.Prelude.{ℕ, ◌≡◌, ◌<◌, ◌≤◌, ◌^◌, List, length, pos, ◌≤ℤ◌}
-use Rattle.std.specs.List.{All}
 use Rattle.cstn_label.specs.declared.marks.Mark.TheVariants.{Absent}
 use Rattle.cstn_label.specs.Bounds.{Bound}
 use Rattle.cstn_net.specs.Limits.{most_load}
 use Rattle.cstn_rules.specs.declared.entries.Why.{Why}
 use Rattle.cstn_rules.specs.declared.entries.Why.TheVariants.{Base, Chain, Wait}
 use Rattle.cstn_rules.specs.Derivations.{Entry}
+use Rattle.cstn_text.specs.Listings.{AreListable}
 use Rattle.cstn_refute.specs.Limits.{most_least}
 
 -- a rule's id and places are numbers below 2^32
@@ -31,9 +31,5 @@ pub record IsPrintableStep (names : List (List ℕ)) (e : Entry) : Type 0 where
   pub places : ArePlaces e.why
 
 -- a load and steps that a text can say
-pub record AreWritten (names : List (List ℕ)) (load : ℕ) (steps : List Entry) : Type 0 where
-  pub load_low : 1 ≤ load
-  pub load_high : load ≤ most_load
-  pub some : 1 ≤ length steps
-  pub few : length steps ≤ most_load
-  pub each : All (IsPrintableStep names) steps
+abbrev pub AreWritten : List (List ℕ) → ℕ → List Entry → Type 0
+AreWritten names load steps = AreListable most_load (IsPrintableStep names) load steps

@@ -8,7 +8,7 @@ ghost use Rattle.cstn_refute.specs.Written.{AreWritten};
 
 /// The printed text of a load and steps is read as these again, where each step's time-point has a name and the numbers are in
 /// their ranges. What is read of any text is in these ranges.
-#[tactic(auto, using(crate::proofs::BackLemmas::shown_back, crate::proofs::SaidLemmas::text_said))]
+#[tactic(auto, using(crate::proofs::BackLemmas::shown_back, crate::proofs::OrderLemmas::text_said))]
 pub fn texts_are_read_back()
     ensures back { (names : List (List ℕ)) (load : ℕ) (steps : List Entry) → AreNames names → AreWritten names load steps
         → told names (shown names load steps) ≡ tells load steps }

@@ -7,18 +7,18 @@ ghost use Rattle.cstn_net.specs.Limits.{most_load};
 ghost use Rattle.cstn_rules.specs.Read.{the_entry};
 ghost use Rattle.cstn_refute.specs.Limits.{most_least};
 ghost use Rattle.cstn_refute.specs.Refutations.{IsStep};
-ghost use Rattle.cstn_refute.specs.Steps.{place_read, places_read, chain_read, wait_read, why_read, is_place, rule_read, bound_read, named_bound_read};
+ghost use Rattle.cstn_text.specs.SmallNumbers.{u32_read};
+ghost use Rattle.cstn_refute.specs.Steps.{places_read, chain_read, wait_read, why_read, is_place, rule_read, bound_read, named_bound_read};
 ghost use Rattle.cstn_refute.specs.Steps.{step_read};
 
 use crate::limits::MOST_LEAST;
 use cstn_label::{Bound, NodeId};
-use cstn_listing::{part, read_node};
 use cstn_net::MAX_LOAD;
 use cstn_rules::{Entry, Why};
-use cstn_text::{Names, read_label, read_number_within};
+use cstn_text::{Names, part, read_label, read_node, read_number_within};
 
 fn read_place(bytes: &[u8]) -> Option<u32>
-    ensures place { result ≡ place_read bytes.now }
+    ensures place { result ≡ u32_read bytes.now }
 {
     read_number_within(0, u32::MAX, bytes)
 }

@@ -13,9 +13,8 @@ ghost use Rattle.cstn_refute.specs.Written.{ArePlaces};
 
 use crate::refutations::Refutation;
 use cstn_label::{Bound, labels_are_their_marks};
-use cstn_listing::{print_names, push_load};
 use cstn_rules::{Entry, Why};
-use cstn_text::{Names, push_label, push_number, push_value};
+use cstn_text::{Names, print_names, push_label, push_load, push_number, push_value};
 use std::alloc::{AllocError, Global};
 
 // A usual line has fewer bytes. Room for longer ones is taken as they come.

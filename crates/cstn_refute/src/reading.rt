@@ -1,24 +1,22 @@
 // Refutations read from their texts.
-ghost use Rattle.std.specs.Prelude.{ℕ, ◌≡◌, ◌<◌, ◌≤◌, ◌+◌, Some, [], length, map, IfOk, IfErr};
+ghost use Rattle.std.specs.Prelude.{◌≡◌, ◌<◌, ◌≤◌, [], length, map, IfOk, IfErr};
 ghost use Rattle.std.specs.List.{All};
 ghost use Rattle.cstn_label.specs.Limits.{most_ids};
 ghost use Rattle.cstn_net.specs.Limits.{most_load};
-ghost use Rattle.cstn_rules.specs.Derivations.{Entry as TheEntry};
 ghost use Rattle.cstn_rules.specs.Read.{the_entry};
 ghost use Rattle.cstn_refute.specs.Refutations.{IsStep, the_steps};
-ghost use Rattle.cstn_refute.specs.Steps.{step_read};
 ghost use Rattle.cstn_text.specs.Parts.{parts_at};
-ghost use Rattle.cstn_listing.specs.Listings.{at_end, is_some_listed, or_wrong, told_after};
-ghost use Rattle.cstn_refute.specs.Texts.{Told, tells, wrong, step_lines, told};
+ghost use Rattle.cstn_text.specs.Listings.{at_end, is_some_listed, told_after};
+ghost use Rattle.cstn_refute.specs.Texts.{tells, step_lines, told};
 ghost use Rattle.cstn_refute.specs.Written.{AreWritten};
 ghost use Rattle.cstn_refute.specs.Read.{IsWrong};
 
 use crate::errors::RefuteError;
 use crate::parts::read_step;
 use crate::refutations::Refutation;
-use cstn_listing::read_load;
+use cstn_net::MAX_LOAD;
 use cstn_rules::Entry;
-use cstn_text::{Names, cut_at};
+use cstn_text::{Names, cut_at, read_start};
 use std::alloc::{AllocError, Global};
 
 impl Refutation {
@@ -33,10 +31,7 @@ impl Refutation {
         ensures named { IfOk result (λ r. All (λ e. e.bound.node.0 < length names.now) r.steps) }
         ensures ranges { IfOk result (λ r. AreWritten names.now r.load (the_steps r)) }
     {
-        let Some((line, rest)) = cut_at(bytes, b'\n') else {
-            return Err(RefuteError::Line { line: 1 });
-        };
-        let Some(load) = read_load("no", line) else {
+        let Some((load, rest)) = read_start("no", MAX_LOAD, bytes) else {
             return Err(RefuteError::Line { line: 1 });
         };
         read_steps(alloc, names, load, rest)
@@ -59,32 +54,15 @@ fn read_steps(
     let mut left = bytes;
     while let Some((line, rest)) = cut_at(left, b'\n') {
         let k = steps.len() as u32;
-        match read_next(names, k, line) {
-            Ok(step) => {
-                let Ok(()) = steps.push(step) else {
-                    return Err(RefuteError::Memory(AllocError));
-                };
-                left = rest;
-            }
-            Err(e) => return Err(e),
-        }
+        let Some(step) = read_step(names, k, line) else {
+            return Err(RefuteError::Line { line: k + 2 });
+        };
+        let Ok(()) = steps.push(step) else {
+            return Err(RefuteError::Memory(AllocError));
+        };
+        left = rest;
     }
     finish(load, steps, left)
-}
-
-// The step at the place k, which this line says; or the number of the line, where it isn't of the form.
-fn read_next(names: &Names, k: u32, line: &[u8]) -> Result<Entry, RefuteError>
-    requires few { length names.now ≤ most_ids }
-    requires place { k ≤ most_load }
-    ensures step { IfOk result (λ e. step_read names.now k line.now ≡ Some (the_entry e)) }
-    ensures form { IfOk result IsStep }
-    ensures few { IfOk result (λ e. k < most_load) }
-    ensures line { (next : TheEntry → Told) → IfErr result (IsWrong (or_wrong (step_read names.now k line.now) (k + 2) next)) }
-{
-    match read_step(names, k, line) {
-        Some(step) => Ok(step),
-        None => Err(RefuteError::Line { line: k + 2 }),
-    }
 }
 
 // The refutation of the load and the steps, if there is a step and the text ends behind the LF of the last one.

@@ -11,11 +11,6 @@ use Rattle.cstn_net.specs.declared.constraints.Constraint.{Constraint}
 use Rattle.cstn_net.specs.Networks.{Constraint as TheConstraint}
 use Rattle.cstn_net.specs.Read.{the_constraint}
 
--- what is in a list has its image in the list of images
-pub contains_image : {X Y : Type 0} (f : X → Y) (xs : List X) (x : X) → Contains xs x → Contains (map f xs) (f x)
-contains_image f xs x is =
-    (is.0, subst (λ n. is.0 < n) (sym (length-map xs f)) is.1, get_or-map f xs is.0 x (f x) is.1 ∙ ap f is.2)
-
 -- where ids ascend, a constraint is known by its id
 pub one_id : (cs : List TheConstraint) (c d : TheConstraint) → AllPairs (λ b c. b.id < c.id) cs → Contains cs c →
     Contains cs d → c.id ≡ d.id → c ≡ d

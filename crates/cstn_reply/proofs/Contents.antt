@@ -1,5 +1,5 @@
 -- What is known of bytes that are told.
-use Rattle.std.proofs.Common.{◌≡◌, ℕ, List, [], ◌++◌, refl, append_assoc}
+use Rattle.std.proofs.Common.{◌≡◌, ℕ, List, [], ◌++◌, refl}
 use Rattle.std.specs.Prelude.{Option, None, Some}
 use Rattle.cstn_io.specs.Contents.{after_bytes, IsAllOf, IsAtEnd}
 
@@ -17,11 +17,3 @@ pub given_end : (now : Option (List ℕ)) → IsAtEnd now → given now ≡ []
 unfolding given
 given_end None end = refl
 given_end (Some xs) end = end xs refl
-
-pub no_taken : (told : Option (List ℕ)) → told ≡ after_bytes [] told
-no_taken None = refl
-no_taken (Some xs) = refl
-
-pub more_taken : (told mid now : Option (List ℕ)) (before taken : List ℕ) → told ≡ after_bytes before mid → mid ≡ after_bytes taken now → told ≡ after_bytes (before ++ taken) now
-more_taken told mid None before taken is later = rw (is, later) refl
-more_taken told mid (Some xs) before taken is later = rw (is, later, append_assoc) refl

@@ -12,9 +12,10 @@ use Rattle.cstn_reply.specs.Sessions.{Turn, play, session_says}
 use Rattle.cstn_reply.specs.Reached.{session_heard, Progress}
 use Rattle.cstn_reply.specs.declared.status.Status.{Status}
 use Rattle.cstn_reply.specs.declared.status.Status.TheVariants.{WriteFault, Memory}
-use Rattle.cstn_reply.proofs.Contents.{given, all_given, given_end, no_taken}
+use Rattle.cstn_reply.proofs.Contents.{given, all_given, given_end}
 use Rattle.cstn_reply.proofs.Sessions.{after_both}
 use Rattle.cstn_reply.proofs.Talking.{played}
+use Rattle.cstn_lines.proofs.StepLemmas.{no_bytes}
 
 with_more : (old mid new : Option (List ℕ)) (xs ys : List ℕ) → mid ≡ with_bytes old xs → new ≡ with_bytes mid ys → new ≡ with_bytes old (xs ++ ys)
 with_more None mid new xs ys is later = rw (later, is) refl
@@ -65,7 +66,7 @@ cut_opening ends turn ending opening start before after old new n is =
     let all : Said = after_text opening (play turn ending start 0 (heard_lines ends live)) in (
       _,
       all.text,
-      is_output live all (all_given before.left before.left [] (no_taken before.left)) refl,
+      is_output live all (all_given before.left before.left [] (no_bytes before.left)) refl,
       inr (refl, (min n (length opening), is ∙ ap (with_bytes old) (shorter n opening (play turn ending start 0 (heard_lines ends live)).text))),
     )
 

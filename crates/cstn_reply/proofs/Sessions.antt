@@ -2,6 +2,7 @@
 use Rattle.std.proofs.Common.{◌≡◌, ℕ, ◌+◌, List, [], ◌∷◌, ◌++◌, suc, length, refl, ap, sym, ◌∙◌, subst, arith, append_assoc, Bool, true, false}
 use Rattle.std.specs.Prelude.{Option, Some, None}
 use Rattle.std.specs.Option.{option_map}
+use Rattle.std.proofs.lemmas.Option.{same_Some}
 use Rattle.cstn_lines.specs.Pieces.{is_past}
 use Rattle.cstn_reply.specs.Texts.{Said, after_text}
 use Rattle.cstn_reply.specs.Sessions.{Turn, more, last, wrong, script, play, answers}
@@ -89,9 +90,6 @@ first_leads {S} turn s g count first lines is = by_past (is_past (count + 1) fir
     by_past true at = absurd (no_state (state_after turn s count (first ∷ lines)) g (state_past turn s count first lines at) is)
     by_past false at = by_turn (turn s first) refl at
 
-pub same_state : {S : Type 0} (s g : S) → Some s ≡ Some g → s ≡ g
-same_state s g is = cc
-
 pub plus_none : (n : ℕ) → n ≡ n + 0
 plus_none n = omega arith
 
@@ -104,7 +102,7 @@ one_more n k = omega arith
 -- the state after further lines
 pub state_split : {S : Type 0} (turn : S → List ℕ → Turn S) (s g : S) (count : ℕ) (lines later : List (List ℕ)) → state_after turn s count lines ≡ Some g → state_after turn s count (lines ++ later) ≡ state_after turn g (count + length lines) later
 state_split turn s g count [] later is =
-    ap (λ n. state_after turn s n later) (plus_none count) ∙ ap (λ x. state_after turn x (count + 0) later) (same_state s g is)
+    ap (λ n. state_after turn s n later) (plus_none count) ∙ ap (λ x. state_after turn x (count + 0) later) (same_Some s g is)
 state_split turn s g count (first ∷ lines) later is =
     let l = first_leads turn s g count first lines is in
     state_more turn s count first (lines ++ later) l.short l.text l.next l.answer
@@ -113,7 +111,7 @@ state_split turn s g count (first ∷ lines) later is =
 
 pub play_split : {S : Type 0} (turn : S → List ℕ → Turn S) (ending : S → Said) (s g : S) (count : ℕ) (lines later : List (List ℕ)) → state_after turn s count lines ≡ Some g → play turn ending s count (lines ++ later) ≡ after_text (answers turn s count lines) (play turn ending g (count + length lines) later)
 play_split turn ending s g count [] later is =
-    ap (λ n. play turn ending s n later) (plus_none count) ∙ ap (λ x. play turn ending x (count + 0) later) (same_state s g is)
+    ap (λ n. play turn ending s n later) (plus_none count) ∙ ap (λ x. play turn ending x (count + 0) later) (same_Some s g is)
 play_split turn ending s g count (first ∷ lines) later is =
     let l = first_leads turn s g count first lines is in
     play_more turn s count first (lines ++ later) l.short ending l.text l.next l.answer
@@ -124,7 +122,7 @@ play_split turn ending s g count (first ∷ lines) later is =
 
 pub answers_split : {S : Type 0} (turn : S → List ℕ → Turn S) (s g : S) (count : ℕ) (lines later : List (List ℕ)) → state_after turn s count lines ≡ Some g → answers turn s count (lines ++ later) ≡ answers turn s count lines ++ answers turn g (count + length lines) later
 answers_split turn s g count [] later is =
-    ap (λ n. answers turn s n later) (plus_none count) ∙ ap (λ x. answers turn x (count + 0) later) (same_state s g is)
+    ap (λ n. answers turn s n later) (plus_none count) ∙ ap (λ x. answers turn x (count + 0) later) (same_Some s g is)
 answers_split turn s g count (first ∷ lines) later is =
     let l = first_leads turn s g count first lines is in
     answers_more turn s count first (lines ++ later) l.short l.text l.next l.answer
@@ -135,7 +133,7 @@ answers_split turn s g count (first ∷ lines) later is =
 
 pub ended_split : {S : Type 0} (turn : S → List ℕ → Turn S) (led : S → List ℕ → S) (s g : S) (count : ℕ) (lines later : List (List ℕ)) → state_after turn s count lines ≡ Some g → ended turn led s count (lines ++ later) ≡ ended turn led g (count + length lines) later
 ended_split turn led s g count [] later is =
-    ap (λ n. ended turn led s n later) (plus_none count) ∙ ap (λ x. ended turn led x (count + 0) later) (same_state s g is)
+    ap (λ n. ended turn led s n later) (plus_none count) ∙ ap (λ x. ended turn led x (count + 0) later) (same_Some s g is)
 ended_split turn led s g count (first ∷ lines) later is =
     let l = first_leads turn s g count first lines is in
     ended_more turn s count first (lines ++ later) l.short led l.text l.next l.answer
@@ -149,7 +147,7 @@ heard_where turn start g lines is = ap (option_map (λ reached. answers turn sta
 -- where a text is told by an option, it is that text
 told : {S : Type 0} (o : Option S) (text said : List ℕ) → option_map (λ g. text) o ≡ Some said → said ≡ text
 told None text said is = absurd (let f : ⊥ = cc in f)
-told (Some g) text said is = sym (same_state text said is)
+told (Some g) text said is = sym (same_Some text said is)
 
 -- an answer begins with a text
 abbrev pub Begins : {S : Type 0} → Turn S → List ℕ → Type 0

@@ -3,6 +3,7 @@ use Rattle.std.proofs.Common.{◌≡◌, ℕ, ◌+◌, ◌≤◌, List, [], ◌�
 use Rattle.std.specs.Prelude.{Bool, true, false, length, IsTrue, Option, Some, codes}
 use Rattle.std.specs.Option.{option_map}
 use Rattle.std.proofs.lemmas.Grind.{common_steps}
+use Rattle.std.proofs.lemmas.List.{append-nil}
 use Rattle.cstn_io.specs.Causes.{Rose}
 use Rattle.cstn_io.specs.Contents.{after_bytes, IsAllOf, IsAtEnd}
 use Rattle.cstn_lines.specs.Pieces.{whole_lines, heard_lines, is_past}
@@ -18,16 +19,11 @@ use Rattle.cstn_reply.specs.declared.output.Outcome.{Outcome}
 use Rattle.cstn_reply.specs.declared.output.Outcome.TheVariants.{Script}
 use Rattle.cstn_reply.specs.declared.session.Answer.{Answer}
 use Rattle.cstn_reply.proofs.Sessions.{after_both, zero_plus, play_split, answers_split, state_split, answers_more, state_more, play_last, play_wrong, play_past, heard_where}
-use Rattle.cstn_reply.proofs.Contents.{given, all_given, given_end, no_taken, more_taken}
-
-pub nothing_more : (xs : List ℕ) → xs ++ [] ≡ xs
-nothing_more xs = grind (arith, common_steps)
-
-no_more : (ls : List (List ℕ)) → ls ++ [] ≡ ls
-no_more ls = grind (arith, common_steps)
+use Rattle.cstn_reply.proofs.Contents.{given, all_given, given_end}
+use Rattle.cstn_lines.proofs.StepLemmas.{no_bytes, more_bytes}
 
 join_lines : (xs ys : List ℕ) → EndsLine xs → EndsLine ys → EndsLine (xs ++ ys)
-join_lines xs ys first (inl none) = subst (λ (y : List ℕ). EndsLine (xs ++ y)) (sym none) (subst (λ (y : List ℕ). EndsLine y) (sym (nothing_more xs)) first)
+join_lines xs ys first (inl none) = subst (λ (y : List ℕ). EndsLine (xs ++ y)) (sym none) (subst (λ (y : List ℕ). EndsLine y) (sym (append-nil xs)) first)
 join_lines xs ys first (inr (front, is)) = inr (xs ++ front, ap (λ y. xs ++ y) is ∙ sym (append_assoc xs front (10 ∷ [])))
 
 -- the answer of a session to a line, by its state
@@ -38,9 +34,6 @@ Turning S = S → List ℕ → Turn S
 pub turned : {S : Type 0} (turn : Turning S) (state next : S) (shown first text : List ℕ) (a b : Answer) → turn state shown ≡ the_turn a next text → shown ≡ first → a ≡ b → turn state first ≡ the_turn b next text
 turned turn state next shown first text a b is same at = ap (turn state) (sym same) ∙ is ∙ ap (λ (x : Answer). the_turn x next text) at
 
-pub not_both : (b : Bool) → b ≡ false → b ≡ true → ⊥
-not_both b low high = let f : ⊥ = cc in f
-
 -- a line may want memory, as an equal line does
 pub asked : (kind : List ℕ → Bool) (shown first : List ℕ) → IsTrue (kind shown) → shown ≡ first → kind first ≡ true
 asked kind shown first is same = sym (ap kind same) ∙ is
@@ -49,7 +42,7 @@ asked kind shown first is same = sym (ap kind same) ∙ is
 pub starts : {S : Type 0} (ends : Bool) (turn : Turning S) (start : S) (told : Option (List ℕ)) (lines : LinesState) → lines.kept ≡ [] → lines.count ≡ 0 → Progress ends turn start told told lines start [] []
 starts ends turn start told lines kept count = record {
   before = [];
-  read = no_taken told;
+  read = no_bytes told;
   lines_are = λ rest e. rw kept refl;
   whole_are = λ rest e. rw kept refl;
   counts = count;
@@ -125,7 +118,7 @@ module _ {S : Type 0} (ends : Bool) (turn : Turning S) (start : S) (told mid now
         let short : is_past ((0 + length stepped.so_far.before) + 1) (heard_line ends after) ≡ false = subst (λ (n : ℕ). is_past (n + 1) (heard_line ends after) ≡ false) (sym (count_is ends turn start told mid lines state taken said stepped.so_far)) short_line in
         record {
           before = stepped.so_far.before ++ heard_line ends after ∷ [];
-          read = more_taken told mid now taken bytes stepped.so_far.read stepped.reads;
+          read = more_bytes told mid now taken bytes stepped.so_far.read stepped.reads;
           lines_are = λ rest end.
               lines_on rest end ∙ ap (λ (ls : List (List ℕ)). stepped.so_far.before ++ ls) (out.lines ends rest end)
               ∙ sym (append_assoc stepped.so_far.before (heard_line ends after ∷ []) (heard_lines ends (after.kept ++ rest)));
@@ -137,7 +130,7 @@ module _ {S : Type 0} (ends : Bool) (turn : Turning S) (start : S) (told mid now
           leads = state_split turn start state 0 stepped.so_far.before (heard_line ends after ∷ []) stepped.so_far.leads ∙ state_more turn state (0 + length stepped.so_far.before) (heard_line ends after) [] short text next is;
           answered = sym
               (answers_split turn start state 0 stepped.so_far.before (heard_line ends after ∷ []) stepped.so_far.leads
-              ∙ ap (λ (xs : List ℕ). answers turn start 0 stepped.so_far.before ++ xs) (answers_more turn state (0 + length stepped.so_far.before) (heard_line ends after) [] short text next is ∙ nothing_more text)
+              ∙ ap (λ (xs : List ℕ). answers turn start 0 stepped.so_far.before ++ xs) (answers_more turn state (0 + length stepped.so_far.before) (heard_line ends after) [] short text next is ∙ append-nil text)
               ∙ ap (λ (xs : List ℕ). xs ++ text) (sym stepped.so_far.answered));
           lines_end = join_lines said text stepped.so_far.lines_end whole;
         }
@@ -146,7 +139,7 @@ module _ {S : Type 0} (ends : Bool) (turn : Turning S) (start : S) (told mid now
     pub comes_to : (kind : List ℕ → Bool) → kind (heard_line ends after) ≡ true → MeetsLine ends (heard turn start) kind told
     comes_to kind is = (
       (taken ++ bytes) ++ given now,
-      all_given told now (taken ++ bytes) (more_taken told mid now taken bytes stepped.so_far.read stepped.reads),
+      all_given told now (taken ++ bytes) (more_bytes told mid now taken bytes stepped.so_far.read stepped.reads),
       record {
         before = stepped.so_far.before;
         next = heard_line ends after;
@@ -171,7 +164,7 @@ rest_ends : {S : Type 0} (ends : Bool) (turn : Turning S) (ending : S → Said) 
 rest_ends ends turn ending opening start before mid now faults lines after state taken said bytes text outcome status stepped last_is at =
     let end : after.ended ≡ true → given now ≡ [] = λ h. given_end now (stepped.at_end h) in
     ends_here ends turn ending opening start before (record { left = now; faults = faults }) ((taken ++ bytes) ++ given now) said text outcome status
-    (all_given before.left now (taken ++ bytes) (more_taken before.left mid now taken bytes stepped.so_far.read stepped.reads))
+    (all_given before.left now (taken ++ bytes) (more_bytes before.left mid now taken bytes stepped.so_far.read stepped.reads))
     (goes_on ends turn start before.left mid now lines after state taken said bytes stepped ending (given now) end ∙ ap (after_text said) (last_is end))
     at
 
@@ -212,7 +205,7 @@ past_line ends turn ending opening start before mid now faults lines after state
 pub no_line : {S : Type 0} (ends : Bool) (turn : Turning S) (ending : S → Said) (opening : List ℕ) (start : S) (before : LiveState) (mid now : Option (List ℕ)) (faults : ℕ) (lines after : LinesState) (state : S) (taken said bytes text : List ℕ) (outcome : Outcome) (status : Status) → Stepped ends turn start before.left mid now lines after state taken said bytes → IsOver (lines.kept ++ bytes) lines.count after → ending state ≡ record { outcome = outcome; text = text } → status ≡ status_of outcome → IsText (session_says ends turn ending opening start) (session_heard turn opening start) before (record { left = now; faults = faults }) status ((opening ++ said) ++ text)
 no_line ends turn ending opening start before mid now faults lines after state taken said bytes text outcome status stepped out is at =
     rest_ends ends turn ending opening start before mid now faults lines after state taken said bytes text outcome status stepped
-    (λ end. ap (λ (bs : List ℕ). play turn ending state lines.count (heard_lines ends bs)) (ap (λ (xs : List ℕ). (lines.kept ++ bytes) ++ xs) (end out.ended) ∙ nothing_more (lines.kept ++ bytes))
+    (λ end. ap (λ (bs : List ℕ). play turn ending state lines.count (heard_lines ends bs)) (ap (λ (xs : List ℕ). (lines.kept ++ bytes) ++ xs) (end out.ended) ∙ append-nil (lines.kept ++ bytes))
     ∙ ap (play turn ending state lines.count) (out.lines ends) ∙ is)
     at
 
@@ -220,18 +213,18 @@ no_line ends turn ending opening start before mid now faults lines after state t
 pub fault_line : {S : Type 0} (ends : Bool) (turn : Turning S) (ending : S → Said) (opening : List ℕ) (start : S) (before : LiveState) (mid now : Option (List ℕ)) (old faults : ℕ) (lines after : LinesState) (state : S) (taken said bytes text : List ℕ) (status : Status) → Stepped ends turn start before.left mid now lines after state taken said bytes → IsBroken (lines.kept ++ bytes) lines.count after → before.faults ≤ old → Rose old faults → text ≡ line (codes "read fault") → status ≡ ReadFault → IsText (session_says ends turn ending opening start) (session_heard turn opening start) before (record { left = now; faults = faults }) status ((opening ++ said) ++ text)
 fault_line ends turn ending opening start before mid now old faults lines after state taken said bytes text status stepped out earlier rose text_is at =
     let before_is : whole_lines (taken ++ bytes) ≡ stepped.so_far.before =
-    ap whole_lines (sym (nothing_more (taken ++ bytes)))
+    ap whole_lines (sym (append-nil (taken ++ bytes)))
     ∙ whole_on ends turn start before.left mid now lines after state taken said bytes stepped [] out.ended
-    ∙ ap (λ (bs : List ℕ). stepped.so_far.before ++ whole_lines bs) (nothing_more (lines.kept ++ bytes))
+    ∙ ap (λ (bs : List ℕ). stepped.so_far.before ++ whole_lines bs) (append-nil (lines.kept ++ bytes))
     ∙ ap (λ (ls : List (List ℕ)). stepped.so_far.before ++ ls) out.none
-    ∙ no_more stepped.so_far.before in
+    ∙ append-nil stepped.so_far.before in
     let heard_is : session_heard turn opening start (taken ++ bytes) ≡ Some (opening ++ said) =
     ap (λ (ls : List (List ℕ)). option_map (λ (xs : List ℕ). opening ++ xs) (heard turn start ls)) before_is
     ∙ ap (option_map (λ (xs : List ℕ). opening ++ xs)) (heard_so_far ends turn start before.left mid lines state taken said stepped.so_far) in
     let now_seen : LiveState = record { left = now; faults = faults } in
     subst (λ (s : Status). IsText (session_says ends turn ending opening start) (session_heard turn opening start) before now_seen s ((opening ++ said) ++ text)) (sym at)
     (subst (λ (x : List ℕ). IsText (session_says ends turn ending opening start) (session_heard turn opening start) before now_seen ReadFault ((opening ++ said) ++ x)) (sym text_is)
-    (is_live_fault (taken ++ bytes) (opening ++ said) (more_taken before.left mid now taken bytes stepped.so_far.read stepped.reads) (later before.faults old faults earlier rose) heard_is))
+    (is_live_fault (taken ++ bytes) (opening ++ said) (more_bytes before.left mid now taken bytes stepped.so_far.read stepped.reads) (later before.faults old faults earlier rose) heard_is))
   where
     later : (a b c : ℕ) → a ≤ b → Rose b c → Rose a c
     later a b c h r = omega (arith, r)
@@ -252,7 +245,7 @@ memory_line ends turn ending opening start before mid now faults lines after sta
       live = live;
       said = after_text opening (play turn ending start 0 (heard_lines ends live));
       rest = rest.text;
-      all = all_given before.left now (taken ++ bytes) (more_taken before.left mid now taken bytes stepped.so_far.read stepped.reads);
+      all = all_given before.left now (taken ++ bytes) (more_bytes before.left mid now taken bytes stepped.so_far.read stepped.reads);
       whole = refl;
       first = ap (λ (s : Said). s.text) whole;
       lines = join_lines opening said opens stepped.so_far.lines_end;

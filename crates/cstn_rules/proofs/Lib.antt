@@ -1,5 +1,4 @@
 -- Where conclusions are.
-mod OptionLemmas
 pub mod Shapes
 -- The rules are sound.
 pub mod Sound

@@ -1,5 +1,6 @@
 -- The rules, and lists of bounds by them.
 pub mod Rules
+pub mod Tests
 pub mod Derivations
 pub mod Closed
 -- How the program's values are read.

@@ -2,6 +2,7 @@
 use Rattle.std.proofs.Common.{ℕ, ◌≡◌, inl, inr, ◌+◌, ◌<◌, ◌≤◌, false, List, Option, Some, None, arith, refl, sym, ap, ◌∙◌}
 use Rattle.std.specs.Prelude.{◌↔◌, nat_lt}
 use Rattle.std.proofs.lemmas.Bool.{cases_Bool, cases_lt, cond-true, cond-false, true≢false, lt-ltb, le-ltb}
+use Rattle.cstn_facts.proofs.Options.{cases_option}
 use Rattle.cstn_label.specs.Bounds.{Bound}
 use Rattle.cstn_net.specs.Networks.{Network}
 use Rattle.cstn_lift.specs.Labelled.{Labelled}
@@ -9,13 +10,13 @@ use Rattle.cstn_lift.specs.Lowered.{lowered}
 use Rattle.cstn_exec.specs.Runs.{Run, after, next, is_done, awaited, due}
 use Rattle.cstn_exec.specs.Moves.{Refusal, Done, Past, Late, Awaiting, NotExecuted, Known, moment_refusal, unless_past, unless_awaiting, unless_late}
 use Rattle.cstn_exec.specs.Right.{IsDue, IsFirstAwaited}
-use Rattle.cstn_exec.proofs.Options.{cases_option}
 use Rattle.cstn_exec.proofs.Judging.{judged, not_refused, refusal_done}
 use Rattle.cstn_exec.proofs.Running.{awaits_none, awaited_least}
 use Rattle.cstn_exec.proofs.Dues.{done_from, done_to, due_none, due_is_due}
 use Rattle.cstn_exec.specs.Guides.{Guided}
 use Rattle.cstn_exec.specs.Sound.{IsPlanned, IsGuided}
-use Rattle.cstn_run.specs.Meanings.{IsDueMoment, IsUnfinished, AwaitsNothing, IsAcceptable, IsRefusedFor}
+use Rattle.cstn_run.specs.Least.{IsDueMoment}
+use Rattle.cstn_run.specs.Meanings.{IsUnfinished, AwaitsNothing, IsAcceptable, IsRefusedFor}
 
 neither_below : (a b : ℕ) → (a < b → ⊥) → (b < a → ⊥) → a ≡ b
 neither_below a b one other = elim (cases_lt a b) [
@@ -111,7 +112,7 @@ module _ (m : Labelled) (bounds : List Bound) (plan : IsPlanned m bounds) (g : G
         ∙ ap (λ q. Some q) (neither_below some.0 p (λ below. first.least some.0 below other.awaited) (λ below. other.least p below first.awaited))
   ]
 
-  due_right : (u : ℕ) → due net bounds g.run ≡ Some u → IsDueMoment m g (Some u)
+  due_right : (u : ℕ) → due net bounds g.run ≡ Some u → IsDueMoment net g.run (Some u)
   due_right u at = due_is_due net bounds plan.table plan.well_formed plan.earliest g.run right.right u at
 
   some_due : IsUnfinished m g → (u : ℕ) × (due net bounds g.run ≡ Some u)
@@ -124,7 +125,7 @@ module _ (m : Labelled) (bounds : List Bound) (plan : IsPlanned m bounds) (g : G
   one_due : (u w : ℕ) → IsDue net g.run u → IsDue net g.run w → u ≡ w
   one_due u w one other = neither_below u w (λ below. other.first u one.from below one.work) (λ below. one.first w other.from below other.work)
 
-  due_at : (u : ℕ) → IsUnfinished m g → IsDueMoment m g (Some u) → due net bounds g.run ≡ Some u
+  due_at : (u : ℕ) → IsUnfinished m g → IsDueMoment net g.run (Some u) → due net bounds g.run ≡ Some u
   due_at u more is =
       let some = some_due more in
       some.1 ∙ ap (λ w. Some w) (one_due some.0 u (due_right some.0 some.1).0 is.0)

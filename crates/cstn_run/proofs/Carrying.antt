@@ -1,6 +1,7 @@
 -- What the answers of a guided session tell, line by line.
 use Rattle.std.proofs.Common.{ℕ, ◌≡◌, ◌+◌, Bool, List, [], ◌∷◌, refl, sym, subst, ap}
 use Rattle.std.specs.Prelude.{Option, Some, None, codes}
+use Rattle.std.proofs.lemmas.Option.{same_Some}
 use Rattle.cstn_label.specs.Bounds.{Bound}
 use Rattle.cstn_net.specs.Networks.{count}
 use Rattle.cstn_lift.specs.Labelled.{Labelled}
@@ -22,8 +23,9 @@ use Rattle.cstn_reply.specs.declared.output.Outcome.TheVariants.{Good}
 use Rattle.cstn_exec.specs.Running.{moment_line, refused_text, seen_text, due_text, executing}
 use Rattle.cstn_run.specs.Sessions.{named_turn, noted_turn, answer_turn, guide_turn, guide_ending}
 use Rattle.cstn_reply.specs.Reached.{state_after}
-use Rattle.cstn_run.specs.Meanings.{GuidesTo, NamesLeast, IsDueMoment, TellsDue, AcceptsExactly, SeesExactly, led_by, led_to}
-use Rattle.cstn_reply.proofs.Sessions.{first_leads, Begins, says_next, same_state}
+use Rattle.cstn_run.specs.Least.{IsDueMoment}
+use Rattle.cstn_run.specs.Meanings.{GuidesTo, GuideNamesLeast, GuideTellsDue, AcceptsExactly, SeesExactly, led_by, led_to}
+use Rattle.cstn_reply.proofs.Sessions.{first_leads, Begins, says_next}
 use Rattle.cstn_run.proofs.Moments.{after_guided, named_now}
 use Rattle.cstn_run.proofs.Accepting.{accepted_where, refused_where}
 use Rattle.cstn_run.proofs.Outcomes.{seen_accepted, seen_kept, seen_unnamed}
@@ -99,7 +101,7 @@ module _ (names : List (List ℕ)) (m : Labelled) (bounds : List Bound) where
     follows_right g first next right (follows_same is) = subst (IsGuided m) (sym is) right
 
     pub stays_right : (s g : Guided) (count : ℕ) (lines : List (List ℕ)) → IsGuided m s → state_after (guide_turn names m bounds) s count lines ≡ Some g → IsGuided m g
-    stays_right s g count [] right is = subst (IsGuided m) (same_state s g is) right
+    stays_right s g count [] right is = subst (IsGuided m) (same_Some s g is) right
     stays_right s g count (first ∷ lines) right is =
         let l = first_leads turn s g count first lines is in
         stays_right l.next g (count + 1) lines (follows_right s first l.next right (follows s first l.text l.next l.answer)) l.rest
@@ -112,15 +114,15 @@ module _ (names : List (List ℕ)) (m : Labelled) (bounds : List Bound) where
 
     -- ---- what is due
 
-    pub due_right : (g : Guided) → IsGuided m g → IsDueMoment m g (due (lowered m) bounds g.run)
+    pub due_right : (g : Guided) → IsGuided m g → IsDueMoment (lowered m) g.run (due (lowered m) bounds g.run)
     due_right g right = by_due (due (lowered m) bounds g.run) refl
       where
-        by_due : (o : Option ℕ) → due (lowered m) bounds g.run ≡ o → IsDueMoment m g o
+        by_due : (o : Option ℕ) → due (lowered m) bounds g.run ≡ o → IsDueMoment (lowered m) g.run o
         by_due None is = done_from (lowered m) g.run right.right.moments (due_none (lowered m) bounds plan.table plan.well_formed plan.earliest g.run right.right is)
         by_due (Some t) is = due_is_due (lowered m) bounds plan.table plan.well_formed plan.earliest g.run right.right t is
 
     pub done_where : (g : Guided) → IsGuided m g → due (lowered m) bounds g.run ≡ None → IsDone (lowered m) g.run
-    done_where g right is = subst (IsDueMoment m g) is (due_right g right)
+    done_where g right is = subst (IsDueMoment (lowered m) g.run) is (due_right g right)
 
     -- ---- the answers
 
@@ -134,7 +136,7 @@ module _ (names : List (List ℕ)) (m : Labelled) (bounds : List Bound) where
         by_due None = (line (codes "done"), refl)
         by_due (Some u) = refl
 
-    pub names_least : (before : List (List ℕ)) (next : List ℕ) (g : Guided) (t : ℕ) → GuidesTo names m bounds before next g → live_read next ≡ Some (moment_at t) → moment_refusal (lowered m) bounds g.run t ≡ None → NamesLeast names m bounds before next g t
+    pub names_least : (before : List (List ℕ)) (next : List ℕ) (g : Guided) (t : ℕ) → GuidesTo names m bounds before next g → live_read next ≡ Some (moment_at t) → moment_refusal (lowered m) bounds g.run t ≡ None → GuideNamesLeast names m bounds before next g t
     names_least before next g t leads at ok =
         let right = reached_right before next g leads in
         let called = named_exactly m bounds plan.table g.run t plan.labelled plan.well_formed plan.earliest right.right ok in
@@ -178,7 +180,7 @@ module _ (names : List (List ℕ)) (m : Labelled) (bounds : List Bound) where
           refuses = λ why is. says_next turn ending (begun (count m.base)) g before next (line (refused_text why)) leads (sees g next p value (Some why) (line (refused_text why)) at is refl);
         }
 
-    pub tells_due : (before : List (List ℕ)) (next : List ℕ) (g : Guided) → GuidesTo names m bounds before next g → live_read next ≡ Some due_now → TellsDue names m bounds before next g
+    pub tells_due : (before : List (List ℕ)) (next : List ℕ) (g : Guided) → GuidesTo names m bounds before next g → live_read next ≡ Some due_now → GuideTellsDue names m bounds before next g
     tells_due before next g leads at = record {
       due = due (lowered m) bounds g.run;
       due_is = refl;

@@ -21,7 +21,8 @@ use Rattle.cstn_reply.specs.declared.output.Outcome.TheVariants.{Good, Unfinishe
 use Rattle.cstn_exec.specs.Running.{moment_line, executing, unfinished}
 use Rattle.cstn_run.specs.Sessions.{named_turn, answer_turn, guide_turn, guide_ending}
 use Rattle.cstn_reply.specs.Reached.{state_after, ended}
-use Rattle.cstn_run.specs.Meanings.{IsDueMoment, led_by, led_to, end_of, said_to, WasNamed, IsTimely, IsCarriedThrough, EndsUnfinished}
+use Rattle.cstn_run.specs.Least.{IsDueMoment}
+use Rattle.cstn_run.specs.Meanings.{led_by, led_to, end_of, said_to, WasNamed, IsTimely, IsCarriedThrough, EndsUnfinished}
 use Rattle.cstn_reply.proofs.Sessions.{play_more, answers_more, state_more, ended_more, play_last, ended_last, play_wrong, ended_wrong, play_past, ended_past, plus_none, zero_plus, one_more, ended_split}
 use Rattle.cstn_run.proofs.Moments.{nobody_named, after_guided, named_now, named_still, named_back}
 use Rattle.cstn_run.proofs.Carrying.{Follows, follows_moment, follows_outcome, follows_same, follows, last_at, last_leads, follows_right, stays_right, begins_right, due_right, done_where}
@@ -300,5 +301,5 @@ module _ (names : List (List ℕ)) (m : Labelled) (bounds : List Bound) (plan : 
   pub ends_unfinished : (lines : List (List ℕ)) → (said_to names m bounds lines).outcome ≡ Unfinished → EndsUnfinished names m bounds lines
   ends_unfinished lines other =
       let r = unfinished_at (begun (count m.base)) 0 lines other in
-      let right = subst (IsDueMoment m (end_of names m bounds lines)) r.due_at (due_right names m bounds plan (end_of names m bounds lines) (end_right lines)) in
+      let right = subst (IsDueMoment (lowered m) (end_of names m bounds lines).run) r.due_at (due_right names m bounds plan (end_of names m bounds lines) (end_right lines)) in
       record { due = r.at; right = right.0; in_time = right.1; text = r.text }

@@ -1,3 +1,5 @@
+-- Sessions that say the same.
+mod Images
 -- What a guide names.
 pub mod Names
 pub mod Runs
@@ -10,3 +12,5 @@ pub mod Outcomes
 pub mod Carrying
 pub mod Ending
 pub mod Plain
+-- Hosts, and their sessions.
+pub mod hosts

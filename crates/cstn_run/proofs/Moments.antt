@@ -2,15 +2,14 @@
 use Rattle.std.proofs.Common.{ℕ, ◌≡◌, ◌⊎◌, inl, inr, ◌<◌, false, List, length, Some, None, arith, sym, ◌∙◌}
 use Rattle.std.specs.List.{Contains}
 use Rattle.std.proofs.lemmas.Bool.{cases_Bool, cond-true, cond-false, both_ways}
+use Rattle.cstn_facts.proofs.Options.{some_or_none}
+use Rattle.cstn_facts.proofs.Places.{get_or_repeated, some_within}
 use Rattle.cstn_label.specs.Bounds.{Bound}
 use Rattle.cstn_net.specs.Networks.{Network, count}
 use Rattle.cstn_lift.specs.Labelled.{Labelled}
 use Rattle.cstn_lift.specs.Lowered.{lowered}
 use Rattle.cstn_exec.specs.Runs.{start, executed_at, called}
 use Rattle.cstn_exec.specs.Moves.{moment_refusal, moved}
-use Rattle.cstn_exec.proofs.Options.{some_or_none}
-use Rattle.cstn_exec.proofs.Filled.{default_of}
-use Rattle.cstn_exec.proofs.Knowing.{some_within}
 use Rattle.cstn_exec.proofs.Dues.{accepted_right}
 use Rattle.cstn_exec.specs.Guides.{Guided, begun, is_left, named_at, holds_at, named, left_out, advanced}
 use Rattle.cstn_exec.specs.Sound.{IsPlanned, IsGuided}
@@ -30,7 +29,7 @@ named_from g x t kept e = cond-false (is_left g x) None (executed_at g.run x) ke
 
 -- no time-point is named at the beginning
 pub nobody_named : (n x t : ℕ) → named_at (begun n) x ≡ Some t → ⊥
-nobody_named n x t e = some_or_none (executed_at (start n) x) t (named_parts (begun n) x t e).1 (default_of n x None)
+nobody_named n x t e = some_or_none (executed_at (start n) x) t (named_parts (begun n) x t e).1 (get_or_repeated n x None)
 
 module _ (m : Labelled) (bounds : List Bound) (plan : IsPlanned m bounds) (g : Guided) (right : IsGuided m g) (t : ℕ)
     (ok : moment_refusal (lowered m) bounds g.run t ≡ None) where

@@ -1,26 +1,25 @@
 -- The program's guided session says what the definitions say of its labelled network.
-use Rattle.std.proofs.Common.{◌≡◌, ℕ, ◌+◌, List, [], ◌∷◌, ◌++◌, refl, ap, sym, subst, inr, ◌∙◌, Bool, true, false, String, Global, string_bytes}
-use Rattle.std.specs.Prelude.{if◌then◌else◌, map, Option, None, Some, codes}
-use Rattle.std.specs.Option.{option_map}
+use Rattle.std.proofs.Common.{◌≡◌, ℕ, List, [], ◌++◌, refl, ap, sym, subst, inr, ◌∙◌, String, Global, string_bytes}
+use Rattle.std.specs.Prelude.{map, Option, None, Some, codes}
 use Rattle.cstn_label.specs.declared.nodes.NodeId.{NodeId}
 use Rattle.cstn_net.specs.Networks.{count}
 use Rattle.cstn_plan.specs.Plans.{the_bounds}
 use Rattle.cstn_lift.specs.Lowered.{lowered}
 use Rattle.cstn_lift.specs.Read.{the_labelled}
 use Rattle.cstn_lines.specs.LiveLines.{Live, due_now, live_read}
-use Rattle.cstn_lines.specs.Pieces.{is_past}
 use Rattle.cstn_exec.specs.Runs.{due}
 use Rattle.cstn_exec.specs.Moves.{Refusal, moment_refusal}
 use Rattle.cstn_exec.specs.Guides.{Guided, named, advanced}
 use Rattle.cstn_exec.specs.GuideRead.{GuideParts, advanced_on}
-use Rattle.cstn_reply.specs.Texts.{line, Said, after_text}
+use Rattle.cstn_reply.specs.Texts.{line, Said}
 use Rattle.cstn_reply.specs.Written.{EndsLine}
-use Rattle.cstn_reply.specs.Sessions.{Turn, more, last, wrong, on_turn, script, play, answers, the_turn}
-use Rattle.cstn_reply.specs.Reached.{state_after, heard}
+use Rattle.cstn_reply.specs.Sessions.{Turn, more, last, play, the_turn}
+use Rattle.cstn_reply.specs.Reached.{heard}
 use Rattle.cstn_reply.specs.declared.session.Answer.{Answer}
 use Rattle.cstn_reply.specs.declared.output.Outcome.TheVariants.{Good}
 use Rattle.cstn_exec.specs.Running.{the_nodes, moment_line, refused_text, executing, due_text, turn_with}
 use Rattle.cstn_run.specs.Sessions.{RunSessionParts, named_turn, answer_turn, guide_turn, guide_ending, with_state, guided_turn, guided_ending}
+use Rattle.cstn_run.proofs.Images.{same_play, same_heard}
 
 -- the answers of the session, and how it ends
 abbrev pub turn_of : RunSessionParts → Guided → List ℕ → Turn Guided
@@ -30,52 +29,12 @@ abbrev pub ending_of : RunSessionParts → Guided → Said
 ending_of r = guide_ending (the_labelled r.labelled) (the_bounds r.bounds)
 
 pub play_as : (r : RunSessionParts) (count : ℕ) (lines : List (List ℕ)) → play guided_turn guided_ending r count lines ≡ play (turn_of r) (ending_of r) r.state count lines
-play_as r count [] = refl
-play_as r count (first ∷ lines) = by_past (λ g. play_as (with_state r g) (count + 1) lines) (is_past (count + 1) first)
-  where
-    by_turn : ((g : Guided) → play guided_turn guided_ending (with_state r g) (count + 1) lines ≡ play (turn_of r) (ending_of r) g (count + 1) lines) → (t : Turn Guided) → on_turn (turn_with (with_state r) t) (λ text next. after_text text (play guided_turn guided_ending next (count + 1) lines)) (λ said. said) (script (count + 1)) ≡ on_turn t (λ text next. after_text text (play (turn_of r) (ending_of r) next (count + 1) lines)) (λ said. said) (script (count + 1))
-    by_turn same (more text g) = ap (after_text text) (same g)
-    by_turn same (last said) = refl
-    by_turn same wrong = refl
-
-    by_past : ((g : Guided) → play guided_turn guided_ending (with_state r g) (count + 1) lines ≡ play (turn_of r) (ending_of r) g (count + 1) lines) → (past : Bool) → (if past then script (count + 1) else on_turn (guided_turn r first) (λ text next. after_text text (play guided_turn guided_ending next (count + 1) lines)) (λ said. said) (script (count + 1))) ≡ (if past then script (count + 1) else on_turn (turn_of r r.state first) (λ text next. after_text text (play (turn_of r) (ending_of r) next (count + 1) lines)) (λ said. said) (script (count + 1)))
-    by_past same true = refl
-    by_past same false = by_turn same (turn_of r r.state first)
-
-answers_as : (r : RunSessionParts) (count : ℕ) (lines : List (List ℕ)) → answers guided_turn r count lines ≡ answers (turn_of r) r.state count lines
-answers_as r count [] = refl
-answers_as r count (first ∷ lines) = by_past (λ g. answers_as (with_state r g) (count + 1) lines) (is_past (count + 1) first)
-  where
-    by_turn : ((g : Guided) → answers guided_turn (with_state r g) (count + 1) lines ≡ answers (turn_of r) g (count + 1) lines) → (t : Turn Guided) → on_turn (turn_with (with_state r) t) (λ text next. text ++ answers guided_turn next (count + 1) lines) (λ said. said.text) [] ≡ on_turn t (λ text next. text ++ answers (turn_of r) next (count + 1) lines) (λ said. said.text) []
-    by_turn same (more text g) = ap (λ (xs : List ℕ). text ++ xs) (same g)
-    by_turn same (last said) = refl
-    by_turn same wrong = refl
-
-    by_past : ((g : Guided) → answers guided_turn (with_state r g) (count + 1) lines ≡ answers (turn_of r) g (count + 1) lines) → (past : Bool) → (if past then [] else on_turn (guided_turn r first) (λ text next. text ++ answers guided_turn next (count + 1) lines) (λ said. said.text) []) ≡ (if past then [] else on_turn (turn_of r r.state first) (λ text next. text ++ answers (turn_of r) next (count + 1) lines) (λ said. said.text) [])
-    by_past same true = refl
-    by_past same false = by_turn same (turn_of r r.state first)
-
--- the lines lead on in both sessions alike
-leads_as : {X : Type 0} (x : X) (r : RunSessionParts) (count : ℕ) (lines : List (List ℕ)) → option_map (λ g. x) (state_after guided_turn r count lines) ≡ option_map (λ g. x) (state_after (turn_of r) r.state count lines)
-leads_as x r count [] = refl
-leads_as {X} x r count (first ∷ lines) = by_past (λ g. leads_as x (with_state r g) (count + 1) lines) (is_past (count + 1) first)
-  where
-    given : {S : Type 0} → Option S → Option X
-    given o = option_map (λ g. x) o
-
-    by_turn : ((g : Guided) → given (state_after guided_turn (with_state r g) (count + 1) lines) ≡ given (state_after (turn_of r) g (count + 1) lines)) → (t : Turn Guided) → given (on_turn (turn_with (with_state r) t) (λ text next. state_after guided_turn next (count + 1) lines) (λ said. None) None) ≡ given (on_turn t (λ text next. state_after (turn_of r) next (count + 1) lines) (λ said. None) None)
-    by_turn same (more text g) = same g
-    by_turn same (last said) = refl
-    by_turn same wrong = refl
-
-    by_past : ((g : Guided) → given (state_after guided_turn (with_state r g) (count + 1) lines) ≡ given (state_after (turn_of r) g (count + 1) lines)) → (past : Bool) → given (if past then None else on_turn (guided_turn r first) (λ text next. state_after guided_turn next (count + 1) lines) (λ said. None) None) ≡ given (if past then None else on_turn (turn_of r r.state first) (λ text next. state_after (turn_of r) next (count + 1) lines) (λ said. None) None)
-    by_past same true = refl
-    by_past same false = by_turn same (turn_of r r.state first)
+play_as r count lines =
+    same_play (turn_of r) guided_turn (with_state r) (λ g. Unit {0}) (λ g first text next holds is. tt) (λ g first holds. refl) (ending_of r) guided_ending (λ g. refl)
+    r.state count lines tt
 
 pub heard_as : (r : RunSessionParts) (lines : List (List ℕ)) → heard guided_turn r lines ≡ heard (turn_of r) r.state lines
-heard_as r lines =
-    leads_as (answers guided_turn r 0 lines) r 0 lines
-    ∙ ap (λ (xs : List ℕ). option_map (λ g. xs) (state_after (turn_of r) r.state 0 lines)) (answers_as r 0 lines)
+heard_as r lines = same_heard (turn_of r) guided_turn (with_state r) (λ g. Unit {0}) (λ g first text next holds is. tt) (λ g first holds. refl) r.state lines tt
 
 -- ---- the answers to live lines
 

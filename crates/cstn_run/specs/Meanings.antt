@@ -1,22 +1,20 @@
 -- What the answers of a guided session tell.
 use Rattle.std.specs.Prelude.{◌≡◌, ◌↔◌, ◌≤◌, ◌<◌, ℕ, ◌+◌, Bool, true, List, ◌∷◌, ◌++◌, Option, None, Some, codes, decimal}
-use Rattle.std.specs.List.{Contains}
-use Rattle.std.specs.List.Sorted.{IsStrictlyIncreasing}
 use Rattle.cstn_label.specs.Bounds.{Bound}
-use Rattle.cstn_label.specs.Labels.{Scenario}
 use Rattle.cstn_net.specs.Networks.{Observes, count}
 use Rattle.cstn_lift.specs.Labelled.{Labelled}
 use Rattle.cstn_lift.specs.Lowered.{lowered}
 use Rattle.cstn_lift.specs.Strategies.{IsLabelledLeast}
 use Rattle.cstn_lines.specs.LiveLines.{Live, moment_at, seen, due_now, live_read}
-use Rattle.cstn_exec.specs.Runs.{next as next_moment, outcome_of, is_awaited, due as due_moment}
+use Rattle.cstn_exec.specs.Runs.{next as next_moment, outcome_of, is_awaited}
 use Rattle.cstn_exec.specs.Moves.{Refusal, Done, Past, Late, Awaiting, NotExecuted, Known, moment_refusal}
 use Rattle.cstn_exec.specs.Right.{IsDue, IsDone, IsFirstAwaited}
 use Rattle.cstn_exec.specs.Guides.{Guided, begun, named_at, advanced, see_refusal}
 use Rattle.cstn_exec.specs.Sound.{IsNamedAt, AgreesHanded, IsOnTime, IsLed}
 use Rattle.cstn_reply.specs.Texts.{line, Said}
 use Rattle.cstn_reply.specs.Sessions.{play, answers}
-use Rattle.cstn_exec.specs.Running.{moment_line, refused_text, seen_text, due_text}
+use Rattle.cstn_exec.specs.Running.{moment_line, refused_text, seen_text}
+use Rattle.cstn_run.specs.Least.{NamesLeast, IsDueMoment, TellsDue}
 use Rattle.cstn_run.specs.Sessions.{guide_turn, guide_ending}
 use Rattle.cstn_reply.specs.Reached.{ended, LeadsTo, Says}
 
@@ -31,24 +29,15 @@ GuideSays names m bounds before next text = Says (guide_turn names m bounds) (gu
 -- The answer to a moment that is accepted names, in ascending number, exactly the time-points that aren't executed yet, whose
 -- least moment it is by what is known, and whose completed labels hold by that. In each scenario that agrees with the outcomes
 -- that were handed in and are known, each of them is executed, and at its least moment.
-pub record NamesLeast (names : List (List ℕ)) (m : Labelled) (bounds : List Bound) (before : List (List ℕ)) (next : List ℕ) (g : Guided) (t : ℕ) : Type 0 where
-  pub named : List ℕ
-  pub says : GuideSays names m bounds before next (moment_line names t named)
-  pub ascending : IsStrictlyIncreasing named
-  pub exactly : (x : ℕ) → Contains named x ↔ IsNamedAt m g.run t x
-  pub least : (s : Scenario) (x : ℕ) → AgreesHanded m (advanced m bounds g t) s → Contains named x → IsLabelledLeast m s x t
+abbrev pub GuideNamesLeast : List (List ℕ) → Labelled → List Bound → List (List ℕ) → List ℕ → Guided → ℕ → Type 0
+GuideNamesLeast names m bounds before next g t =
+    NamesLeast (λ named. GuideSays names m bounds before next (moment_line names t named)) (IsNamedAt m g.run t)
+    (AgreesHanded m (advanced m bounds g t)) (λ s x. IsLabelledLeast m s x t)
 
--- what is due: nothing where each time-point is executed or left out, and else the due moment, which is within the deadline
-abbrev pub IsDueMoment : Labelled → Guided → Option ℕ → Type 0
-IsDueMoment m g None = IsDone (lowered m) g.run
-IsDueMoment m g (Some t) = IsDue (lowered m) g.run t × (t ≤ m.base.deadline)
-
--- the answer to `due` is the due moment, by which moments are accepted, or that all is done
-pub record TellsDue (names : List (List ℕ)) (m : Labelled) (bounds : List Bound) (before : List (List ℕ)) (next : List ℕ) (g : Guided) : Type 0 where
-  pub due : Option ℕ
-  pub due_is : due ≡ due_moment (lowered m) bounds g.run
-  pub says : GuideSays names m bounds before next (line (due_text due))
-  pub right : IsDueMoment m g due
+-- the answer to `due` is the due moment, by which moments are accepted, or that each time-point is executed or left out
+abbrev pub GuideTellsDue : List (List ℕ) → Labelled → List Bound → List (List ℕ) → List ℕ → Guided → Type 0
+GuideTellsDue names m bounds before next g =
+    TellsDue (λ text. GuideSays names m bounds before next (line text)) (lowered m) bounds g.run
 
 -- ---- which moments are accepted
 
@@ -69,14 +58,14 @@ pub record IsAcceptable (m : Labelled) (g : Guided) (t : ℕ) : Type 0 where
   pub unfinished : IsUnfinished m g
   pub above : IsAbove g t
   pub awaits_nothing : AwaitsNothing m g t
-  pub by_due : (u : ℕ) × IsDueMoment m g (Some u) × (t ≤ u)
+  pub by_due : (u : ℕ) × IsDueMoment (lowered m) g.run (Some u) × (t ≤ u)
 
 -- this is the first of the parts of `IsAcceptable` that fails
 abbrev pub IsRefusedFor : Labelled → Guided → ℕ → Refusal → Type 0
 IsRefusedFor m g t Done = IsDone (lowered m) g.run
 IsRefusedFor m g t (Past now) = IsUnfinished m g × (g.run.now ≡ Some now) × (t ≤ now)
 IsRefusedFor m g t (Awaiting p) = IsUnfinished m g × IsAbove g t × IsFirstAwaited (lowered m) g.run t p
-IsRefusedFor m g t (Late u) = IsUnfinished m g × IsAbove g t × AwaitsNothing m g t × IsDueMoment m g (Some u) × (u < t)
+IsRefusedFor m g t (Late u) = IsUnfinished m g × IsAbove g t × AwaitsNothing m g t × IsDueMoment (lowered m) g.run (Some u) × (u < t)
 IsRefusedFor m g t (NotExecuted p) = ⊥
 IsRefusedFor m g t (Known p value) = ⊥
 

@@ -18,7 +18,7 @@ ghost use Rattle.cstn_reply.specs.declared.output.Outcome.TheVariants.{Good, Unf
 ghost use Rattle.cstn_check.specs.Decisions.{verdict};
 ghost use Rattle.cstn_exec.specs.Running.{run_turn, run_ending};
 ghost use Rattle.cstn_run.specs.Sessions.{guide_turn, guide_ending};
-ghost use Rattle.cstn_run.specs.Meanings.{GuidesTo, NamesLeast, AcceptsExactly, SeesExactly, TellsDue, IsTimely, said_to, EndsUnfinished, IsCarriedThrough};
+ghost use Rattle.cstn_run.specs.Meanings.{GuidesTo, GuideNamesLeast, AcceptsExactly, SeesExactly, GuideTellsDue, IsTimely, said_to, EndsUnfinished, IsCarriedThrough};
 
 /// After yes, the live bounds of the log of the lowered network are those of a plan.
 pub fn yes_is_planned()
@@ -36,14 +36,14 @@ pub fn yes_is_planned()
 pub fn guided_answers_are_least()
     ensures least { (names : List (List ℕ)) (m : Labelled) (bounds : List Bound) (before : List (List ℕ)) (next : List ℕ) (g : Guided) (t : ℕ)
         → IsPlanned m bounds → GuidesTo names m bounds before next g → live_read next ≡ Some (moment_at t) → moment_refusal (lowered m) bounds g.run t ≡ None
-        → NamesLeast names m bounds before next g t }
+        → GuideNamesLeast names m bounds before next g t }
     ensures accepted { (names : List (List ℕ)) (m : Labelled) (bounds : List Bound) (before : List (List ℕ)) (next : List ℕ) (g : Guided) (t : ℕ)
         → IsPlanned m bounds → GuidesTo names m bounds before next g → live_read next ≡ Some (moment_at t) → AcceptsExactly names m bounds before next g t }
     ensures outcomes { (names : List (List ℕ)) (m : Labelled) (bounds : List Bound) (before : List (List ℕ)) (next : List ℕ) (g : Guided) (p : ℕ) (value : Bool)
         → IsPlanned m bounds → GuidesTo names m bounds before next g → live_read next ≡ Some (seen p value) → SeesExactly names m bounds before next g p value }
     ensures timely { (names : List (List ℕ)) (m : Labelled) (bounds : List Bound) (lines : List (List ℕ)) → IsPlanned m bounds → IsTimely names m bounds lines }
     ensures due { (names : List (List ℕ)) (m : Labelled) (bounds : List Bound) (before : List (List ℕ)) (next : List ℕ) (g : Guided) → IsPlanned m bounds
-        → GuidesTo names m bounds before next g → live_read next ≡ Some due_now → TellsDue names m bounds before next g }
+        → GuidesTo names m bounds before next g → live_read next ≡ Some due_now → GuideTellsDue names m bounds before next g }
 {}
 
 /// Where a session ends well, the moments that its answers named are those of one labelled strategy, and meet each constraint

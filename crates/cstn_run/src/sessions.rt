@@ -15,6 +15,7 @@ ghost use Rattle.cstn_reply.specs.Sessions.{the_turn};
 ghost use Rattle.cstn_exec.specs.Running.{turn_with, due_text};
 ghost use Rattle.cstn_run.specs.Sessions.{RunSessionParts, with_state, named_turn, noted_turn, guided_turn, guided_ending};
 
+use crate::texts::put_due;
 use cstn_exec::{Guide, print_names, put_moment, put_refusal};
 use cstn_label::Prop;
 use cstn_lines::{LiveLine, read_live};
@@ -73,7 +74,7 @@ impl RunSession {
         }
         put_moment(text, t, self.guide.named(), &self.names);
         let Some(_) = self.guide.due() else {
-            text.put_word(b"done");
+            put_due(text, None);
             return Answer::Last(Outcome::Good);
         };
         Answer::More
@@ -99,10 +100,7 @@ impl RunSession {
         requires empty { text.old ≡ [] }
         ensures { text.new ≡ line (due_text (due (lowered (the_labelled self.now.labelled)) (the_bounds self.now.bounds) self.now.state.run)) }
     {
-        match self.guide.due() {
-            Some(t) => text.put_number(b"due ", t),
-            None => text.put_word(b"done"),
-        }
+        put_due(text, self.guide.due());
     }
 }
 

@@ -1,10 +1,11 @@
 -- The lines of a document, one after the other.
 use Rattle.std.proofs.lemmas.Bool.{true≢false}
-use Rattle.std.proofs.Common.{◌≡◌, ◌≢◌, Bool, true, false, refl, ℕ, suc, ◌+◌, ◌<◌, List, [], ◌∷◌, ◌++◌, ◌∙◌, ap, sym, append-nil, add-one, length, length-append, arith, take, map, get_or, Option, Some, None}
+use Rattle.std.proofs.Common.{◌≡◌, ◌≢◌, Bool, true, false, refl, ℕ, ◌+◌, ◌<◌, List, [], ◌∷◌, ◌++◌, ◌∙◌, ap, sym, append-nil, add-one, length, length-append, arith, take, map, get_or, Option, Some, None}
 use Rattle.std.specs.Prelude.{◌==◌, if◌then◌else◌, codes, slice_get, slice_index_or, Result, Ok, Err, is_ok, OnOk}
 use Rattle.std.proofs.lemmas.Grind.{flat_map-append}
 use Rattle.std.proofs.lemmas.List.{take_more, map-append}
 use Rattle.std.proofs.lemmas.Option.{get_or_from_slice_get}
+use Rattle.cstn_facts.proofs.Booleans.{some_there}
 use Rattle.cstn_label.specs.Labels.{Label}
 use Rattle.cstn_label.specs.Letters.{letter_of}
 use Rattle.cstn_text.specs.Numbers.{printed_number}
@@ -51,9 +52,6 @@ nodes_more names observes labels n name o a old text new named observed labelled
     ∙ ap (λ (b : Label). node_line (get_or names n []) (slice_index_or observes n None) b) labelled in
     rw add-one (two old (nodes_below names observes labels n) (node_line (get_or names n []) (slice_index_or observes n None) (label_in labels n)) text new so_far (put ∙ ap (λ (x : List ℕ). text ++ x) same))
 
-something_there : (k : ℕ) (none : Bool) (n : ℕ) → none ≡ (n == 0) → none ≡ true → n ≡ suc k → ⊥
-something_there k none n e f g = grind arith
-
 -- the end of the line of a time-point that has data
 pub end_put : (inner_bytes old t1 t2 t3 : List ℕ) (b : Bool) → b ≡ (length inner_bytes == 0) → b ≡ false → t1 ≡ old ++ codes "\">" → t2 ≡ t1 ++ inner_bytes → t3 ≡ t2 ++ codes "</node>\n" → t3 ≡ old ++ node_end inner_bytes
 end_put [] old t1 t2 t3 b is some e1 e2 e3 = absurd (true≢false (sym is ∙ some))
@@ -63,7 +61,7 @@ end_put (x ∷ inner_bytes) old t1 t2 t3 b is some e1 e2 e3 = three old (codes "
 pub end_bare : {U E : Type 0} (inner_bytes old new : List ℕ) (b : Bool) (r : Result U E) → b ≡ (length inner_bytes == 0) → b ≡ true → new ≡ (if is_ok r then old ++ codes "\"/>\n" else old) → OnOk r (new ≡ old ++ node_end inner_bytes)
 end_bare [] old new b (Ok u) is none put = put
 end_bare [] old new b (Err e) is none put = tt
-end_bare (x ∷ inner_bytes) old new b r is none put = absurd (something_there (length inner_bytes) b (length (x ∷ inner_bytes)) is none refl)
+end_bare (x ∷ inner_bytes) old new b r is none put = absurd (some_there (length inner_bytes) b (length (x ∷ inner_bytes)) is none refl)
 
 -- the data of a label that has literals
 pub label_put : (literals old t1 t2 t3 : List ℕ) (b : Bool) → b ≡ (length literals == 0) → b ≡ false → t1 ≡ old ++ codes "<data key=\"Label\">" → t2 ≡ t1 ++ literals → t3 ≡ t2 ++ codes "</data>" → t3 ≡ old ++ label_data literals
@@ -72,7 +70,7 @@ label_put (x ∷ literals) old t1 t2 t3 b is some e1 e2 e3 = three old (codes "<
 
 pub label_bare : (literals old : List ℕ) (b : Bool) → b ≡ (length literals == 0) → b ≡ true → old ≡ old ++ label_data literals
 label_bare [] old b is none = sym (append-nil old)
-label_bare (x ∷ literals) old b is none = absurd (something_there (length literals) b (length (x ∷ literals)) is none refl)
+label_bare (x ∷ literals) old b is none = absurd (some_there (length literals) b (length (x ∷ literals)) is none refl)
 
 pub literals_none : (a : Label) (old : List ℕ) → old ≡ old ++ literals_below a 0
 unfolding literals_below

@@ -7,6 +7,7 @@ use Rattle.std.proofs.lemmas.Bool.{false_from_ne_true}
 use Rattle.std.proofs.lemmas.List.{take_more, take_all, get_or-take}
 use Rattle.std.proofs.lemmas.List.Sums.{position_or_len_is}
 use Rattle.std.proofs.lemmas.Slice.Eq.{bytes_eq-Decides}
+use Rattle.cstn_facts.proofs.Booleans.{bytes_same}
 use Rattle.cstn_net.specs.Networks.{Constraint}
 use Rattle.cstn_markup.specs.Bytes.{is_same}
 use Rattle.cstn_graphml.specs.DrawnGraph.{Observation, DrawnGraph, node_of, with_node, with_constraint}
@@ -19,9 +20,6 @@ use Rattle.cstn_save.proofs.ReadBackLemmas.{begun}
 
 differ : (xs ys : List ℕ) → xs ≢ ys → bytes_eq xs ys ≡ false
 differ xs ys h = false_from_ne_true (bytes_eq xs ys) (λ e. h ((bytes_eq-Decides xs ys).0 e))
-
-self : (xs : List ℕ) → bytes_eq xs xs ≡ true
-self xs = (bytes_eq-Decides xs xs).1 refl
 
 -- the names are different and of 1 to 64 bytes, the first is `Z`, and each has its observation and its label
 pub record AreGiven (names : List (List ℕ)) (observes : List (Option Observation)) (labels : List Label) : Type 0 where
@@ -124,7 +122,7 @@ found names observes labels deadline n (suc i) d given all so h =
     later_of name d (no_origin names observes labels (suc i) given (omega arith) h)
     ∙ ap (position (bytes_eq name)) (so.names_are ∙ take_all (suc n) names (omega (arith, all)))
     ∙ found_at (bytes_eq name) names (suc i) h
-    (position_or_len_is (bytes_eq name) names (suc i) [] (omega arith) (λ k below. other_name names observes labels k (suc i) given below h) (λ below. self name))
+    (position_or_len_is (bytes_eq name) names (suc i) [] (omega arith) (λ k below. other_name names observes labels k (suc i) given below h) (λ below. bytes_same name))
 
 -- constraints are put behind those of the draft
 pub with_all_is : (cs : List Constraint) (d : DrawnGraph) → with_all cs d ≡ record d { constraints = d.constraints ++ map drawn cs }

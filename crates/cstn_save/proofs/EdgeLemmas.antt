@@ -10,8 +10,8 @@ use Rattle.cstn_label.specs.declared.marks.Mark.TheVariants.{Absent}
 use Rattle.cstn_net.specs.Networks.{Constraint}
 use Rattle.cstn_text.specs.Numbers.{printed_value}
 use Rattle.cstn_markup.specs.Bytes.{is_white}
-use Rattle.cstn_data.specs.WhiteSpace.{trimmed}
-use Rattle.cstn_data.specs.ValueTexts.{values_of}
+use Rattle.cstn_element.specs.WhiteSpace.{trimmed}
+use Rattle.cstn_element.specs.ValueTexts.{values_of}
 use Rattle.cstn_graphml.specs.DrawnGraph.{DrawnGraph, node_of, with_constraint}
 use Rattle.cstn_save.specs.Canonical.{escaped_name, or_empty, literals_below, document_label, edge_tag, edge_data, edge_line, edges, tail}
 use Rattle.cstn_save.specs.ReadBack.{drawn}

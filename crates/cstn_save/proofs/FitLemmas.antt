@@ -12,13 +12,14 @@ use Rattle.cstn_lift.specs.declared.errors.LiftError.{LiftError}
 use Rattle.cstn_lift.specs.Labelled.{Labelled, label_in}
 use Rattle.cstn_lift.specs.Completion.{brought_by, joined_upto, rounds, completed}
 use Rattle.cstn_lift.specs.WellFormed.{IsLabelled}
-use Rattle.cstn_lift.specs.Lowered.{is_plain, with_full_label, full_constraints, guard, guards_of, guards, lowered, observer_of, numbered as numbered_lowered}
+use Rattle.cstn_lift.specs.Lowered.{is_plain, with_full_label, full_constraints, guard, guards_of, guards, lowered, observer_of}
 use Rattle.cstn_lift.specs.Faults.{HasLiftFault}
 use Rattle.cstn_net.specs.Read.{first_reaction}
 use Rattle.cstn_graphml.specs.Networks.{numbered_drawn, labelled_of, IsFit, observed_prop, observed_reaction}
 use Rattle.cstn_save.specs.Canonical.{timed_observations}
 use Rattle.cstn_save.specs.ReadBack.{drawn, parts}
 use Rattle.cstn_save.proofs.SameLemmas.{props_back, well_formed_back}
+use Rattle.cstn_lift.proofs.ListLemmas.{numbered_length}
 
 cons_length : {X : Type 0} → (a b : Option X) (xs ys : List X) → is_some a ≡ is_some b → length xs ≡ length ys → length (cons_option a xs) ≡ length (cons_option b ys)
 cons_length None None xs ys e h = h
@@ -34,10 +35,6 @@ filter_map_length f g same (x ∷ xs) = cons_length (f x) (g x) (filter_map f xs
 flat_map_length : {X Y : Type 0} → (f g : X → List Y) → ((x : X) → length (f x) ≡ length (g x)) → (xs : List X) → length (flat_map f xs) ≡ length (flat_map g xs)
 flat_map_length f g same [] = refl
 flat_map_length f g same (x ∷ xs) = omega (arith, length-append (f x) (flat_map f xs), length-append (g x) (flat_map g xs), same x, flat_map_length f g same xs)
-
-numbered_count : (k : ℕ) (cs : List Constraint) → length (numbered_lowered k cs) ≡ length cs
-numbered_count k [] = refl
-numbered_count k (c ∷ cs) = ap suc (numbered_count (k + 1) cs)
 
 kept_by : (a b : Bool) (c d : Constraint) → a ≡ b → is_some (if a then Some c else None) ≡ is_some (if b then Some d else None)
 kept_by true true c d e = refl
@@ -92,8 +89,8 @@ module _ (deadline : ℕ) (os : List (Option ℕ)) (r s : ℕ → ℕ) (ds : Lis
   pub lowered_count : length (lowered read).constraints ≡ length (lowered written).constraints
   lowered_count = omega (
     arith,
-    numbered_count 0 (full_constraints read ++ guards read),
-    numbered_count 0 (full_constraints written ++ guards written),
+    numbered_length 0 (full_constraints read ++ guards read),
+    numbered_length 0 (full_constraints written ++ guards written),
     length-append (full_constraints read) (guards read),
     length-append (full_constraints written) (guards written),
     kept_count 0 ds,

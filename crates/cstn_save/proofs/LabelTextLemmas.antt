@@ -7,10 +7,11 @@ use Rattle.cstn_label.specs.declared.marks.Mark.TheVariants.{Absent, Yes, No, Un
 use Rattle.cstn_label.specs.Labels.{Label, empty, IsPlain, IsMarkPlain}
 use Rattle.cstn_label.specs.Letters.{letter_of}
 use Rattle.cstn_markup.specs.Bytes.{is_same, is_white}
-use Rattle.cstn_data.specs.LabelTexts.{label_after, label_of}
-use Rattle.cstn_data.specs.LabelTexts.Expects.{literal as for_literal}
-use Rattle.cstn_text.proofs.PrintedLabelLemmas.{below, below_none, below_more, below_absent, below_here, below_all, letter_back}
+use Rattle.cstn_element.specs.LabelTexts.{label_after, label_of}
+use Rattle.cstn_element.specs.LabelTexts.Expects.{literal as for_literal}
+use Rattle.cstn_text.proofs.PrintedLabelLemmas.{below, below_none, below_more, below_absent, below_here, below_all}
 use Rattle.cstn_save.specs.Canonical.{literal, literals_below, or_empty, document_label}
+use Rattle.cstn_label.proofs.LetterLemmas.{letter_back}
 
 -- the letter of a proposition is neither white space nor `!`, nor the first byte of U+00AC
 pub letter_kind : (p : ℕ) → p < 52 → (is_white (letter_of p) ≡ false) × ((letter_of p == 33) ≡ false) × ((letter_of p == 194) ≡ false)

@@ -1,6 +1,6 @@
 -- Reading what is saved gives the same names, and the same labelled network but for ids.
 use Rattle.std.proofs.Common.{◌≡◌, ◌≢◌, ℕ, zero, suc, ◌-◌, ◌<◌, ◌≤◌, ◌^◌, List, [], ◌∷◌, ◌++◌, length, refl, ap, sym, ◌∙◌, arith, true, subst, map, Ok}
-use Rattle.std.specs.Prelude.{Option, Some, None, codes, nat_lt, nat_le, ◌&&◌, slice_index_or, ℤ, pos, negsuc, ◌≤ℤ◌, FitsSigned}
+use Rattle.std.specs.Prelude.{Option, Some, None, codes, slice_index_or, ℤ, pos, negsuc, ◌≤ℤ◌, FitsSigned}
 use Rattle.std.specs.Int.{w32}
 use Rattle.std.specs.List.{All}
 use Rattle.std.specs.Str.{is_utf8, IsUtf8}
@@ -29,9 +29,7 @@ use Rattle.cstn_save.proofs.WholeLemmas.{drafted, IsNew, IsInReach}
 use Rattle.cstn_save.proofs.EdgeLemmas.{IsKnown, AreKnown}
 use Rattle.cstn_save.proofs.ReadBackLemmas.{begun, drafted_of, canonical_drafted}
 use Rattle.cstn_save.proofs.DraftedLemmas.{AreGiven, IsShaped, shaped, fresh, found, with_all_is}
-
-sized_name : (n : ℕ) → 1 ≤ n → n ≤ 64 → (nat_lt 0 n && nat_le n 64) ≡ true
-sized_name n some few = grind arith
+use Rattle.cstn_text.proofs.PrintedNameLemmas.{shape_true}
 
 -- what a time-point observes, with the reaction of the proposition
 observed_at : (reaction : ℕ → ℕ) (os : List (Option ℕ)) (i : ℕ) → slice_index_or (map (observed_by reaction) os) i None ≡ observed_by reaction (slice_index_or os i None)
@@ -53,7 +51,7 @@ given_of : (m : Labelled) (names : List (List ℕ)) → IsLabelled m → AreName
 given_of m names good is =
     let net : Network = m.base in
     record {
-      sized = λ i h. let n = is.named.each i [] h in sized_name (length (slice_index_or names i [])) n.some n.few;
+      sized = λ i h. let n = is.named.each i [] h in shape_true (length (slice_index_or names i [])) n.some n.few;
       different = is.named.different;
       origin = get_or_from_slice_get names 0 (codes "Z") [] is.origin;
       each = is.each ∙ sym (observations_count net);

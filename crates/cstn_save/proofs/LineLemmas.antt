@@ -9,9 +9,9 @@ use Rattle.cstn_markup.specs.Tokens.{Kind, tokens, tokens_after, piece_at, tail_
 use Rattle.cstn_markup.proofs.Resolving.{resolved_plain}
 use Rattle.cstn_markup.proofs.Stepping.{tokens_skip}
 use Rattle.cstn_element.specs.Results.{Refusal, ◌>>=◌}
-use Rattle.cstn_data.specs.WhiteSpace.{trimmed}
-use Rattle.cstn_data.specs.NumberTexts.{short_number}
-use Rattle.cstn_data.specs.ValueTexts.{values_of}
+use Rattle.cstn_element.specs.WhiteSpace.{trimmed}
+use Rattle.cstn_element.specs.NumberTexts.{short_number}
+use Rattle.cstn_element.specs.ValueTexts.{values_of}
 use Rattle.cstn_graphml.specs.Judged.{with_pairs, observed, reacting, labelled}
 use Rattle.cstn_element.specs.Contents.{Content, contents, inner, outer, content_of}
 use Rattle.cstn_element.specs.Elements.{Datum, read_by, data_reading, datum_of}

@@ -11,7 +11,7 @@ use Rattle.cstn_net.specs.Limits.{most_reaction}
 use Rattle.cstn_text.specs.Numbers.{printed_number, printed_value}
 use Rattle.cstn_text.proofs.NumberLemmas.{digits}
 use Rattle.cstn_markup.specs.Bytes.{number_after}
-use Rattle.cstn_data.specs.NumberTexts.{short_number, few_ticks, reaction_in, integer_text, past_minus}
+use Rattle.cstn_element.specs.NumberTexts.{short_number, few_ticks, reaction_in, integer_text, past_minus}
 
 digit_is : (d : ℕ) → is_ascii_digit d ≡ true → is_digit d 10 ≡ true
 digit_is d h = grind arith

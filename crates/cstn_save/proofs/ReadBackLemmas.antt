@@ -9,7 +9,7 @@ use Rattle.cstn_net.specs.Networks.{Network, count}
 use Rattle.cstn_lift.specs.Labelled.{Labelled, label_in}
 use Rattle.cstn_text.specs.Numbers.{printed_number}
 use Rattle.cstn_markup.specs.Tokens.{tokens}
-use Rattle.cstn_data.specs.NumberTexts.{short_number}
+use Rattle.cstn_element.specs.NumberTexts.{short_number}
 use Rattle.cstn_element.specs.Contents.{content_of}
 use Rattle.cstn_graphml.specs.DrawnGraph.{DrawnGraph, empty_graph, with_deadline}
 use Rattle.cstn_graphml.specs.Document.{in_document}

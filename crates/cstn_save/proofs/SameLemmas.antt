@@ -16,7 +16,7 @@ use Rattle.cstn_element.specs.Results.{Refusal}
 use Rattle.cstn_graphml.specs.Networks.{numbered_drawn, observed_prop, network_of, labelled_of, IsUnfit, observed_reaction}
 use Rattle.cstn_lift.specs.Labelled.{Labelled}
 use Rattle.cstn_lift.specs.WellFormed.{IsLabelled}
-use Rattle.cstn_graphml.proofs.Built.{numbered_length}
+use Rattle.cstn_graphml.proofs.Built.{numbered_length, same_network}
 use Rattle.cstn_graphml.proofs.Fits.{fits}
 use Rattle.cstn_save.specs.Canonical.{canonical, observed_by, timed_observations}
 use Rattle.cstn_save.specs.ReadBack.{drawn, parts, AreNamesOf, AreNumbered, AreSameButIds}
@@ -77,15 +77,11 @@ renumbered j (c ∷ cs) h =
     ap (λ i. record { id = i; from = c.from; to = c.to; most = c.most; label = c.label } ∷ numbered_drawn (j + 1) (map drawn cs)) here
     ∙ ap (λ (ds : List Constraint). c ∷ ds) (renumbered (j + 1) cs (λ k d i. omega (arith, h (suc k) d (omega (arith, i)))))
 
-same_network : (h k : ℕ) (os ps : List (Option ℕ)) (r s : ℕ → ℕ) (cs ds : List Constraint) → h ≡ k → os ≡ ps → r ≡ s → cs ≡ ds
-    → ◌≡◌ {A = Network} (record { deadline = h; observes = os; reaction = r; constraints = cs }) (record { deadline = k; observes = ps; reaction = s; constraints = ds })
-same_network h k os ps r s cs ds a b c d = rw (a, b, c, d) refl
-
 -- it is the very same, where ids have no gap and what nothing observes has a reaction of 1 tick
 network_back : (m : Labelled) (names : List (List ℕ)) → ((p : ℕ) → ((x : ℕ) → Observes m.base x p → ⊥) → m.base.reaction p ≡ 1) → AreNumbered m.base.constraints → network_of (parts m names) ≡ m.base
 network_back m names ticks ids =
     let net : Network = m.base in
-    same_network net.deadline net.deadline _ net.observes _ net.reaction _ net.constraints refl (props_back net.reaction net.observes)
+    same_network refl (props_back net.reaction net.observes)
     (fun_ext (λ p. reaction_all net.reaction net.observes p (λ none. ticks p (λ x o. none x o.what))))
     (renumbered 0 net.constraints (λ k d i. omega (arith, ids k d i)))
 

@@ -1,26 +1,22 @@
 -- Labels that make no fault.
-use Rattle.std.proofs.Common.{◌≡◌, ℕ, zero, suc, ◌+◌, Bool, true, false, List, [], ◌∷◌, length, refl, ap, sym, ◌∙◌, arith, subst}
+use Rattle.std.proofs.Common.{◌≡◌, ℕ, zero, suc, Bool, true, false, List, length, refl, ap, sym, ◌∙◌, arith, subst}
 use Rattle.std.specs.Prelude.{if◌then◌else◌}
 use Rattle.std.proofs.lemmas.List.{length-map}
 use Rattle.cstn_label.specs.Labels.{Label, IsPlain, empty, joined}
 use Rattle.cstn_label.proofs.LabelLemmas.{joined_empty}
-use Rattle.cstn_net.specs.Networks.{Network, Constraint, IsWellFormed, count}
+use Rattle.cstn_net.specs.Networks.{Network, IsWellFormed, count}
 use Rattle.cstn_lift.specs.declared.errors.LiftError.{LiftError}
 use Rattle.cstn_lift.specs.declared.errors.LiftError.TheVariants.{OriginLabel, NotPlain, NotObserved, Circle, Never, TooManyConstraints, Memory}
 use Rattle.cstn_lift.specs.Labelled.{Labelled, label_of}
 use Rattle.cstn_lift.specs.Completion.{joined_upto, rounds, completed_label}
 use Rattle.cstn_lift.specs.WellFormed.{IsLabelled}
-use Rattle.cstn_lift.specs.Lowered.{numbered}
 use Rattle.cstn_lift.specs.Faults.{HasLiftFault}
 use Rattle.cstn_lift.proofs.Unlabelled.{unlabelled_lowered}
 use Rattle.cstn_graphml.specs.Networks.{labelled_of, observed_prop, IsMislabelled}
 use Rattle.cstn_save.specs.Canonical.{timed_observations, observed_by}
 use Rattle.cstn_save.specs.ReadBack.{parts}
 use Rattle.cstn_save.proofs.SameLemmas.{well_formed_back}
-
-numbered_length : (k : ℕ) (cs : List Constraint) → length (numbered k cs) ≡ length cs
-numbered_length k [] = refl
-numbered_length k (c ∷ cs) = ap suc (numbered_length (k + 1) cs)
+use Rattle.cstn_lift.proofs.ListLemmas.{numbered_length}
 
 plain_empty : (a : Label) → a ≡ empty → IsPlain a
 plain_empty a is = subst IsPlain (sym is) (λ p. tt)

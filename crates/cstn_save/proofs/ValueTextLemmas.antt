@@ -13,11 +13,11 @@ use Rattle.cstn_label.specs.declared.marks.Mark.TheVariants.{Absent, Yes, No, Un
 use Rattle.cstn_label.specs.Letters.{letter_of}
 use Rattle.cstn_text.specs.Numbers.{printed_value}
 use Rattle.cstn_markup.specs.Bytes.{is_white, number_after}
-use Rattle.cstn_data.specs.WhiteSpace.{trimmed}
-use Rattle.cstn_data.specs.NumberTexts.{integer_text, short_number}
-use Rattle.cstn_data.specs.LabelTexts.{label_of}
-use Rattle.cstn_data.specs.ValueTexts.{is_of_part, pair_at, pairs_after, values_of}
-use Rattle.cstn_data.proofs.PairTexts.{pairs_skip}
+use Rattle.cstn_element.specs.WhiteSpace.{trimmed}
+use Rattle.cstn_element.specs.NumberTexts.{integer_text, short_number}
+use Rattle.cstn_element.specs.LabelTexts.{label_of}
+use Rattle.cstn_element.specs.ValueTexts.{is_of_part, pair_at, pairs_after, values_of}
+use Rattle.cstn_element.proofs.PairTexts.{pairs_skip}
 use Rattle.cstn_save.specs.Canonical.{literal, literals_below, or_empty, document_label}
 use Rattle.cstn_save.proofs.NumberTextLemmas.{decimal_digits, integer_back}
 use Rattle.cstn_save.proofs.LabelTextLemmas.{label_back}

@@ -12,21 +12,21 @@ use Rattle.cstn_lift.specs.Labelled.{label_in}
 use Rattle.cstn_markup.specs.Bytes.{is_same}
 use Rattle.cstn_label.specs.Letters.{letter_of, prop_of}
 use Rattle.cstn_text.specs.Numbers.{printed_number}
-use Rattle.cstn_data.specs.LabelTexts.{label_of}
+use Rattle.cstn_element.specs.LabelTexts.{label_of}
 use Rattle.cstn_element.specs.Results.{or_refused}
 use Rattle.cstn_element.specs.Results.Refusal.{label_text}
 use Rattle.cstn_element.specs.Elements.{Datum, datum_of}
 use Rattle.cstn_graphml.specs.Judged.{observed, reacting, labelled}
-use Rattle.cstn_data.specs.NumberTexts.{reaction_in}
+use Rattle.cstn_element.specs.NumberTexts.{reaction_in}
 use Rattle.cstn_graphml.specs.DrawnGraph.{Observation, observation, DrawnGraph, node_of, with_node}
 use Rattle.cstn_save.specs.Canonical.{escaped_name, or_empty, literals_below, observation_data, label_data, node_data, node_end, node_line, nodes_below}
-use Rattle.cstn_text.proofs.PrintedLabelLemmas.{letter_back}
 use Rattle.cstn_save.proofs.ValueTextLemmas.{trimmed_solid, digit_solid, is_solid, is_of_literal, literals_bytes, label_solid}
 use Rattle.cstn_save.proofs.LabelTextLemmas.{label_back}
 use Rattle.cstn_save.proofs.TokenLemmas.{obs_tag, reaction_tag, label_tag}
 use Rattle.cstn_save.proofs.NumberTextLemmas.{decimal_digits, reaction_back}
 use Rattle.cstn_save.proofs.RunLemmas.{all_for}
 use Rattle.cstn_save.proofs.LineLemmas.{Makes, Finds, Says, plain_node, obs_read, reaction_read, label_read, datum_found, finds_then, open_node, then}
+use Rattle.cstn_label.proofs.LetterLemmas.{letter_back}
 
 pub joined_four : (a b c d : List ℕ) → a ++ b ++ c ++ d ≡ a ++ (b ++ (c ++ d))
 joined_four a b c d = append_assoc (a ++ b) c d ∙ append_assoc a b (c ++ d)

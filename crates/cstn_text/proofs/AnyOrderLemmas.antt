@@ -12,8 +12,9 @@ use Rattle.cstn_text.specs.PrintedLabels.{printed_mark, marks_text, label_with, 
 use Rattle.std.specs.List.{All}
 use Rattle.std.proofs.lemmas.List.Elements.{All-nil, All-cons, All-append}
 use Rattle.cstn_text.specs.Parts.{IsOnePart}
-use Rattle.cstn_text.proofs.PartLemmas.{letter_above, mark_above}
+use Rattle.cstn_text.proofs.PartLemmas.{mark_above}
 use Rattle.cstn_text.proofs.PrintedLabelLemmas.{read_of, mark_back, mark_some, nonempty_read}
+use Rattle.cstn_label.proofs.LetterLemmas.{letter_above}
 
 -- marks of propositions that have none yet are read one after the other
 marks_back : (a : Label) (ms : List (ℕ × Mark)) → AreNew a ms → marks_read (read_of a) (marks_text ms) ≡ Some (label_with a ms)

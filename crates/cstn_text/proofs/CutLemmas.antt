@@ -1,31 +1,18 @@
 -- Texts cut at a byte.
-use Rattle.std.proofs.Common.{ℕ, ◌≡◌, ◌≢◌, ◌+◌, ◌<◌, Bool, true, false, Option, None, Some, List, ◌∷◌, ◌++◌, length, get_or, take, drop, arith, refl, sym, ap, subst, ◌∙◌}
-use Rattle.std.specs.Prelude.{◌==◌, nat_lt, position}
+use Rattle.std.proofs.Common.{ℕ, ◌≡◌, ◌≢◌, ◌+◌, ◌<◌, Option, None, Some, List, ◌∷◌, ◌++◌, length, get_or, take, drop, arith, refl, sym, ap, subst, ◌∙◌}
+use Rattle.std.specs.Prelude.{◌==◌, position}
 use Rattle.std.specs.Option.{option_map}
 use Rattle.std.specs.List.{All}
 use Rattle.std.proofs.Common.{take-append-drop}
 use Rattle.std.proofs.Math.Seq.{take-append_seam, drop-append-add, get_or-append_seam}
 use Rattle.std.proofs.Math.ListN.{get_or-append}
-use Rattle.std.proofs.lemmas.Bool.{eqb-true}
+use Rattle.std.proofs.lemmas.Bool.{eq-eqb, eqb-true, ne_eqb}
 use Rattle.std.proofs.lemmas.List.{drop_more}
 use Rattle.std.proofs.lemmas.List.Elements.{All-get_or}
 use Rattle.std.proofs.lemmas.List.Quantifiers.{position-Some}
-use Rattle.std.proofs.lemmas.List.Sums.{position_or_len_is}
 use Rattle.std.proofs.lemmas.Grind.{common_steps}
+use Rattle.cstn_facts.proofs.Filters.{position_at}
 use Rattle.cstn_text.specs.Cuts.{cut_at}
-
--- a place that passes the test, where no earlier one does, is the position that is found
-pub position_at : {X : Type 0} (p : X → Bool) (xs : List X) (i : ℕ) (d : X) → i < length xs →
-    ((k : ℕ) → k < i → p (get_or xs k d) ≡ false) → p (get_or xs i d) ≡ true → position p xs ≡ Some i
-position_at p xs i d inside before here =
-    let small : nat_lt i (length xs) ≡ true = grind arith in
-    rw (position_or_len_is p xs i d (omega arith) before (λ h. here), small) refl
-
-different : (a b : ℕ) → a ≢ b → (a == b) ≡ false
-different a b other = grind arith
-
-itself : (b : ℕ) → (b == b) ≡ true
-itself b = grind arith
 
 -- two texts with a byte between them that the first doesn't hold are cut there
 pub cut_back : (byte : ℕ) (one other : List ℕ) → All (λ b. b ≢ byte) one → cut_at byte (one ++ byte ∷ other) ≡ Some (one, other)
@@ -33,8 +20,8 @@ cut_back byte one other free =
     let inside : length one < length (one ++ byte ∷ other) = grind (arith, common_steps) in
     let place : position (λ b. b == byte) (one ++ byte ∷ other) ≡ Some (length one) =
     position_at (λ b. b == byte) (one ++ byte ∷ other) (length one) 0 inside
-    (λ k h. ap (λ b. b == byte) (get_or-append one (byte ∷ other) 0 k h) ∙ different (get_or one k 0) byte (All-get_or (λ b. b ≢ byte) one k 0 h free))
-    (ap (λ b. b == byte) (get_or-append_seam one byte other 0) ∙ itself byte) in
+    (λ k h. ap (λ b. b == byte) (get_or-append one (byte ∷ other) 0 k h) ∙ ne_eqb (get_or one k 0) byte (All-get_or (λ b. b ≢ byte) one k 0 h free))
+    (ap (λ b. b == byte) (get_or-append_seam one byte other 0) ∙ eq-eqb byte byte refl) in
     rw (place, take-append_seam one (byte ∷ other), drop-append-add one (byte ∷ other) 1) refl
 
 -- a text that was cut is its two parts with the byte between

@@ -11,3 +11,6 @@ pub mod LabelReadLemmas
 pub mod PartLemmas
 pub mod AnyOrderLemmas
 pub mod ReadingLemmas
+-- Listings, and their lines by place.
+pub mod ListingLemmas
+pub mod PlaceLemmas

@@ -16,6 +16,7 @@ use Rattle.cstn_text.specs.PrintedNames.{is_plain_byte, printed_byte, printed_na
 use Rattle.cstn_text.specs.PrintedLabels.{printed_mark, marks_below, or_dash, printed_label}
 use Rattle.cstn_text.specs.Parts.{IsOnePart}
 use Rattle.cstn_text.proofs.PrintedNameLemmas.{name_length}
+use Rattle.cstn_label.proofs.LetterLemmas.{letter_above}
 
 abbrev Above : ℕ → Type 0
 Above b = 32 < b
@@ -45,9 +46,6 @@ name_above (b ∷ text) = All-append Above (printed_byte b) (printed_name text) 
 
 pub name_part : (text : List ℕ) → 1 ≤ length text → IsOnePart (printed_name text)
 name_part text full = record { some = omega (arith, (name_length text).0); high = name_above text }
-
-pub letter_above : (p : ℕ) → 32 < letter_of p
-letter_above p = grind arith
 
 pub mark_above : (letter : ℕ) (m : Mark) → 32 < letter → AllAbove (printed_mark letter m)
 mark_above letter Absent high = All-nil Above

@@ -1,20 +1,16 @@
 -- A printed name is UTF-8, and gives the name back.
 use Rattle.std.proofs.Common.{◌≡◌, ℕ, zero, suc, ◌+◌, ◌*◌, ◌/◌, ◌%◌, ◌<◌, ◌≤◌, List, [], ◌∷◌, ◌++◌, length, get_or, drop, refl, ap, sym, ◌∙◌, subst, arith, Bool, true, false, ◌&&◌, Option, append_assoc, append-nil, ⊎_elim, ◌⊎◌, length-append}
-use Rattle.std.specs.Prelude.{◌==◌, nat_lt, nat_le, IfNone, Some, None, if◌then◌else◌, bytes_eq}
+use Rattle.std.specs.Prelude.{◌==◌, nat_lt, nat_le, Some, None, if◌then◌else◌, bytes_eq}
 use Rattle.std.specs.Fmt.{digit_glyph}
 use Rattle.std.specs.Str.{IsUtf8, IsAscii, is_utf8, encode_utf8_all, all_scalars}
 use Rattle.std.proofs.Math.Utf8.{encode, scalar}
-use Rattle.std.proofs.lemmas.Bool.{false≢true}
+use Rattle.std.proofs.lemmas.Bool.{and_parts}
 use Rattle.std.proofs.lemmas.Slice.Eq.{bytes_eq-Decides}
 use Rattle.std.proofs.lemmas.Grind.{flat_map-append}
 use Rattle.std.proofs.lemmas.List.{append_cancel_left}
 use Rattle.std.proofs.lemmas.Str.{inside_one, encode_ascii, IsUtf8-nil, IsUtf8-append, IsUtf8-from_ascii, IsUtf8-encode, is_utf8-from_IsUtf8, IsUtf8-from_is_utf8}
 use Rattle.cstn_text.specs.PrintedNames.{is_plain_byte, printed_byte, printed_name, hex_value, unprinted_after, unprinted, name_read}
 use Rattle.cstn_text.specs.Names.{IsName, is_name}
-
-not_true : (b : Bool) → (b ≡ true → ⊥) → b ≡ false
-not_true true wrong = absurd (wrong refl)
-not_true false wrong = refl
 
 plain_above : (b : ℕ) → 128 ≤ b → is_plain_byte b ≡ true
 plain_above b high = grind arith
@@ -60,10 +56,6 @@ byte_ascii : (b : ℕ) (plain : Bool) → is_plain_byte b ≡ plain → b < 128 
 byte_ascii b true e small = rw e (one_ascii b small)
 byte_ascii b false e small = rw e (three_ascii 37 _ _ (omega arith) (glyph_small (b / 16) (omega arith)) (glyph_small (b % 16) (omega arith)))
 
-both_true : (a b : Bool) → (a && b) ≡ true → (a ≡ true) × (b ≡ true)
-both_true true b e = (refl, e)
-both_true false b e = absurd (false≢true e)
-
 printed_char : (c : ℕ) → scalar c ≡ true → IsUtf8 (printed_name (encode c))
 printed_char c is = ⊎_elim
     (λ small. rw (encode_ascii c small, append-nil) (IsUtf8-from_ascii _ (byte_ascii c (is_plain_byte c) refl small)))
@@ -73,7 +65,7 @@ printed_char c is = ⊎_elim
 printed_chars : (cs : List ℕ) → all_scalars cs ≡ true → IsUtf8 (printed_name (encode_utf8_all cs))
 printed_chars [] all = IsUtf8-nil
 printed_chars (c ∷ cs) all =
-    let parts = both_true (scalar c) (all_scalars cs) all in
+    let parts = and_parts (scalar c) (all_scalars cs) all in
     rw flat_map-append (IsUtf8-append _ _ (printed_char c parts.0) (printed_chars cs parts.1))
 
 -- a printed name is UTF-8
@@ -111,7 +103,7 @@ accepted bytes text printed is utf8 shape p same =
     choose (is_utf8 text) (nat_lt 0 (length text) && nat_le (length text) 64) (bytes_eq (printed_name text) bytes) text (is_utf8-from_IsUtf8 text utf8) shape (rw (← p) same) in
     read ∙ ap (λ (t : List ℕ). if is_name t && bytes_eq (printed_name t) bytes then Some t else None) is
 
-shape_true : (n : ℕ) → 1 ≤ n → n ≤ 64 → (nat_lt 0 n && nat_le n 64) ≡ true
+pub shape_true : (n : ℕ) → 1 ≤ n → n ≤ 64 → (nat_lt 0 n && nat_le n 64) ≡ true
 shape_true n some few = grind arith
 
 -- `unprinted` gives back a text that was printed
@@ -213,8 +205,3 @@ name_length (b ∷ text) =
 -- what follows a printed byte is shorter than the bytes that begin with it
 pub shorter : (b : ℕ) (left rest : List ℕ) → left ≡ printed_byte b ++ rest → length rest < length left
 shorter b left rest e = omega (arith, (byte_length b (is_plain_byte b) refl).0, ap length e ∙ length-append (printed_byte b) rest)
-
--- what holds in any case holds where there is none
-pub in_any_case : {T P : Type 0} (o : Option T) → P → IfNone o P
-in_any_case None p = p
-in_any_case (Some x) p = tt

@@ -1,13 +1,13 @@
 -- Words, numbers, names and parts of a line, printed and read.
-use Rattle.std.proofs.Common.{ℕ, ◌≡◌, ◌≢◌, ◌<◌, ◌≤◌, ◌^◌, Bool, true, false, List, [], ◌∷◌, ◌++◌, length, get_or, arith, refl, sym, ap, ◌∙◌}
-use Rattle.std.specs.Prelude.{◌&&◌, nat_lt, nat_le, if◌then◌else◌, bytes_eq, Option, Some, None}
+use Rattle.std.proofs.Common.{ℕ, ◌≡◌, ◌≢◌, ◌<◌, ◌≤◌, ◌^◌, true, List, [], ◌∷◌, ◌++◌, length, get_or, arith, sym, ap, ◌∙◌}
+use Rattle.std.specs.Prelude.{◌&&◌, nat_lt, nat_le, if◌then◌else◌, bytes_eq, Some, None}
 use Rattle.std.specs.List.{All, list_all}
-use Rattle.std.specs.Option.{option_and_then, option_map}
+use Rattle.std.specs.Option.{option_and_then}
 use Rattle.std.proofs.lemmas.Bool.{and_parts}
-use Rattle.std.proofs.lemmas.Option.{same_Some}
 use Rattle.std.proofs.lemmas.List.Elements.{All-nil, All-cons, All-append, All-weaker, All-get_or}
 use Rattle.std.proofs.lemmas.List.Quantifiers.{position-Some}
 use Rattle.std.proofs.lemmas.Slice.Eq.{bytes_eq-Decides}
+use Rattle.cstn_facts.proofs.Options.{then_read}
 use Rattle.cstn_text.specs.Names.{IsName, AreNames, number_of}
 use Rattle.cstn_text.specs.Numbers.{number_read, number_within, printed_number}
 use Rattle.cstn_text.specs.Parts.{IsOnePart, part, node_read}
@@ -17,22 +17,9 @@ use Rattle.cstn_text.proofs.NameLemmas.{found_back}
 use Rattle.cstn_text.proofs.NumberLemmas.{number_back, number_printed}
 use Rattle.cstn_text.proofs.PartLemmas.{number_part, name_part}
 use Rattle.cstn_text.proofs.PrintedNameLemmas.{name_back, name_printed}
+use Rattle.cstn_text.specs.SmallNumbers.{u32_read}
 
 -- ---- readings
-
--- where one reading after another succeeds, the first one does, and then the second
-pub then_read : {A B : Type 0} (o : Option A) (f : A → Option B) (y : B) → option_and_then f o ≡ Some y → (x : A) × (o ≡ Some x) × (f x ≡ Some y)
-then_read None f y e = absurd (cc)
-then_read (Some x) f y e = (x, refl, e)
-
-pub map_read : {A B : Type 0} (o : Option A) (f : A → B) (y : B) → option_map f o ≡ Some y → (x : A) × (o ≡ Some x) × (f x ≡ y)
-map_read None f y e = absurd (cc)
-map_read (Some x) f y e = (x, refl, same_Some _ y e)
-
--- where something is read after a test, the test passed
-pub if_read : {A : Type 0} (b : Bool) (o : Option A) (y : A) → (if b then o else None) ≡ Some y → (b ≡ true) × (o ≡ Some y)
-if_read true o y e = (refl, e)
-if_read false o y e = absurd (cc)
 
 -- ---- what was read is what is printed
 
@@ -83,6 +70,9 @@ chosen low high n p q = grind arith
 pub within_back : (low high n : ℕ) → low ≤ n → n ≤ high → high < 2 ^ 64 → number_within low high (printed_number n) ≡ Some n
 within_back low high n p q small =
     ap (option_and_then (λ m. if nat_le low m && nat_le m high then Some m else None)) (number_back n (omega arith)) ∙ chosen low high n p q
+
+pub u32_back : (n : ℕ) → n < 2 ^ 32 → u32_read (printed_number n) ≡ Some n
+u32_back n small = within_back 0 4294967295 n (omega arith) (omega arith) (omega arith)
 
 pub node_back : (names : List (List ℕ)) (x : ℕ) → AreNames names → x < length names → node_read names (printed_name (get_or names x [])) ≡ Some x
 node_back names x are inside =

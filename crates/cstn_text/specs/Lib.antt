@@ -3,6 +3,7 @@ pub mod Limits
 -- What stands in a line: names, numbers, labels.
 pub mod Names
 pub mod Numbers
+pub mod SmallNumbers
 pub mod PrintedNames
 pub mod PrintedLabels
 pub mod Readings
@@ -10,5 +11,7 @@ pub mod Readings
 pub mod Cuts
 pub mod Parts
 pub mod Pushes
+-- Texts that list things.
+pub mod Listings
 -- How names are found.
 pub mod NameKeys

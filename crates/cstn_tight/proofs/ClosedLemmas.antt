@@ -10,8 +10,8 @@ use Rattle.std.proofs.lemmas.List.Elements.{Contains-get_or}
 use Rattle.cstn_label.specs.declared.bounds.Bound.{Bound as Declared}
 use Rattle.cstn_label.specs.Bounds.{Bound}
 use Rattle.cstn_label.specs.Read.{the_bound}
-use Rattle.cstn_net.specs.Limits.{most_deadline, most_load}
-use Rattle.cstn_net.specs.Networks.{Network, IsWellFormed, count, limit}
+use Rattle.cstn_net.specs.Limits.{most_load}
+use Rattle.cstn_net.specs.Networks.{Network, IsWellFormed, count}
 use Rattle.cstn_net.specs.Strategies.{IsConsistent}
 use Rattle.cstn_rules.specs.Closed.{IsClosed}
 use Rattle.cstn_rules.specs.Derivations.{Entry}
@@ -25,6 +25,7 @@ use Rattle.cstn_closed.specs.Closed.{ClosedParts}
 use Rattle.cstn_closed.specs.Faults.{IsFaultless}
 use Rattle.cstn_closed.specs.Written.{IsNamed}
 use Rattle.cstn_tight.specs.Evidence.{IsClosedOf}
+use Rattle.cstn_net.proofs.Kept.{limit_in_time}
 
 -- an entry of the list with the bound b
 record IsFrom (list : List Entry) (b : Bound) : Type 0 where
@@ -66,10 +67,6 @@ live_some e (f ∷ es) = elim (cases_Bool (is_covered (f ∷ es) e.bound)) [
 pub some_live : (list : List Entry) → 1 ≤ length list → 1 ≤ length (live_bounds list)
 some_live [] some = absurd (omega arith)
 some_live (e ∷ es) some = live_some e es
-
-limit_in_time : (net : Network) → IsWellFormed net → (x : ℕ) → limit net x ≤ most_deadline
-limit_in_time net good zero = omega arith
-limit_in_time net good (suc x) = good.in_time
 
 module _ (net : Network) (good : IsWellFormed net) where
   -- each live bound is at a time-point of the network, and in range

@@ -5,22 +5,23 @@ use Rattle.std.proofs.lemmas.Int.{ints, by_lt_z}
 use Rattle.std.proofs.lemmas.Bool.{cases_eq, cases_lt, both_ways}
 use Rattle.std.proofs.lemmas.List.{length-map}
 use Rattle.std.proofs.lemmas.Option.{slice_get_within, same_Some}
+use Rattle.cstn_facts.proofs.Integers.{int_lt-false, le-int_lt, lt-int_lt}
 use Rattle.cstn_net.specs.Networks.{Network, IsWellFormed, limit}
 use Rattle.cstn_net.specs.Strategies.{IsConsistent}
 use Rattle.cstn_rules.specs.declared.entries.Entry.{Entry as DeclaredEntry}
 use Rattle.cstn_rules.specs.Derivations.{Entry}
 use Rattle.cstn_rules.specs.Read.{the_entry}
 use Rattle.cstn_log.specs.Entries.{the_entries}
-use Rattle.cstn_plan.proofs.FinishLemmas.{limit_deadline}
 use Rattle.cstn_check.specs.Growth.{log_of, load_of}
 use Rattle.cstn_check.specs.Deadlines.{is_late, past_limit}
 use Rattle.cstn_check.proofs.Bounded.{log_kept}
 use Rattle.cstn_check.proofs.Ends.{load_above}
-use Rattle.cstn_check.proofs.Reading.{entry_at}
-use Rattle.cstn_check.proofs.DeadlineLemmas.{AllEarly, early_from, none_at, none_late, early_upto, upto_early, above_late, log_upto, late_decides, upto_early_list, upto_front}
+use Rattle.cstn_check.proofs.DeadlineLemmas.{AllEarly, early_from, none_at, none_late, log_upto, late_decides, upto_early_list, upto_front}
 use Rattle.cstn_tight.specs.Deadlines.{at_deadline, IsLeastDeadline}
 use Rattle.cstn_tight.specs.Greatest.{IsGreatest, IsFirstGreatest}
 use Rattle.cstn_tight.proofs.LeastLemmas.{one_least}
+use Rattle.cstn_net.proofs.Kept.{limit_upto}
+use Rattle.cstn_log.proofs.StepLemmas.{entry_read}
 
 entry_there : (L : List Entry) (k : ℕ) → k < length L → (e : Entry) × (slice_get L k ≡ Some e)
 entry_there [] k inside = absurd (omega arith)
@@ -76,8 +77,8 @@ pub first_next : (L : List DeclaredEntry) (n place : ℕ) (p e : DeclaredEntry) 
     slice_get L place ≡ Some p → slice_get L n ≡ Some e → place < n →
     (p.bound.least <ℤ e.bound.least → IsFirstGreatest (the_entries L) (n + 1) n) × (e.bound.least ≤ℤ p.bound.least → IsFirstGreatest (the_entries L) (n + 1) place)
 first_next L n place p e f at_place at_n inside =
-    let there = entry_at L n e at_n in
-    let same : f.entry ≡ the_entry p = same_Some f.entry (the_entry p) (sym f.there ∙ entry_at L place p at_place) in
+    let there = entry_read L n e at_n in
+    let same : f.entry ≡ the_entry p = same_Some f.entry (the_entry p) (sym f.there ∙ entry_read L place p at_place) in
     let least : f.entry.bound.least ≡ p.bound.least = ap (λ (x : Entry). x.bound.least) same in (
       λ more. first_here (the_entries L) n place (the_entry e) f there inside (let z = least in omega (arith, ints)),
       λ less. first_stays (the_entries L) n place (the_entry e) f there (let z = least in omega (arith, ints)),
@@ -97,20 +98,20 @@ module _ (net : Network) (good : IsWellFormed net) (consistent : IsConsistent ne
   on_time : (k : ℕ) (e : Entry) → slice_get (log_of net) k ≡ Some e → e.bound.least ≤ℤ pos (limit net e.bound.node)
   on_time k e there =
       let none = (late_decides net net.deadline good (omega arith)).0 consistent in
-      early_upto (pos (limit net e.bound.node)) e.bound.least (none_at net (log_of net) k e none there)
+      int_lt-false (pos (limit net e.bound.node)) e.bound.least (none_at net (log_of net) k e none there)
 
   module _ (least : ℕ) (g : IsGreatest (log_of net) least) where
     pub greatest_upto : least ≤ net.deadline
     greatest_upto =
         let u = on_time g.place g.entry g.there in
-        let d = limit_deadline net g.entry.bound.node in
+        let d = limit_upto net g.entry.bound.node in
         let is = g.is in
         omega (arith, ints)
 
     -- no entry is late at the greatest value
     all_early : AllEarly (at_deadline net least) (log_of net)
     all_early = early_from (at_deadline net least) (log_of net)
-        (λ k e there. upto_early (pos (limit (at_deadline net least) e.bound.node)) e.bound.least
+        (λ k e there. le-int_lt (pos (limit (at_deadline net least) e.bound.node)) e.bound.least
         (early e.bound.node e.bound.least (on_time k e there) (g.upto k e there)))
       where
         early : (x : ℕ) (z : ℤ) → z ≤ℤ pos (limit net x) → z ≤ℤ pos least → z ≤ℤ pos (limit (at_deadline net least) x)
@@ -133,7 +134,7 @@ module _ (net : Network) (good : IsWellFormed net) (consistent : IsConsistent ne
         let u = on_time k e there in
         let z = is in
         let l = past_origin e.bound.node (omega (arith, ints)) some in
-        above_late (pos (limit (at_deadline net (least - 1)) e.bound.node)) e.bound.least (omega (arith, ints))
+        lt-int_lt (pos (limit (at_deadline net (least - 1)) e.bound.node)) e.bound.least (omega (arith, ints))
 
     pub greatest_refuted : 0 < least → IsConsistent (at_deadline net (least - 1)) → ⊥
     greatest_refuted some c =
@@ -164,7 +165,7 @@ module _ (net : Network) (good : IsWellFormed net) (consistent : IsConsistent ne
         let cut : past_limit low f.entry ≡ f.entry = ap (λ (n : ℤ). of_least f.entry n) (ap (λ n. pos n) next ∙ sym is) in
         log_upto net (least - 1) good (omega arith)
         ∙ upto_front low (log_of net) place f.entry f.there (late_before f.entry place f.there is some) cut
-        (λ k e before there. upto_early (pos (limit low e.bound.node)) e.bound.least
+        (λ k e before there. le-int_lt (pos (limit low e.bound.node)) e.bound.least
         (below e.bound.node e.bound.least (on_time k e there) (let b = f.first k e before there in omega (arith, ints))))
         ∙ ap (λ n. take n (log_of net)) (let e : suc place ≡ place + 1 = omega arith in e)
       where

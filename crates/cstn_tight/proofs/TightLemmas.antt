@@ -23,7 +23,6 @@ use Rattle.cstn_check.specs.Growth.{log_of, load_of, live_bounds}
 use Rattle.cstn_check.specs.Verdicts.{IsRefutationOf}
 use Rattle.cstn_check.proofs.Bounded.{log_kept}
 use Rattle.cstn_check.proofs.Ends.{load_above}
-use Rattle.cstn_check.proofs.Reading.{entry_at}
 use Rattle.cstn_closed.specs.Closed.{ClosedParts}
 use Rattle.cstn_closed.specs.Faults.{IsFaultless}
 use Rattle.cstn_tight.specs.Deadlines.{at_deadline}
@@ -32,6 +31,7 @@ use Rattle.cstn_tight.specs.Greatest.{IsFirstGreatest}
 use Rattle.cstn_tight.proofs.ClosedLemmas.{closed_of}
 use Rattle.cstn_tight.proofs.GreatestLemmas.{greatest_of, greatest_upto, greatest_same, greatest_consistent, greatest_least}
 use Rattle.cstn_tight.proofs.LeastLemmas.{good_at_deadline}
+use Rattle.cstn_log.proofs.StepLemmas.{entry_read}
 
 module _ (net : Network) (good : IsWellFormed net) (entries : List DeclaredEntry) (whole : the_entries entries ≡ log_of net) where
   pub load_is : length entries ≡ load_of net
@@ -45,7 +45,7 @@ module _ (net : Network) (good : IsWellFormed net) (entries : List DeclaredEntry
       omega arith
 
   there : (place : ℕ) (e : DeclaredEntry) → slice_get entries place ≡ Some e → slice_get (log_of net) place ≡ Some (the_entry e)
-  there place e at = ap (λ l. slice_get l place) (sym whole) ∙ entry_at entries place e at
+  there place e at = ap (λ l. slice_get l place) (sym whole) ∙ entry_read entries place e at
 
   limit_small : (x : ℕ) → limit net x ≤ most_deadline
   limit_small zero = omega arith

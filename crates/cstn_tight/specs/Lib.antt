@@ -1,7 +1,6 @@
--- The least deadline, and the halving that finds it.
+-- The least deadline, and the greatest least value, which it is.
 pub mod Deadlines
 pub mod Greatest
-pub mod Bisection
 -- Its evidence, and what is said.
 pub mod Evidence
 pub mod Told

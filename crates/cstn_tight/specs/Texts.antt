@@ -3,13 +3,12 @@ use Rattle.std.specs.Prelude.{ℕ, ◌-◌, nat_eq, if◌then◌else◌, List, [
 use Rattle.cstn_net.specs.Networks.{Network}
 use Rattle.cstn_log.specs.Cuts.{part}
 use Rattle.cstn_check.specs.Growth.{log_of, load_of, live_bounds}
+use Rattle.cstn_check.specs.Decisions.{on_verdict}
 use Rattle.cstn_refute.specs.Texts.{shown}
 use Rattle.cstn_closed.specs.Texts.{shown as shown_bounds}
-use Rattle.cstn_check.specs.Verdicts.{is_consistent}
-use Rattle.cstn_tight.specs.Deadlines.{at_deadline}
-use Rattle.cstn_tight.specs.Bisection.{least_deadline, is_tight_full}
-use Rattle.cstn_reply.specs.Texts.{Said, line, full_line}
-use Rattle.cstn_reply.specs.declared.output.Outcome.TheVariants.{Good, Bad, Full}
+use Rattle.cstn_tight.specs.Deadlines.{at_deadline, least_deadline}
+use Rattle.cstn_reply.specs.Texts.{Said, line}
+use Rattle.cstn_reply.specs.declared.output.Outcome.TheVariants.{Good}
 
 -- the text of the refutation of a network
 abbrev pub refuted_text : List (List ℕ) → Network → List ℕ
@@ -21,10 +20,10 @@ tight_text names net h =
     line (codes "least " ++ decimal h) ++ shown_bounds names (load_of (at_deadline net h)) (live_bounds (log_of (at_deadline net h)))
     ++ (if nat_eq h 0 then [] else refuted_text names (at_deadline net (h - 1)))
 
--- what `tight` says of a network: the cap where a log exceeds it, its refutation where it isn't consistent, and else the
--- least deadline at which it is consistent
+-- what is said of a consistent network: the least deadline at which it is
+abbrev pub tight_said : List (List ℕ) → Network → Said
+tight_said names net = record { outcome = Good; text = tight_text names net (least_deadline net) }
+
+-- what `tight` says of a network: this after yes
 abbrev pub tightened : ℕ → List (List ℕ) → Network → Said
-tightened cap names net =
-    if is_tight_full cap net then record { outcome = Full; text = full_line cap }
-    else if is_consistent net then record { outcome = Good; text = tight_text names net (least_deadline net) }
-    else record { outcome = Bad; text = refuted_text names net }
+tightened cap names net = on_verdict cap names net (tight_said names net)

@@ -3,8 +3,6 @@ ghost use Rattle.std.specs.Prelude.{◌≡◌, ◌<◌, ◌++◌, ℕ, List, Opt
 ghost use Rattle.std.specs.List.{All};
 ghost use Rattle.cstn_net.specs.Networks.{IsWellFormed, count};
 ghost use Rattle.cstn_net.specs.Read.{the_network};
-ghost use Rattle.cstn_refute.specs.Refutations.{the_steps};
-ghost use Rattle.cstn_refute.specs.Texts.{shown};
 ghost use Rattle.cstn_closed.specs.Closed.{the_bounds};
 ghost use Rattle.cstn_closed.specs.Texts.{shown as shown_bounds};
 ghost use Rattle.cstn_closed.specs.Written.{IsNamed};
@@ -13,8 +11,9 @@ ghost use Rattle.cstn_reply.specs.Read.{the_said};
 ghost use Rattle.cstn_tight.specs.Texts.{tightened};
 ghost use Rattle.cstn_tight.specs.Told.{AreStepsNamed, told_before};
 
-use crate::{Tight, TightError, least};
-use cstn_check::{full, growth_decides};
+use crate::Tight;
+use crate::tight::tight_of;
+use cstn_check::{Judged, judge};
 use cstn_log::Cap;
 use cstn_net::Network;
 use cstn_refute::Refutation;
@@ -23,8 +22,8 @@ use cstn_text::Names;
 use std::alloc::{AllocError, Global};
 
 /// Says the least deadline at which a network is consistent, with the bounds that make it so and with what refutes it one tick
-/// below; of a network that isn't consistent at its own deadline, what refutes it. Each log may have `cap` entries: where one
-/// has more, the cap is said. Fails for want of memory alone.
+/// below; of a network that isn't consistent at its own deadline, what refutes it. Its log may have `cap` entries: where it has
+/// more, the cap is said. Fails for want of memory alone.
 pub fn tight_text(
     alloc: Global,
     network: Network,
@@ -35,25 +34,13 @@ pub fn tight_text(
     requires named { length names.now ≡ count (the_network network) }
     ensures said { IfOk result (λ said. the_said said ≡ tightened cap.entries names.now (the_network network)) }
 {
-    growth_decides();
-    match least(alloc, network, cap) {
-        Ok(tight) => tight_said(alloc, &tight, names),
-        Err(TightError::No(refutation)) => refuted(alloc, &refutation, names),
-        Err(TightError::Full) => full(alloc, cap),
-        Err(TightError::Memory(error)) => Err(error),
+    match judge(alloc, network, names, cap)? {
+        Judged::Yes { check, .. } => {
+            let tight = tight_of(alloc, check)?;
+            tight_said(alloc, &tight, names)
+        }
+        Judged::Told(said) => Ok(said),
     }
-}
-
-fn refuted(alloc: Global, refutation: &Refutation, names: &Names) -> Result<Said, AllocError>
-    requires named { All (λ e. e.bound.node.0 < length names.now) refutation.now.steps }
-    ensures said { IfOk result (λ said. the_said said
-        ≡ record { outcome = Outcome.Bad; text = shown names.now refutation.now.load (the_steps refutation.now) }) }
-{
-    let text = refutation.print(alloc, names)?;
-    Ok(Said {
-        outcome: Outcome::Bad,
-        text: text.into_bytes(),
-    })
 }
 
 fn tight_said(alloc: Global, tight: &Tight, names: &Names) -> Result<Said, AllocError>

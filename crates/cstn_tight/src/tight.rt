@@ -1,19 +1,14 @@
 // The least deadline of a network, with its evidence.
-ghost use Rattle.std.specs.Prelude.{ℕ, ◌≡◌, ◌<◌, ◌≤◌, ◌-◌, ◌+◌, ◌↔◌, List, true, false, Some, length, pos, ◌≤ℤ◌, IfOk, IfSome, IsNone, IsOk, IsErrOf};
-ghost use Rattle.std.specs.List.{All};
+ghost use Rattle.std.specs.Prelude.{ℕ, ◌≡◌, ◌<◌, ◌≤◌, ◌-◌, ◌↔◌, Some, pos, ◌≤ℤ◌, IfOk, IfSome, IsNone, IsOk, IsErrOf};
 ghost use Rattle.cstn_net.specs.Limits.{most_load};
-ghost use Rattle.cstn_net.specs.Networks.{IsWellFormed, count};
+ghost use Rattle.cstn_net.specs.Networks.{IsWellFormed};
 ghost use Rattle.cstn_net.specs.Strategies.{IsConsistent};
 ghost use Rattle.cstn_net.specs.Read.{the_network};
 ghost use Rattle.cstn_refute.specs.Refutations.{RefutationParts};
-ghost use Rattle.cstn_check.specs.Growth.{log_of, load_of, live_bounds, most_entries};
+ghost use Rattle.cstn_check.specs.Growth.{log_of, load_of, most_entries};
 ghost use Rattle.cstn_check.specs.Verdicts.{IsRefutationOf};
 ghost use Rattle.cstn_check.specs.declared.verdicts.Verdict.{Verdict};
-ghost use Rattle.cstn_closed.specs.Closed.{the_bounds};
-ghost use Rattle.cstn_closed.specs.Faults.{IsFaultless};
-ghost use Rattle.cstn_closed.specs.Written.{FitsText, IsNamed};
-ghost use Rattle.cstn_tight.specs.Deadlines.{at_deadline, IsLeastDeadline};
-ghost use Rattle.cstn_tight.specs.Bisection.{least_deadline, is_tight_full};
+ghost use Rattle.cstn_tight.specs.Deadlines.{at_deadline};
 ghost use Rattle.cstn_tight.specs.Evidence.{IsTightOf};
 ghost use Rattle.cstn_tight.specs.Greatest.{IsFirstGreatest};
 
@@ -40,27 +35,16 @@ pub struct Tight {
 /// least value in it, the list of bounds that of its live entries, and the refutation is that of the check at one tick less: the
 /// first entry with the greatest least value, and its ancestors. The network is dropped, also on failure.
 pub fn least(alloc: Global, net: Network, cap: Cap) -> Result<Tight, TightError>
-
-    // But for want of memory, it fails exactly where the network isn't consistent or a log is full.
+    // But for want of memory, it fails exactly where the network isn't consistent or its log is full.
     ensures no { (r : RefutationParts) → IsErrOf result (TightError.No r)
         → (load_of (the_network net) ≤ cap.entries) × (IsConsistent (the_network net) → ⊥) × IsRefutationOf (the_network net) r }
-    ensures full { IsErrOf result TightError.Full → is_tight_full cap.entries (the_network net) ≡ true }
+    ensures full { IsErrOf result TightError.Full → cap.entries < load_of (the_network net) }
     ensures bounded { IsErrOf result TightError.Full → cap.entries < most_entries (the_network net) }
-    ensures refused { IsOk result → IsConsistent (the_network net) × (is_tight_full cap.entries (the_network net) ≡ false) }
+    ensures refused { IsOk result → IsConsistent (the_network net) × (load_of (the_network net) ≤ cap.entries) }
 
-    ensures deadline { IfOk result (λ tight. tight.deadline ≡ least_deadline (the_network net)) }
-    ensures least { IfOk result (λ tight. IsLeastDeadline (the_network net) tight.deadline) }
+    // It is the least deadline, with the list of bounds at it, and the refutation at one tick less.
+    ensures tight { IfOk result (IsTightOf (the_network net)) }
     ensures upto { IfOk result (λ tight. tight.deadline ≤ net.deadline) }
-
-    ensures bounds { IfOk result (λ tight. the_bounds tight.closed ≡ live_bounds (log_of (at_deadline (the_network net) (least_deadline (the_network net))))) }
-    ensures load { IfOk result (λ tight. tight.closed.load ≡ load_of (at_deadline (the_network net) (least_deadline (the_network net)))) }
-    ensures named { IfOk result (λ tight. (names : List (List ℕ)) → length names ≡ count (the_network net) → All (IsNamed names) tight.closed.bounds) }
-    ensures text { IfOk result (λ tight. FitsText tight.closed) }
-    ensures accepted { IfOk result (λ tight. IsFaultless (at_deadline (the_network net) tight.deadline) (the_bounds tight.closed)) }
-
-    ensures none { IfOk result (λ tight. IsNone tight.refutation ↔ (tight.deadline ≡ 0)) }
-    ensures refutation { IfOk result (λ tight.
-        IfSome tight.refutation (IsRefutationOf (at_deadline (the_network net) (least_deadline (the_network net) - 1)))) }
 {
     network_is_well_formed(&net);
     let mut check = Check::start(alloc, net, cap)?;
@@ -71,8 +55,8 @@ pub fn least(alloc: Global, net: Network, cap: Cap) -> Result<Tight, TightError>
     }
 }
 
-// What a check that has answered yes says of the least deadline.
-fn tight_of(alloc: Global, check: Check) -> Result<Tight, AllocError>
+/// What a check that has answered yes says of the least deadline. Fails for want of memory alone.
+pub(crate) fn tight_of(alloc: Global, check: Check) -> Result<Tight, AllocError>
     requires yes { (load : ℕ) × (check.verdict ≡ Some (Verdict.Yes load)) }
     requires consistent { IsConsistent (the_network check.net) }
     ensures tight { IfOk result (IsTightOf (the_network check.net)) }

@@ -12,7 +12,7 @@ use Rattle.cstn_top.specs.Answers.{Answer, on_document, on_verdict}
 use Rattle.cstn_top.specs.Accepted.{IsNoText}
 use Rattle.cstn_reply.specs.Texts.{Said}
 use Rattle.cstn_reply.specs.declared.output.Outcome.TheVariants.{Document}
-use Rattle.cstn_documents.specs.Documents.{HasNetwork, IsRefused}
+use Rattle.cstn_request.specs.Documents.{HasNetwork, IsRefused}
 use Rattle.cstn_check.specs.Decisions.{verdict}
 use Rattle.cstn_top.proofs.Standing.{NoAccepted, IsOfDocument, StandsFor, not_above, never_decided}
 use Rattle.cstn_top.proofs.Documents.{document_says, document_then}

@@ -25,16 +25,16 @@ use Rattle.cstn_reply.specs.declared.output.Said.{Said as SaidText}
 use Rattle.cstn_exec.specs.Running.{AreShort}
 use Rattle.cstn_check.specs.Decisions.{verdict, TellsVerdict}
 use Rattle.cstn_check.specs.declared.decisions.Judged.TheVariants.{Told}
-use Rattle.cstn_host.specs.Hosts.{no_plan}
-use Rattle.cstn_host.specs.Sessions.{File, HostSession, begun as begun_session, host_turn, host_ending}
-use Rattle.cstn_host.specs.Files.{Named, the_file, yes_lines}
-use Rattle.cstn_host.specs.SessionRead.{the_planned, the_files, the_names, the_host_session, IsHostSession}
+use Rattle.cstn_run.specs.hosted.Hosts.{no_plan}
+use Rattle.cstn_run.specs.hosted.Sessions.{File, HostSession, begun as begun_session, host_turn, host_ending}
+use Rattle.cstn_run.specs.hosted.Files.{Named, the_file, yes_lines}
+use Rattle.cstn_run.specs.hosted.SessionRead.{the_planned, the_files, the_names, the_host_session, IsHostSession}
 use Rattle.cstn_top.specs.Begun.{HasBegun, the_named, IsBegin, IsSound}
-use Rattle.cstn_documents.specs.declared.reading.NamedNetwork.{NamedNetwork}
+use Rattle.cstn_request.specs.declared.reading.NamedNetwork.{NamedNetwork}
 use Rattle.cstn_top.specs.declared.commands.Prepared.{Prepared}
 use Rattle.cstn_top.specs.declared.commands.Prepared.TheVariants.{Says, Runs, Edits, Follows, Hosts}
 use Rattle.cstn_top.specs.declared.commands.host.Begun.{Begun}
-use Rattle.cstn_host.proofs.PutLines.{nothing_after}
+use Rattle.cstn_run.proofs.hosts.PutLines.{nothing_after}
 
 files_more : (plans : List PlanParts) (names : List (List (List ℕ))) (plan : PlanParts) (texts : List (List ℕ)) → length names ≡ length plans → the_files (plans ++ plan ∷ []) (names ++ texts ∷ []) ≡ the_files plans names ++ the_planned plan texts ∷ []
 files_more [] [] plan texts same = refl

@@ -2,13 +2,13 @@
 use Rattle.std.proofs.Common.{◌≡◌, ℕ, List, sym, subst, inl, inr}
 use Rattle.std.specs.Prelude.{◌⊎◌, Option, Some, IfSome}
 use Rattle.cstn_io.specs.Contents.{IsAllOf, with_bytes}
-use Rattle.cstn_words.specs.Requests.{Request}
-use Rattle.cstn_words.specs.Read.{the_request}
+use Rattle.cstn_request.specs.Requests.{Request}
+use Rattle.cstn_request.specs.Read.{the_request}
 use Rattle.cstn_top.specs.Plans.{Plan, IsOutput, IsText}
 use Rattle.cstn_top.specs.Dispatch.{plan_at}
 use Rattle.cstn_top.specs.Meanings.{IsStopped}
-use Rattle.cstn_words.specs.declared.words.Request.{Request as RequestWords}
-use Rattle.cstn_words.specs.declared.words.Request.TheVariants.{Check, Run, Edit, Follow, Closed, Tight, Conflict, Tree, Save, Replay, Closedcheck, Treecheck, Drill, Host, Version}
+use Rattle.cstn_request.specs.declared.words.Request.{Request as RequestWords}
+use Rattle.cstn_request.specs.declared.words.Request.TheVariants.{Check, Run, Edit, Follow, Closed, Tight, Conflict, Tree, Save, Replay, Closedcheck, Treecheck, Drill, Host, Version}
 use Rattle.cstn_reply.specs.Texts.{Said}
 use Rattle.cstn_reply.specs.Written.{LiveState, is_output, is_file_fault, is_live_fault, is_memory, IsWritten}
 use Rattle.cstn_reply.specs.Statuses.{status_of}

@@ -13,11 +13,11 @@ use Rattle.cstn_reply.specs.Texts.{Said, say}
 use Rattle.cstn_reply.specs.Read.{the_said}
 use Rattle.cstn_reply.specs.declared.output.Said.{Said as SaidText}
 use Rattle.cstn_reply.specs.declared.output.Outcome.TheVariants.{Document}
-use Rattle.cstn_documents.specs.Limits.{most_document}
-use Rattle.cstn_documents.specs.Documents.{AreUnlabelled, IsRefusalOf, IsSaidOf, IsLabelsTold, IsSaidPlainly}
-use Rattle.cstn_documents.specs.Opened.{IsLabelledOf, IsLoweredOf, IsPlainOf, IsRefusal, IsPlainRefusal}
-use Rattle.cstn_documents.specs.declared.reading.NamedNetwork.{NamedNetwork}
-use Rattle.cstn_documents.specs.declared.reading.NamedLabelled.{NamedLabelled}
+use Rattle.cstn_request.specs.Limits.{most_document}
+use Rattle.cstn_request.specs.Documents.{AreUnlabelled, IsRefusalOf, IsSaidOf, IsLabelsTold, IsSaidPlainly}
+use Rattle.cstn_request.specs.Opened.{IsLabelledOf, IsLoweredOf, IsPlainOf, IsRefusal, IsPlainRefusal}
+use Rattle.cstn_request.specs.declared.reading.NamedNetwork.{NamedNetwork}
+use Rattle.cstn_request.specs.declared.reading.NamedLabelled.{NamedLabelled}
 use Rattle.cstn_top.specs.Plans.{Plan, says, judges, unlabelled, IsOutput, ComesTo}
 use Rattle.cstn_top.specs.Answers.{Answer, LabelledAnswer, of_plain, of_lowered, judged, on_labelled, on_document}
 

@@ -1,8 +1,8 @@
 -- What is proved of each request, by its command.
 use Rattle.std.proofs.Common.{◌≡◌, ℕ, Bool, true, false, List, refl}
-use Rattle.cstn_words.specs.Requests.{Request, check, run, edit, follow, closed, tight, conflict, tree, save, replay, closedcheck, treecheck, drill, host, version}
+use Rattle.cstn_request.specs.Requests.{Request, check, run, edit, follow, closed, tight, conflict, tree, save, replay, closedcheck, treecheck, drill, host, version}
 use Rattle.cstn_edit.specs.Editing.{edit_wants}
-use Rattle.cstn_host.specs.Sessions.{host_wants}
+use Rattle.cstn_run.specs.hosted.Sessions.{host_wants}
 use Rattle.cstn_top.specs.Command.{Kind, a_text, a_run, an_edit, a_host, a_follow}
 use Rattle.cstn_top.specs.Dispatch.{command_of}
 use Rattle.cstn_top.proofs.Proved.{IsProved}

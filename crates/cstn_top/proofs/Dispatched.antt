@@ -1,7 +1,7 @@
 -- What the clauses of `run` say of the command of a request.
 use Rattle.std.proofs.Common.{ℕ, List}
 use Rattle.std.specs.Prelude.{Option}
-use Rattle.cstn_words.specs.Requests.{Request}
+use Rattle.cstn_request.specs.Requests.{Request}
 use Rattle.cstn_reply.specs.declared.status.Status.{Status}
 use Rattle.cstn_top.specs.Dispatch.{command_of}
 use Rattle.cstn_top.specs.Evidence.{IsEvidence as IsEvidenceOf, WroteEvidence as WroteEvidenceOf}

@@ -17,8 +17,8 @@ use Rattle.cstn_markup.proofs.Places.{spans_utf8}
 use Rattle.cstn_markup.proofs.Resolving.{resolved_utf8}
 use Rattle.cstn_text.specs.Names.{IsName, AreNames}
 use Rattle.cstn_text.proofs.NameLemmas.{shaped}
-use Rattle.cstn_data.specs.ValueTexts.{Pair, values_of}
-use Rattle.cstn_data.specs.NumberTexts.{deadline_of}
+use Rattle.cstn_element.specs.ValueTexts.{Pair, values_of}
+use Rattle.cstn_element.specs.NumberTexts.{deadline_of}
 use Rattle.cstn_element.specs.Results.{Refusal, ◌>>=◌, or_refused, demand}
 use Rattle.cstn_element.specs.Results.Refusal.{shape, bad_value, unknown_node, name_twice, label_text, no_deadline}
 use Rattle.cstn_element.specs.Contents.{Tag, Content, inner, outer, opened, closed_by, contents_by, contents, content_of}

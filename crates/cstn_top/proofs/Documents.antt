@@ -7,12 +7,12 @@ use Rattle.cstn_element.specs.Results.{Refusal as DocumentRefusal}
 use Rattle.cstn_graphml.specs.Document.{Parts, document}
 use Rattle.cstn_graphml.specs.Networks.{observed_prop, network_of, labelled_of, IsFit}
 use Rattle.cstn_reply.specs.Texts.{Said, say}
-use Rattle.cstn_documents.specs.Limits.{most_document}
+use Rattle.cstn_request.specs.Limits.{most_document}
 use Rattle.cstn_top.specs.Plans.{says, unlabelled, IsOutput, MayTalk}
 use Rattle.cstn_top.specs.Answers.{Answer, LabelledAnswer, of_plain, judged, on_labelled, on_document}
-use Rattle.cstn_documents.specs.Documents.{AreUnlabelled}
+use Rattle.cstn_request.specs.Documents.{AreUnlabelled}
 use Rattle.cstn_reply.specs.declared.output.Outcome.TheVariants.{Document}
-use Rattle.cstn_documents.specs.Documents.{parts_of, HasLabelled, HasNetwork, IsNoDocument, IsRefused}
+use Rattle.cstn_request.specs.Documents.{parts_of, HasLabelled, HasNetwork, IsNoDocument, IsRefused}
 use Rattle.cstn_graphml.proofs.Fits.{fits}
 use Rattle.cstn_top.proofs.DocumentNames.{document_names}
 use Rattle.cstn_top.proofs.ReadBack.{numbered_ids}

@@ -13,7 +13,7 @@ use Rattle.cstn_check.proofs.Decides.{log_decides}
 use Rattle.cstn_table.specs.Tables.{observed_props}
 use Rattle.cstn_gen.specs.Generated.{generated}
 use Rattle.cstn_gen.proofs.WellFormed.{well_formed}
-use Rattle.cstn_words.specs.Requests.{drill}
+use Rattle.cstn_request.specs.Requests.{drill}
 use Rattle.cstn_top.specs.Plans.{says}
 use Rattle.cstn_top.specs.commands.Drill.{drilled, small, large, is_unrefuted, unrefuted, AreConsistent, none, one_more, no_more}
 use Rattle.cstn_top.specs.declared.commands.drill.TheConstants.{SMALL_CAP}
@@ -23,7 +23,7 @@ use Rattle.cstn_check.specs.Decisions.{verdict}
 use Rattle.cstn_top.specs.declared.commands.questions.Question.TheVariants.{Drill}
 use Rattle.cstn_top.proofs.Comes.{comes_itself}
 use Rattle.cstn_reply.specs.declared.status.Status.{Status}
-use Rattle.cstn_documents.proofs.Contents.{none_there}
+use Rattle.cstn_request.proofs.Contents.{none_there}
 use Rattle.cstn_check.proofs.Deciding.{verdict_full, verdict_no, verdict_yes}
 
 pub small_is : (number i : ℕ) → generated ((number + i) % 2 ^ 64) 6 ≡ small number i

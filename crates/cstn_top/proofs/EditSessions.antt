@@ -1,16 +1,15 @@
 -- An edit session's network is the network as edited, and what it answers to `check` is true of that.
-use Rattle.std.proofs.Common.{◌≡◌, ℕ, ◌+◌, ◌<◌, ◌≤◌, ◌^◌, inl, inr, Bool, true, false, not, ◌&&◌, List, [], ◌∷◌, ◌++◌, length, Option, Some, None, refl, sym, ap, subst, ◌∙◌, arith, append_assoc}
-use Rattle.std.specs.Prelude.{ℤ, ◌⊎◌, nat_lt, nat_le, if◌then◌else◌, codes, decimal, bytes_eq}
+use Rattle.std.proofs.Common.{◌≡◌, ℕ, ◌+◌, ◌<◌, ◌≤◌, ◌^◌, inl, inr, Bool, true, false, List, [], ◌∷◌, ◌++◌, length, Option, Some, None, refl, sym, ap, subst, ◌∙◌, arith, append_assoc}
+use Rattle.std.specs.Prelude.{ℤ, ◌⊎◌, nat_lt, if◌then◌else◌, Result, Ok, Err, codes, bytes_eq}
 use Rattle.std.specs.List.{All}
-use Rattle.std.specs.Option.{is_none, option_map}
-use Rattle.std.proofs.lemmas.Bool.{cases_Bool, le-ltb, lt-ltb, leb-true, leb-false, ltb-true, ltb-false, cond-true, cond-false, false≢true}
+use Rattle.std.proofs.lemmas.Bool.{cases_Bool, ltb-true, ltb-false, cond-true, cond-false, false≢true}
 use Rattle.std.proofs.lemmas.List.{append-nil}
 use Rattle.std.proofs.lemmas.List.Elements.{All-nil, All-push, All-weaker}
 use Rattle.std.proofs.lemmas.Slice.Eq.{bytes_eq-Decides}
 use Rattle.std.proofs.lemmas.List.Quantifiers.{position-Some}
-use Rattle.cstn_label.specs.Marks.{is_plain}
+use Rattle.std.proofs.lemmas.Option.{same_Some}
 use Rattle.cstn_label.specs.Labels.{Label}
-use Rattle.cstn_net.specs.Limits.{most_constraints, most_edits}
+use Rattle.cstn_net.specs.Limits.{most_constraints}
 use Rattle.cstn_net.specs.Networks.{Network, Constraint, IsWellFormed, count}
 use Rattle.cstn_text.specs.Names.{number_of}
 use Rattle.cstn_rules.specs.Derivations.{Entry, IsRefutation}
@@ -28,32 +27,30 @@ use Rattle.cstn_lines.specs.Pieces.{is_past}
 use Rattle.cstn_lines.specs.EditLines.{Edit, added, removed, changed, asked, edit_read, IsEdit}
 use Rattle.cstn_lines.proofs.EditLemmas.{edit_is}
 use Rattle.cstn_edit.specs.declared.outcomes.Outcome.{Outcome}
-use Rattle.cstn_edit.specs.Sessions.{next_id, kept_after, outcome_of, verdict_by}
-use Rattle.cstn_edit.specs.Edits.{Session, Refusal, EditLimit, NoRoom, NoSuch, ValueRange, NotPlain, NotObserved, is_value, unobserved, has_constraint, add_refusal, remove_refusal, change_refusal, with_added, with_removed, with_changed, outcome_at, kept_at, with_verdict}
+use Rattle.cstn_change.specs.Changes.{EditedNetwork, Change, adds, removes, revalues, Refusal, unedited, refusal, if_accepted}
+use Rattle.cstn_change.specs.ChangeLines.{accepted_text, addition, addition_between, after_change, after_edit, after_lines, network_after}
+use Rattle.cstn_edit.specs.Sessions.{kept_after, outcome_of, verdict_by}
+use Rattle.cstn_edit.specs.Edits.{Session, edited_of, with_change, outcome_at, kept_at, with_verdict}
 use Rattle.cstn_edit.specs.Sound.{IsSound, IsTrueOf}
 use Rattle.cstn_edit.proofs.VerdictLemmas.{outcome_when, after_grown, after_log}
 use Rattle.cstn_edit.proofs.SessionLaws.{begun_is_sound, added_is_sound, removed_is_sound, changed_is_sound, verdict_is_sound, sound_goes_on, outcome_is_true}
 use Rattle.cstn_reply.specs.Sessions.{Turn, more, last, wrong, on_turn}
-use Rattle.cstn_edit.specs.Editing.{Editing, begun_editing, answered_edit, answered_add, answered, edit_turn, edit_ending, verdict_text, outcome_text, last_checked}
+use Rattle.cstn_edit.specs.Editing.{Editing, begun_editing, answered_edit, answered_change, answered, edit_turn, edit_ending, verdict_text, outcome_text, last_checked}
 use Rattle.cstn_reply.specs.Reached.{state_after}
-use Rattle.cstn_reply.proofs.Sessions.{first_leads, same_state, says_next}
+use Rattle.cstn_reply.proofs.Sessions.{first_leads, says_next}
 use Rattle.cstn_top.specs.Accepted.{IsNoText, HasIds}
 use Rattle.cstn_top.specs.Lines.{AreAnswered}
 use Rattle.cstn_top.proofs.ReadBack.{StepsBack}
 use Rattle.cstn_top.proofs.EditTexts.{next_small, kept_text}
-use Rattle.cstn_top.specs.EditSessions.{EditedNetwork, unedited, may_add, may_remove, may_change, after_add, after_edit, after_lines, network_after, SaysYes, SaysNo, SaysFull, AnswersCheck, IsNoCheck, IsAtLastCheck}
+use Rattle.cstn_top.specs.EditSessions.{SaysYes, SaysNo, SaysFull, AnswersCheck, IsNoCheck, IsAtLastCheck}
 
 -- ---- the network as edited
-
--- the network of a session, its highest id, and how many edits were accepted
-abbrev seen : Session → EditedNetwork
-seen s = record { net = s.net; highest = s.highest; edits = s.edits }
 
 -- a session goes on under the same cap and names, and this is its network as edited
 record Follows (e next : Editing) (now : EditedNetwork) : Type 0 where
   same_cap : next.cap ≡ e.cap
   same_names : next.names ≡ e.names
-  network : seen next.session ≡ now
+  network : edited_of next.session ≡ now
 
 -- the session goes on so after an answer, unless the line is of no grammar
 abbrev FollowsAfter : Editing → EditedNetwork → Turn Editing → Type 0
@@ -61,78 +58,33 @@ FollowsAfter e now (more text next) = Follows e next now
 FollowsAfter e now (last said) = ⊥
 FollowsAfter e now wrong = Unit {0}
 
--- an edit is accepted where it may be made, and refused else
-edit_follows : (e : Editing) (refusal : Option Refusal) (may : Bool) (text : List ℕ) (next : Session) → may ≡ is_none refusal → FollowsAfter e (if may then seen next else seen e.session) (answered_edit e refusal text next)
-edit_follows e None may text next is = subst (λ b. FollowsAfter e (if b then seen next else seen e.session) (answered_edit e None text next)) (sym is) (record { same_cap = refl; same_names = refl; network = refl })
-edit_follows e (Some why) may text next is = subst (λ b. FollowsAfter e (if b then seen next else seen e.session) (answered_edit e (Some why) text next)) (sym is) (record { same_cap = refl; same_names = refl; network = refl })
+-- a change is accepted, or refused and leads to nothing
+edit_follows : (e : Editing) (why : Option Refusal) (text : List ℕ) (next : Session) → FollowsAfter e (if_accepted why (edited_of next) (edited_of e.session)) (answered_edit e why text next)
+edit_follows e None text next = record { same_cap = refl; same_names = refl; network = refl }
+edit_follows e (Some why) text next = record { same_cap = refl; same_names = refl; network = refl }
 
-below_test : (a b : ℕ) → nat_lt a b ≡ not (nat_le b a)
-below_test a b = elim (cases_Bool (nat_le b a)) [
-  | inl t ↦ rw t (le-ltb a b (leb-true b a t))
-  | inr f ↦ rw f (lt-ltb a b (leb-false b a f))
-]
+change_follows : (e : Editing) (r : Result Change Refusal) → FollowsAfter e (after_change (edited_of e.session) r) (answered_change e r)
+change_follows e (Err why) = record { same_cap = refl; same_names = refl; network = refl }
+change_follows e (Ok change) =
+    edit_follows e (refusal most_constraints (edited_of e.session) change) (accepted_text e.session.next change) (with_change e.session change)
 
--- the tests of an addition, one after another
-add_tests : (many full value plain : Bool) (other : Option ℕ) (why at range : Refusal) → (not many && (not full && (value && (plain && is_none other)))) ≡ is_none (if many then Some why else if full then Some at else if not value then Some range else if not plain then Some NotPlain else option_map NotObserved other)
-add_tests true full value plain other why at range = refl
-add_tests false true value plain other why at range = refl
-add_tests false false false plain other why at range = refl
-add_tests false false true false other why at range = refl
-add_tests false false true true None why at range = refl
-add_tests false false true true (Some p) why at range = refl
-
-add_agrees : (s : Session) (most : ℤ) (a : Label) → may_add (seen s) most a ≡ is_none (add_refusal most_constraints s most a)
-add_agrees s most a =
-    ap (λ b. b && (nat_lt (length s.net.constraints) most_constraints && (is_value most && (is_plain a && is_none (unobserved s.net a))))) (below_test s.edits most_edits)
-    ∙ ap (λ b. not (nat_le most_edits s.edits) && (b && (is_value most && (is_plain a && is_none (unobserved s.net a))))) (below_test (length s.net.constraints) most_constraints)
-    ∙ add_tests (nat_le most_edits s.edits) (nat_le most_constraints (length s.net.constraints)) (is_value most) (is_plain a) (unobserved s.net a) EditLimit (NoRoom most_constraints) (ValueRange most)
-
-remove_tests : (many has : Bool) (why at : Refusal) → (not many && has) ≡ is_none (if many then Some why else if has then None else Some at)
-remove_tests true has why at = refl
-remove_tests false true why at = refl
-remove_tests false false why at = refl
-
-remove_agrees : (s : Session) (id : ℕ) → may_remove (seen s) id ≡ is_none (remove_refusal s id)
-remove_agrees s id =
-    ap (λ b. b && has_constraint s.net id) (below_test s.edits most_edits)
-    ∙ remove_tests (nat_le most_edits s.edits) (has_constraint s.net id) EditLimit (NoSuch id)
-
-change_tests : (many has value : Bool) (why at range : Refusal) → (not many && (has && value)) ≡ is_none (if many then Some why else if not has then Some at else if value then None else Some range)
-change_tests true has value why at range = refl
-change_tests false false value why at range = refl
-change_tests false true true why at range = refl
-change_tests false true false why at range = refl
-
-change_agrees : (s : Session) (id : ℕ) (most : ℤ) → may_change (seen s) id most ≡ is_none (change_refusal s id most)
-change_agrees s id most =
-    ap (λ b. b && (has_constraint s.net id && is_value most)) (below_test s.edits most_edits)
-    ∙ change_tests (nat_le most_edits s.edits) (has_constraint s.net id) (is_value most) EditLimit (NoSuch id) (ValueRange most)
-
-add_follows : (e : Editing) (from to : List ℕ) (most : ℤ) (a : Label) (x y : Option ℕ) → FollowsAfter e (after_add (seen e.session) most a x y) (answered_add e from to most a x y)
-add_follows e from to most a None y = record { same_cap = refl; same_names = refl; network = refl }
-add_follows e from to most a (Some x) None = record { same_cap = refl; same_names = refl; network = refl }
-add_follows e from to most a (Some x) (Some y) =
-    edit_follows e (add_refusal most_constraints e.session most a) (may_add (seen e.session) most a) (codes "added " ++ decimal (next_id e.session.highest)) (with_added e.session x y most a) (add_agrees e.session most a)
-
-answer_follows : (e : Editing) (o : Option Edit) → FollowsAfter e (after_edit e.names (seen e.session) o) (answered e o)
+answer_follows : (e : Editing) (o : Option Edit) → FollowsAfter e (after_edit e.names (edited_of e.session) o) (answered e o)
 answer_follows e None = tt
-answer_follows e (Some (added from to most a)) = add_follows e from to most a (number_of e.names from) (number_of e.names to)
-answer_follows e (Some (removed id)) =
-    edit_follows e (remove_refusal e.session id) (may_remove (seen e.session) id) (codes "removed " ++ decimal id) (with_removed e.session id) (remove_agrees e.session id)
-answer_follows e (Some (changed id most)) =
-    edit_follows e (change_refusal e.session id most) (may_change (seen e.session) id most) (codes "changed " ++ decimal id) (with_changed e.session id most) (change_agrees e.session id most)
+answer_follows e (Some (added from to most a)) = change_follows e (addition e.names from to most a)
+answer_follows e (Some (removed id)) = change_follows e (Ok (removes id))
+answer_follows e (Some (changed id most)) = change_follows e (Ok (revalues id most))
 answer_follows e (Some asked) = record { same_cap = refl; same_names = refl; network = refl }
 
-lines_follow : (e g : Editing) (k : ℕ) (lines : List (List ℕ)) → state_after edit_turn e k lines ≡ Some g → Follows e g (after_lines e.names (seen e.session) lines)
-lines_follow e g k [] is = subst (λ x. Follows e x (seen e.session)) (same_state e g is) (record { same_cap = refl; same_names = refl; network = refl })
+lines_follow : (e g : Editing) (k : ℕ) (lines : List (List ℕ)) → state_after edit_turn e k lines ≡ Some g → Follows e g (after_lines e.names (edited_of e.session) lines)
+lines_follow e g k [] is = subst (λ x. Follows e x (edited_of e.session)) (same_Some e g is) (record { same_cap = refl; same_names = refl; network = refl })
 lines_follow e g k (first ∷ lines) is =
     let l = first_leads edit_turn e g k first lines is in
-    let one : Follows e l.next (after_edit e.names (seen e.session) (edit_read first)) = subst (FollowsAfter e (after_edit e.names (seen e.session) (edit_read first))) l.answer (answer_follows e (edit_read first)) in
+    let one : Follows e l.next (after_edit e.names (edited_of e.session) (edit_read first)) = subst (FollowsAfter e (after_edit e.names (edited_of e.session) (edit_read first))) l.answer (answer_follows e (edit_read first)) in
     let rest = lines_follow l.next g (k + 1) lines l.rest in
     record {
       same_cap = rest.same_cap ∙ one.same_cap;
       same_names = rest.same_names ∙ one.same_names;
-      network = rest.network ∙ ap (λ names. after_lines names (seen l.next.session) lines) one.same_names ∙ ap (λ now. after_lines e.names now lines) one.network;
+      network = rest.network ∙ ap (λ names. after_lines names (edited_of l.next.session) lines) one.same_names ∙ ap (λ now. after_lines e.names now lines) one.network;
     }
 
 -- after any lines that are answered the network of a session is the network as edited by them
@@ -206,27 +158,28 @@ edit_keeps e None text next keeps same none sound = record {
   last_by = subst (IsLastBy e.cap next) (sym none) tt;
 }
 
-add_keeps : (e : Editing) (from to : List ℕ) (most : ℤ) (a : Label) → Keeps e → IsEdit (added from to most a) → KeepsAfter (answered_add e from to most a (number_of e.names from) (number_of e.names to))
+add_keeps : (e : Editing) (from to : List ℕ) (most : ℤ) (a : Label) → Keeps e → IsEdit (added from to most a) → KeepsAfter (answered_change e (addition e.names from to most a))
 add_keeps e from to most a keeps fits = by_numbers (number_of e.names from) (number_of e.names to) refl refl
   where
     inside : (name : List ℕ) (x : ℕ) → number_of e.names name ≡ Some x → x < count e.session.net
     inside name x is = omega (arith, (position-Some (bytes_eq name) e.names x [] is).0, keeps.named)
 
-    by_numbers : (one other : Option ℕ) → number_of e.names from ≡ one → number_of e.names to ≡ other → KeepsAfter (answered_add e from to most a one other)
+    by_numbers : (one other : Option ℕ) → number_of e.names from ≡ one → number_of e.names to ≡ other → KeepsAfter (answered_change e (addition_between from to most a one other))
     by_numbers None other is also = keeps
     by_numbers (Some x) None is also = keeps
     by_numbers (Some x) (Some y) is also =
-        edit_keeps e (add_refusal most_constraints e.session most a) (codes "added " ++ decimal (next_id e.session.highest)) (with_added e.session x y most a) keeps refl refl
+        edit_keeps e (refusal most_constraints (edited_of e.session) (adds x y most a)) (accepted_text e.session.next (adds x y most a)) (with_change e.session (adds x y most a)) keeps refl refl
         (λ free. added_is_sound most_constraints e.session x y most a (omega arith) fits.3 (inside from x is) (inside to y also) free keeps.sound)
 
 answer_keeps : (e : Editing) (o : Option Edit) → Keeps e → ((line : Edit) → o ≡ Some line → IsEdit line) → KeepsAfter (answered e o)
 answer_keeps e None keeps fits = tt
 answer_keeps e (Some (added from to most a)) keeps fits = add_keeps e from to most a keeps (fits (added from to most a) refl)
 answer_keeps e (Some (removed id)) keeps fits =
-    edit_keeps e (remove_refusal e.session id) (codes "removed " ++ decimal id) (with_removed e.session id) keeps refl refl (λ free. removed_is_sound e.session id keeps.sound)
+    edit_keeps e (refusal most_constraints (edited_of e.session) (removes id)) (accepted_text e.session.next (removes id)) (with_change e.session (removes id)) keeps refl refl
+    (λ free. removed_is_sound e.session id keeps.sound)
 answer_keeps e (Some (changed id most)) keeps fits =
-    edit_keeps e (change_refusal e.session id most) (codes "changed " ++ decimal id) (with_changed e.session id most) keeps refl refl
-    (λ free. changed_is_sound e.session id most free keeps.sound)
+    edit_keeps e (refusal most_constraints (edited_of e.session) (revalues id most)) (accepted_text e.session.next (revalues id most)) (with_change e.session (revalues id most)) keeps refl refl
+    (λ free. changed_is_sound most_constraints e.session id most free keeps.sound)
 answer_keeps e (Some asked) keeps fits = record {
   named = keeps.named;
   sound = verdict_is_sound e.cap e.session keeps.sound;
@@ -234,7 +187,7 @@ answer_keeps e (Some asked) keeps fits = record {
 }
 
 lines_keep : (e g : Editing) (k : ℕ) (lines : List (List ℕ)) → Keeps e → state_after edit_turn e k lines ≡ Some g → Keeps g
-lines_keep e g k [] keeps is = subst Keeps (same_state e g is) keeps
+lines_keep e g k [] keeps is = subst Keeps (same_Some e g is) keeps
 lines_keep e g k (first ∷ lines) keeps is =
     let l = first_leads edit_turn e g k first lines is in
     let one : Keeps l.next = subst KeepsAfter l.answer (answer_keeps e (edit_read first) keeps (edit_is first)) in
@@ -248,9 +201,9 @@ pub stays_small : (cap : ℕ) (names : List (List ℕ)) (net : Network) (lines :
 stays_small cap names net lines good named small (e, is) =
     let follows = lines_follow (begun_editing cap names net) e 0 lines is in
     let sound = (lines_keep (begun_editing cap names net) e 0 lines (begun_keeps cap names net good named) is).sound in
-    let next : next_id e.session.highest ≤ 2 ^ 32 = subst (λ h. next_id h ≤ 2 ^ 32) (sym (ap (λ (x : EditedNetwork). x.highest) follows.network)) (next_small names net lines small) in
+    let next : e.session.next ≤ 2 ^ 32 = subst (λ h. h ≤ 2 ^ 32) (sym (ap (λ (x : EditedNetwork). x.fresh) follows.network)) (next_small names net lines small) in
     subst HasIds (network_is cap names net lines e is)
-    (All-weaker (λ (c : Constraint). c.id < next_id e.session.highest) (λ (c : Constraint). c.id < 2 ^ 32) (λ c below. omega (arith, below, next)) e.session.net.constraints sound.below)
+    (All-weaker (λ (c : Constraint). c.id < e.session.next) (λ (c : Constraint). c.id < 2 ^ 32) (λ c below. omega (arith, below, next)) e.session.net.constraints sound.below)
 
 -- the network as edited is well-formed
 pub stays_well_formed : (cap : ℕ) (names : List (List ℕ)) (net : Network) (lines : List (List ℕ)) → IsWellFormed net → length names ≡ count net → AreAnswered edit_turn (begun_editing cap names net) lines → IsWellFormed (network_after names net lines)
@@ -339,16 +292,16 @@ checked_more names net done first now checked same at = by_test (bytes_eq first 
     by_test true is = (done, [], ap (λ text. done ++ text ∷ []) ((bytes_eq-Decides first (codes "check")).0 is), All-nil IsNoCheck, same)
     by_test false is = other checked (λ e. false≢true (sym is ∙ (bytes_eq-Decides first (codes "check")).1 e)) at
 
-lines_checked : (names : List (List ℕ)) (net : Network) (e g : Editing) (k : ℕ) (done lines : List (List ℕ)) (checked : Option Network) → e.names ≡ names → seen e.session ≡ after_lines names (unedited net) done → IsAtLastCheck names net done checked → state_after edit_turn e k lines ≡ Some g → IsAtLastCheck names net (done ++ lines) (last_checked e checked lines)
+lines_checked : (names : List (List ℕ)) (net : Network) (e g : Editing) (k : ℕ) (done lines : List (List ℕ)) (checked : Option Network) → e.names ≡ names → edited_of e.session ≡ after_lines names (unedited net) done → IsAtLastCheck names net done checked → state_after edit_turn e k lines ≡ Some g → IsAtLastCheck names net (done ++ lines) (last_checked e checked lines)
 lines_checked names net e g k done [] checked same now at is = subst (λ xs. IsAtLastCheck names net xs checked) (sym (append-nil done)) at
 lines_checked names net e g k done (first ∷ lines) checked same now at is =
     let l = first_leads edit_turn e g k first lines is in
-    let one : Follows e l.next (after_edit e.names (seen e.session) (edit_read first)) = subst (FollowsAfter e (after_edit e.names (seen e.session) (edit_read first))) l.answer (answer_follows e (edit_read first)) in
+    let one : Follows e l.next (after_edit e.names (edited_of e.session) (edit_read first)) = subst (FollowsAfter e (after_edit e.names (edited_of e.session) (edit_read first))) l.answer (answer_follows e (edit_read first)) in
     let then_checked : Option Network = if bytes_eq first (codes "check") then Some e.session.net else checked in
     let goes : last_checked e checked (first ∷ lines) ≡ last_checked l.next then_checked lines = ap (λ (t : Turn Editing). on_turn t (λ text next. last_checked next then_checked lines) (λ said. checked) checked) l.answer in
-    let now_more : seen l.next.session ≡ after_lines names (unedited net) (done ++ first ∷ []) =
+    let now_more : edited_of l.next.session ≡ after_lines names (unedited net) (done ++ first ∷ []) =
     one.network
-    ∙ ap (λ ns. after_edit ns (seen e.session) (edit_read first)) same
+    ∙ ap (λ ns. after_edit ns (edited_of e.session) (edit_read first)) same
     ∙ ap (λ x. after_edit names x (edit_read first)) now
     ∙ sym (after_more names (unedited net) done first) in
     let at_more = checked_more names net done first e.session.net checked (ap (λ (x : EditedNetwork). x.net) now) at in

@@ -1,16 +1,16 @@
 -- What an edit session says after no is accepted by a replay on the network as edited.
-use Rattle.std.proofs.Common.{◌≡◌, ◌≢◌, ℕ, ◌+◌, ◌-◌, ◌≤◌, ◌<◌, ◌^◌, Bool, true, false, ◌&&◌, List, [], ◌∷◌, length, get_or, Some, refl, sym, ap, subst, inl, inr, arith}
-use Rattle.std.specs.Prelude.{ℤ, nat_lt, if◌then◌else◌, codes, pos, ◌≤ℤ◌, slice_get, Option, None}
+use Rattle.std.proofs.Common.{◌≡◌, ◌≢◌, ℕ, ◌+◌, ◌-◌, ◌≤◌, ◌<◌, ◌^◌, Bool, true, false, List, [], ◌∷◌, length, get_or, Some, refl, sym, ap, subst, inl, inr, arith}
+use Rattle.std.specs.Prelude.{ℤ, nat_lt, nat_le, Result, Ok, Err, if◌then◌else◌, codes, pos, ◌≤ℤ◌, slice_get, Option, None}
 use Rattle.std.specs.List.{All}
 use Rattle.std.proofs.lemmas.Int.{ints}
-use Rattle.std.proofs.lemmas.Bool.{ltb-true}
+use Rattle.std.proofs.lemmas.Bool.{leb-false}
 use Rattle.std.proofs.lemmas.List.Elements.{All-contains}
 use Rattle.std.proofs.lemmas.Option.{slice_get_within, slice_get-get_or}
 use Rattle.cstn_label.specs.declared.marks.Mark.{Mark}
 use Rattle.cstn_label.specs.declared.marks.Mark.TheVariants.{Absent, Yes, No, Unknown}
 use Rattle.cstn_label.specs.Bounds.{Bound}
 use Rattle.cstn_label.specs.Labels.{Label}
-use Rattle.cstn_net.specs.Limits.{most_load, most_edits}
+use Rattle.cstn_net.specs.Limits.{most_load, most_edits, most_constraints}
 use Rattle.cstn_net.specs.Networks.{Network, Constraint, IsWellFormed, IsOnObserved, count, limit}
 use Rattle.cstn_text.specs.Limits.{most_text}
 use Rattle.cstn_rules.specs.declared.entries.Why.{Why}
@@ -22,7 +22,7 @@ use Rattle.cstn_log.proofs.MarkLemmas.{part_refutation}
 use Rattle.cstn_check.specs.Kept.{IsKept}
 use Rattle.cstn_check.proofs.GoodLemmas.{good_at}
 use Rattle.cstn_check.proofs.PartLemmas.{part_short}
-use Rattle.cstn_text.specs.Names.{AreNames, number_of}
+use Rattle.cstn_text.specs.Names.{AreNames}
 use Rattle.cstn_refute.specs.Texts.{Told, tells, told, shown}
 use Rattle.cstn_refute.specs.Written.{ArePlaces, IsPrintableStep, AreWritten}
 use Rattle.cstn_lines.specs.EditLines.{Edit, added, removed, changed, asked, edit_read}
@@ -32,42 +32,53 @@ use Rattle.cstn_top.specs.Answers.{Answer, by_text}
 use Rattle.cstn_top.specs.commands.Replay.{replayed_steps, replayed}
 use Rattle.cstn_top.specs.Accepted.{IsAccepted, IsNoText, HasIds}
 use Rattle.cstn_reply.specs.declared.output.Outcome.TheVariants.{Good}
-use Rattle.cstn_edit.specs.Sessions.{next_id}
-use Rattle.cstn_edit.proofs.StartLemmas.{highest_small}
+use Rattle.cstn_change.specs.Changes.{EditedNetwork, Change, adds, removes, revalues, Refusal, EditLimit, unedited, refusal, after, if_accepted}
+use Rattle.cstn_change.specs.ChangeLines.{addition, after_change, after_edit, after_lines}
+use Rattle.cstn_change.proofs.IdLemmas.{above_small, one_id}
 use Rattle.cstn_top.proofs.Listing.{limit_in_time}
 use Rattle.cstn_top.proofs.Lengths.{steps_text_short}
 use Rattle.cstn_top.proofs.ReadBack.{StepsBack, no_refutation}
-use Rattle.cstn_top.specs.EditSessions.{EditedNetwork, unedited, after_adding, after_removing, after_changing, after_add, after_edit, after_lines}
 
 -- ---- ids stay numbers of 32 bits
+
+-- where a first test refuses nothing, it doesn't pass
+no_limit : (edits : ℕ) (o : Option Refusal) → (if nat_le most_edits edits then Some EditLimit else o) ≡ None → edits < most_edits
+no_limit edits o none = leb-false most_edits edits (by_test (nat_le most_edits edits) none)
+  where
+    by_test : (b : Bool) → (if b then Some EditLimit else o) ≡ None → b ≡ false
+    by_test true is = absurd (cc)
+    by_test false is = refl
 
 -- there were few edits, and each of them took one id at most
 record TookFew (e : EditedNetwork) : Type 0 where
   few : e.edits ≤ most_edits
-  small : next_id e.highest ≤ 2 ^ 31 + e.edits
+  small : e.fresh ≤ 2 ^ 31 + e.edits
 
--- this stays so after an edit that is made only where fewer than 1,000,000 were made before
-if_made : (e next : EditedNetwork) (rest : Bool) → TookFew e → (e.edits < most_edits → TookFew next) → TookFew (if nat_lt e.edits most_edits && rest then next else e)
-if_made e next rest took made = by_test (nat_lt e.edits most_edits) rest refl
+-- this stays so after a change, which is accepted only where fewer than 1,000,000 were accepted before
+below_limit : (e : EditedNetwork) (change : Change) → refusal most_constraints e change ≡ None → e.edits < most_edits
+below_limit e (adds from to most a) none = no_limit e.edits _ none
+below_limit e (removes id) none = no_limit e.edits _ none
+below_limit e (revalues id most) none = no_limit e.edits _ none
+
+one_took : (e : EditedNetwork) (change : Change) → TookFew e → TookFew (after_change e (Ok change))
+one_took e change took = by_why (refusal most_constraints e change) refl
   where
-    by_test : (test other : Bool) → nat_lt e.edits most_edits ≡ test → TookFew (if test && other then next else e)
-    by_test true true is = made (ltb-true e.edits most_edits is)
-    by_test true false is = took
-    by_test false other is = took
+    by_why : (why : Option Refusal) → refusal most_constraints e change ≡ why → TookFew (if_accepted why (after e change) e)
+    by_why None is =
+        let below = below_limit e change is in
+        let one = one_id e.fresh change in
+        record { few = omega (arith, below); small = omega (arith, took.small, one) }
+    by_why (Some why) is = took
 
-add_took : (e : EditedNetwork) (most : ℤ) (a : Label) (from to : Option ℕ) → TookFew e → TookFew (after_add e most a from to)
-add_took e most a None to took = took
-add_took e most a (Some from) None took = took
-add_took e most a (Some from) (Some to) took =
-    if_made e (after_adding e from to most a) _ took (λ below. record { few = omega arith; small = omega (arith, took.small) })
+change_took : (e : EditedNetwork) (r : Result Change Refusal) → TookFew e → TookFew (after_change e r)
+change_took e (Ok change) took = one_took e change took
+change_took e (Err why) took = took
 
 edit_took : (names : List (List ℕ)) (e : EditedNetwork) (o : Option Edit) → TookFew e → TookFew (after_edit names e o)
 edit_took names e None took = took
-edit_took names e (Some (added from to most a)) took = add_took e most a (number_of names from) (number_of names to) took
-edit_took names e (Some (removed id)) took =
-    if_made e (after_removing e id) _ took (λ below. record { few = omega arith; small = omega (arith, took.small) })
-edit_took names e (Some (changed id most)) took =
-    if_made e (after_changing e id most) _ took (λ below. record { few = omega arith; small = omega (arith, took.small) })
+edit_took names e (Some (added from to most a)) took = change_took e (addition names from to most a) took
+edit_took names e (Some (removed id)) took = one_took e (removes id) took
+edit_took names e (Some (changed id most)) took = one_took e (revalues id most) took
 edit_took names e (Some asked) took = took
 
 lines_took : (names : List (List ℕ)) (e : EditedNetwork) (lines : List (List ℕ)) → TookFew e → TookFew (after_lines names e lines)
@@ -75,9 +86,9 @@ lines_took names e [] took = took
 lines_took names e (first ∷ lines) took = lines_took names (after_edit names e (edit_read first)) lines (edit_took names e (edit_read first) took)
 
 -- after any lines, the id of the next constraint is at most 2 ^ 32
-pub next_small : (names : List (List ℕ)) (net : Network) (lines : List (List ℕ)) → All (λ (c : Constraint). c.id < 2 ^ 31) net.constraints → next_id (after_lines names (unedited net) lines).highest ≤ 2 ^ 32
+pub next_small : (names : List (List ℕ)) (net : Network) (lines : List (List ℕ)) → All (λ (c : Constraint). c.id < 2 ^ 31) net.constraints → (after_lines names (unedited net) lines).fresh ≤ 2 ^ 32
 next_small names net lines small =
-    let begins : TookFew (unedited net) = record { few = omega arith; small = let s = highest_small (2 ^ 31) None net.constraints (omega arith) small in omega (arith, s) } in
+    let begins : TookFew (unedited net) = record { few = omega arith; small = let s = above_small (2 ^ 31) net.constraints small in omega (arith, s) } in
     let took = lines_took names (unedited net) lines begins in
     let few = took.few in
     let next = took.small in

@@ -1,6 +1,6 @@
 -- What the status of an edit session tells.
-use Rattle.std.proofs.Common.{◌≡◌, ℕ, ◌+◌, ◌<◌, ◌≤◌, Bool, true, false, List, [], ◌∷◌, ◌++◌, length, refl, ap, sym, ◌∙◌, subst, arith}
-use Rattle.std.specs.Prelude.{ℤ, if◌then◌else◌, bytes_eq, Option, None, Some, IfSome, IsSomeAnd, Result, Ok, codes, decimal}
+use Rattle.std.proofs.Common.{◌≡◌, ℕ, ◌+◌, ◌<◌, ◌≤◌, Bool, true, false, List, [], ◌∷◌, length, refl, ap, sym, ◌∙◌, subst, arith}
+use Rattle.std.specs.Prelude.{ℤ, if◌then◌else◌, bytes_eq, Option, None, Some, IfSome, IsSomeAnd, Result, Ok, codes}
 use Rattle.std.specs.Option.{option_map, option_and_then, unwrap_or}
 use Rattle.std.proofs.lemmas.Option.{none-some, same_Some}
 use Rattle.std.proofs.lemmas.List.Quantifiers.{position-Some}
@@ -26,8 +26,10 @@ use Rattle.cstn_lines.specs.Pieces.{is_past, lines_of}
 use Rattle.cstn_lines.specs.LiveLines.{cut_at_space}
 use Rattle.cstn_lines.specs.EditLines.{Edit, added, removed, changed, asked, id_read, change_read, ends_read, limit_read, add_read, edited_read}
 use Rattle.cstn_edit.specs.declared.outcomes.Outcome.{Outcome as Answered}
-use Rattle.cstn_edit.specs.Sessions.{next_id, outcome_of}
-use Rattle.cstn_edit.specs.Edits.{Session, Refusal, add_refusal, remove_refusal, change_refusal, with_added, with_removed, with_changed, outcome_at, with_verdict}
+use Rattle.cstn_change.specs.Changes.{adds, removes, revalues, Refusal, refusal}
+use Rattle.cstn_change.specs.ChangeLines.{accepted_text, addition, addition_between}
+use Rattle.cstn_edit.specs.Sessions.{outcome_of}
+use Rattle.cstn_edit.specs.Edits.{Session, edited_of, with_change, outcome_at, with_verdict}
 use Rattle.cstn_edit.specs.Sound.{IsSound}
 use Rattle.cstn_edit.proofs.SessionLaws.{begun_is_sound, added_is_sound, removed_is_sound, changed_is_sound, verdict_is_sound, yes_is_true, no_is_true, full_is_exact}
 use Rattle.cstn_reply.specs.Texts.{Said, after_text}
@@ -35,7 +37,7 @@ use Rattle.cstn_top.specs.Plans.{IsOutput}
 use Rattle.cstn_top.specs.commands.Edit.{edited}
 use Rattle.cstn_top.specs.commands.Edit.{AtLastCheck}
 use Rattle.cstn_reply.specs.Sessions.{Turn, more, last, wrong, on_turn, script, play}
-use Rattle.cstn_edit.specs.Editing.{Editing, begun_editing, answered_edit, answered_add, answered_check, answered, edit_turn, edit_ending, ending_by, last_checked}
+use Rattle.cstn_edit.specs.Editing.{Editing, begun_editing, answered_edit, answered_change, answered_check, answered, edit_turn, edit_ending, ending_by, last_checked}
 use Rattle.cstn_reply.specs.declared.output.Outcome.{Outcome}
 use Rattle.cstn_reply.specs.declared.output.Outcome.TheVariants.{Good, Bad, Words, Document, Full, Unfinished, Script, Wide}
 
@@ -137,27 +139,28 @@ edit_holds cap e checked None text next holds same fresh sound = record {
   true_verdict = holds.true_verdict;
 }
 
-add_holds : (cap : ℕ) (e : Editing) (checked : Option Network) (from to : List ℕ) (most : ℤ) (a : Label) → Holds cap e checked → ((p : ℕ) → 52 ≤ p → a p ≡ Absent) → HoldsAfter cap checked (answered_add e from to most a (number_of e.names from) (number_of e.names to))
+add_holds : (cap : ℕ) (e : Editing) (checked : Option Network) (from to : List ℕ) (most : ℤ) (a : Label) → Holds cap e checked → ((p : ℕ) → 52 ≤ p → a p ≡ Absent) → HoldsAfter cap checked (answered_change e (addition e.names from to most a))
 add_holds cap e checked from to most a holds small = by_numbers (number_of e.names from) (number_of e.names to) refl refl
   where
     inside : (name : List ℕ) (x : ℕ) → number_of e.names name ≡ Some x → x < count e.session.net
     inside name x is = omega (arith, (position-Some (bytes_eq name) e.names x [] is).0, holds.named)
 
-    by_numbers : (one other : Option ℕ) → number_of e.names from ≡ one → number_of e.names to ≡ other → HoldsAfter cap checked (answered_add e from to most a one other)
+    by_numbers : (one other : Option ℕ) → number_of e.names from ≡ one → number_of e.names to ≡ other → HoldsAfter cap checked (answered_change e (addition_between from to most a one other))
     by_numbers None other is also = holds
     by_numbers (Some x) None is also = holds
     by_numbers (Some x) (Some y) is also =
-        edit_holds cap e checked (add_refusal most_constraints e.session most a) (codes "added " ++ decimal (next_id e.session.highest)) (with_added e.session x y most a) holds refl refl
+        edit_holds cap e checked (refusal most_constraints (edited_of e.session) (adds x y most a)) (accepted_text e.session.next (adds x y most a)) (with_change e.session (adds x y most a)) holds refl refl
         (λ free. added_is_sound most_constraints e.session x y most a (omega arith) small (inside from x is) (inside to y also) free holds.sound)
 
 other_holds : (cap : ℕ) (e : Editing) (checked : Option Network) (o : Option Edit) → Holds cap e checked → IfSome o IsOther → HoldsAfter cap checked (answered e o)
 other_holds cap e checked None holds other = tt
 other_holds cap e checked (Some (added from to most a)) holds other = add_holds cap e checked from to most a holds other
 other_holds cap e checked (Some (removed id)) holds other =
-    edit_holds cap e checked (remove_refusal e.session id) (codes "removed " ++ decimal id) (with_removed e.session id) holds refl refl (λ free. removed_is_sound e.session id holds.sound)
+    edit_holds cap e checked (refusal most_constraints (edited_of e.session) (removes id)) (accepted_text e.session.next (removes id)) (with_change e.session (removes id)) holds refl refl
+    (λ free. removed_is_sound e.session id holds.sound)
 other_holds cap e checked (Some (changed id most)) holds other =
-    edit_holds cap e checked (change_refusal e.session id most) (codes "changed " ++ decimal id) (with_changed e.session id most) holds refl refl
-    (λ free. changed_is_sound e.session id most free holds.sound)
+    edit_holds cap e checked (refusal most_constraints (edited_of e.session) (revalues id most)) (accepted_text e.session.next (revalues id most)) (with_change e.session (revalues id most)) holds refl refl
+    (λ free. changed_is_sound most_constraints e.session id most free holds.sound)
 other_holds cap e checked (Some asked) holds other = absurd other
 
 check_holds : (cap : ℕ) (e : Editing) (checked : Option Network) → Holds cap e checked → HoldsAfter cap (Some e.session.net) (answered_check e (outcome_at e.cap e.session) (with_verdict e.cap e.session))

@@ -4,8 +4,8 @@ use Rattle.std.specs.Prelude.{◌⊎◌, Bool, true, false, IsNone, Option, None
 use Rattle.std.specs.Option.{option_map}
 use Rattle.cstn_io.specs.Contents.{IsAllOf}
 use Rattle.cstn_reply.specs.Texts.{line}
-use Rattle.cstn_words.specs.Requests.{Request, files_of, names_of}
-use Rattle.cstn_documents.specs.Files.{AreContents, AreThere}
+use Rattle.cstn_request.specs.Requests.{Request, files_of, names_of}
+use Rattle.cstn_request.specs.Files.{AreContents, AreThere}
 use Rattle.cstn_reply.specs.Texts.{Said, say}
 use Rattle.cstn_top.specs.Plans.{Plan, says, before_fault, IsOutput, MayTalk, IsText, Ends, ComesTo, Untouched, session, ended_session}
 use Rattle.cstn_top.specs.Dispatch.{plan_of, plan_at}
@@ -15,22 +15,22 @@ use Rattle.cstn_reply.specs.Written.{LiveState, is_output, is_file_fault, is_liv
 use Rattle.cstn_reply.specs.Sessions.{Turn}
 use Rattle.cstn_reply.specs.Reached.{heard, MeetsLine}
 use Rattle.cstn_edit.specs.Editing.{the_editing, edit_turn, edit_wants}
-use Rattle.cstn_host.specs.Sessions.{host_turn, host_wants}
-use Rattle.cstn_words.specs.Requests.{host}
-use Rattle.cstn_host.specs.SessionRead.{the_host_session}
+use Rattle.cstn_run.specs.hosted.Sessions.{host_turn, host_wants}
+use Rattle.cstn_request.specs.Requests.{host}
+use Rattle.cstn_run.specs.hosted.SessionRead.{the_host_session}
 use Rattle.cstn_reply.specs.Read.{the_said}
 use Rattle.cstn_top.specs.Told.{Answers}
 use Rattle.cstn_reply.specs.Statuses.{status_of}
 use Rattle.cstn_top.specs.declared.commands.Prepared.{Prepared}
 use Rattle.cstn_top.specs.declared.commands.Prepared.TheVariants.{Says, Runs, Edits, Follows, Hosts}
 use Rattle.cstn_lines.specs.Pieces.{lines_of, whole_lines}
-use Rattle.cstn_host.proofs.Plays.{IsEnd, plays}
+use Rattle.cstn_run.proofs.hosts.Plays.{IsEnd, plays}
 use Rattle.cstn_reply.specs.declared.status.Status.{Status}
 use Rattle.cstn_reply.specs.declared.status.Status.TheVariants.{Words as IsWords, Document as IsRefusedStatus, ReadFault, Memory}
 use Rattle.cstn_reply.specs.declared.output.Outcome.{Outcome}
 use Rattle.cstn_reply.specs.declared.output.Outcome.TheVariants.{Words, Document}
-use Rattle.cstn_reply.proofs.Contents.{given, all_given, no_taken}
-use Rattle.cstn_documents.proofs.Contents.{some_contents, none_there}
+use Rattle.cstn_reply.proofs.Contents.{given, all_given}
+use Rattle.cstn_request.proofs.Contents.{some_contents, none_there}
 use Rattle.cstn_top.proofs.Proved.{IsRight}
 use Rattle.cstn_top.proofs.Dispatch.{proved, kind_wants, wants_by}
 use Rattle.cstn_top.proofs.Dispatched.{IsComplete}
@@ -39,13 +39,14 @@ use Rattle.cstn_follow.specs.Read.{the_following}
 use Rattle.cstn_top.specs.Command.{Kind, WantsMemory, wants_ends, an_edit, a_follow, a_host}
 use Rattle.cstn_top.specs.Dispatch.{command_of}
 use Rattle.cstn_top.specs.Prepared.{FitsKind}
+use Rattle.cstn_lines.proofs.StepLemmas.{no_bytes}
 
 -- how a call ends, for contents of the files that its words name
 abbrev pub Answered : {S : Type 0} → Option Request → Option (List ℕ → Option (List ℕ)) → S → S → LiveState → LiveState → Option (List ℕ) → Option (List ℕ) → Status → Type 0
 Answered words told source now before after old new result = (contents : List (List ℕ)) × AreContents told (names_of words) contents × Ends (plan_of words contents) before after old new result × Untouched (plan_of words contents) source now
 
 says_text : (plan : Plan) (said : Said) (seen : LiveState) → ((live : List ℕ) → IsOutput plan live said) → IsText plan seen seen (status_of said.outcome) said.text
-says_text plan said seen output = is_output (given seen.left) said (all_given seen.left seen.left [] (no_taken seen.left)) (output (given seen.left))
+says_text plan said seen output = is_output (given seen.left) said (all_given seen.left seen.left [] (no_bytes seen.left)) (output (given seen.left))
 
 memory_text : (plan : Plan) (seen : LiveState) → IsText plan seen seen Memory (line (codes "memory"))
 memory_text plan seen = is_memory [] (inl refl)

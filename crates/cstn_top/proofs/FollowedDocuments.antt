@@ -9,8 +9,8 @@ use Rattle.cstn_lift.specs.Labelled.{Labelled}
 use Rattle.cstn_lift.specs.Lowered.{numbered}
 use Rattle.cstn_lift.specs.Read.{the_labelled}
 use Rattle.cstn_graphml.specs.Networks.{constraint_drawn}
-use Rattle.cstn_documents.specs.Opened.{IsLabelledOf}
-use Rattle.cstn_documents.specs.declared.reading.NamedLabelled.{NamedLabelled}
+use Rattle.cstn_request.specs.Opened.{IsLabelledOf}
+use Rattle.cstn_request.specs.declared.reading.NamedLabelled.{NamedLabelled}
 
 abbrev pub HasSmallId : Constraint → Type 0
 HasSmallId c = c.id < 2 ^ 31

@@ -17,7 +17,7 @@ use Rattle.cstn_lift.specs.Lowered.{lowered}
 use Rattle.cstn_lift.specs.Strategies.{IsLabelledConsistent}
 use Rattle.cstn_check.specs.Growth.{load_of}
 use Rattle.cstn_lines.specs.Pieces.{lines_of}
-use Rattle.cstn_words.specs.Requests.{Request, check, edit, replay}
+use Rattle.cstn_request.specs.Requests.{Request, check, run, edit, replay}
 use Rattle.cstn_reply.specs.Texts.{Said}
 use Rattle.cstn_top.specs.Plans.{IsOutput}
 use Rattle.cstn_top.specs.Answers.{LabelledAnswer, of_lowered, on_labelled, by_text}
@@ -29,13 +29,13 @@ use Rattle.cstn_top.specs.Dispatch.{plan_at}
 use Rattle.cstn_top.specs.Meanings.{IsStopped}
 use Rattle.cstn_top.specs.commands.Run.{run_bounds, AnswersLeast, WroteRun}
 use Rattle.cstn_top.specs.commands.Edit.{IsVerdictOn, EditEnds, WroteEdits}
-use Rattle.cstn_documents.specs.Documents.{AreEmpty, AreUnlabelled}
+use Rattle.cstn_request.specs.Documents.{AreEmpty, AreUnlabelled}
 use Rattle.cstn_reply.specs.Statuses.{status_of}
 use Rattle.cstn_reply.specs.declared.status.Status.{Status}
 use Rattle.cstn_reply.specs.declared.status.Status.TheVariants.{Good as IsYesStatus, Bad as IsNoStatus, Full as IsFullStatus}
 use Rattle.cstn_reply.specs.declared.output.Outcome.{Outcome}
 use Rattle.cstn_reply.specs.declared.output.Outcome.TheVariants.{Good, Bad, Words, Document as IsRefusedOutcome, Full, Unfinished, Script, Wide}
-use Rattle.cstn_documents.specs.Documents.{parts_of, HasLabelled, HasNetwork, IsNoDocument, IsRefused}
+use Rattle.cstn_request.specs.Documents.{parts_of, HasLabelled, HasNetwork, IsNoDocument, IsRefused}
 use Rattle.cstn_edit.specs.Editing.{begun_editing, last_checked}
 use Rattle.cstn_run.specs.Meanings.{IsCarriedThrough}
 use Rattle.cstn_refute.specs.Texts.{told as told_by}
@@ -47,7 +47,10 @@ use Rattle.cstn_top.proofs.Meanings.{VerdictsLabelled}
 use Rattle.cstn_top.proofs.records.Check.{check_tells}
 use Rattle.cstn_top.proofs.Endings.{end_status}
 use Rattle.cstn_top.proofs.EditSessions.{last_is}
+use Rattle.cstn_top.proofs.Dispatch.{proved}
 use Rattle.cstn_top.proofs.Dispatched.{WroteEvidence, IsEnded}
+use Rattle.cstn_top.proofs.Standing.{YesAccepted, NoAccepted}
+use Rattle.cstn_top.proofs.Told.{call_tells}
 
 -- ---- the network of a document
 
@@ -130,9 +133,11 @@ check_is_decided d cap c =
 
 -- ---- `run`
 
-pub run_is_least : (d : Document) (cap : ℕ) → Ran d cap → HasStrategy d → load d ≤ cap → AnswersLeast (printed_names d) (network d) (run_bounds (network d))
-run_is_least d cap c has below =
-    subst (λ (r : Result Parts DocumentRefusal). IfSome (parts_of r) (λ parts. IsFit parts → IsLabelledYes cap (labelled_of parts) → AnswersLeast (map printed_name parts.names) (labelled_of parts) (run_bounds (labelled_of parts)))) d.reads c.told.least d.fit (has, below)
+pub run_is_least : (d : Document) → HasStrategy d → AnswersLeast (printed_names d) (network d) (run_bounds (network d))
+run_is_least d has =
+    let within : load d ≤ load d = omega arith in
+    subst (λ (r : Result Parts DocumentRefusal). IfSome (parts_of r) (λ parts. IsFit parts → IsLabelledYes (load d) (labelled_of parts) → AnswersLeast (map printed_name parts.names) (labelled_of parts) (run_bounds (labelled_of parts)))) d.reads
+    ((proved (run d.asked (load d))).least (d.bytes ∷ [])) d.fit (has, within)
 
 executed_over : (names : List (List ℕ)) (m : Labelled) (lines : List (List ℕ)) → IsCarriedThrough names m (run_bounds m) lines → IsExecutedOver names m lines
 executed_over names m lines through = record {
@@ -143,8 +148,8 @@ executed_over names m lines through = record {
   meets = λ s c from to agrees has force one two. through.led.meets s c from to agrees has force ((through.timely.named c.from from).1 one) ((through.timely.named c.to to).1 two);
 }
 
-pub run_is_executed : (d : Document) (cap : ℕ) (c : Ran d cap) → c.status ≡ IsYesStatus → IsExecutedOver (printed_names d) (network d) (lines_of c.live)
-run_is_executed d cap c good = by_wrote (of_document d carries (c.told.carried_out good)).1
+pub run_is_executed : YesAccepted → NoAccepted → (d : Document) (cap : ℕ) (c : Ran d cap) → c.status ≡ IsYesStatus → IsExecutedOver (printed_names d) (network d) (lines_of c.live)
+run_is_executed yes_text no_text d cap c good = by_wrote (of_document d carries ((call_tells yes_text no_text (run d.asked cap) (d.bytes ∷ []) c).carried_out good)).1
   where
     carries : List (List ℕ) → Labelled → Type 0
     carries ns l = IsLabelledYes cap l × WroteRun c.before.left (Some c.old) (Some (c.old ++ c.text)) (map printed_name ns) l (run_bounds l) (IsCarriedThrough (map printed_name ns) l (run_bounds l))
@@ -157,9 +162,9 @@ run_is_executed d cap c good = by_wrote (of_document d carries (c.told.carried_o
 
 -- ---- the derivation
 
-pub derivation_passes : (d : Document) (cap : ℕ) (c : Checked d cap) → c.status ≡ IsNoStatus → (file : List ℕ) (r : Replayed d file c.text) → r.status ≡ IsYesStatus
-derivation_passes d cap c no' file r =
-    by_evidence (subst (λ (s : Status). IsStopped s ⊎ WroteEvidence (Some c.old) (Some (c.old ++ c.text)) s (check d.asked cap) (d.bytes ∷ [])) no' c.told.evidence)
+pub derivation_passes : YesAccepted → NoAccepted → (d : Document) (cap : ℕ) (c : Checked d cap) → c.status ≡ IsNoStatus → (file : List ℕ) (r : Replayed d file c.text) → r.status ≡ IsYesStatus
+derivation_passes yes_text no_text d cap c no' file r =
+    by_evidence (subst (λ (s : Status). IsStopped s ⊎ WroteEvidence (Some c.old) (Some (c.old ++ c.text)) s (check d.asked cap) (d.bytes ∷ [])) no' (call_tells yes_text no_text (check d.asked cap) (d.bytes ∷ []) c).evidence)
   where
     accepts : IsNoText d.parts.names (lowered (network d)) c.text → r.status ≡ IsYesStatus
     accepts no_text =
@@ -172,8 +177,8 @@ derivation_passes d cap c no' file r =
         accepts (subst (IsNoText d.parts.names (lowered (network d))) (sym (append_cancel_left c.old c.text wrote (same_Some (c.old ++ c.text) (c.old ++ wrote) same)))
         (of_document d (λ ns l. IsNoText ns (lowered l) wrote) has))
 
-pub replay_is_sound : (d : Document) (file text : List ℕ) (r : Replayed d file text) → r.status ≡ IsYesStatus → HasStrategy d → ⊥
-replay_is_sound d file text r good = (of_document d (λ ns l. IsRefutedBy (told_by ns text) (lowered l) × (IsLabelledConsistent l → ⊥)) (r.told.good good)).1
+pub replay_is_sound : YesAccepted → NoAccepted → (d : Document) (file text : List ℕ) (r : Replayed d file text) → r.status ≡ IsYesStatus → HasStrategy d → ⊥
+replay_is_sound yes_text no_text d file text r good = (of_document d (λ ns l. IsRefutedBy (told_by ns text) (lowered l) × (IsLabelledConsistent l → ⊥)) ((call_tells yes_text no_text (replay d.asked file) (d.bytes ∷ text ∷ []) r).good good)).1
 
 -- ---- edits
 
@@ -201,8 +206,8 @@ verdict_decides cap status net (inl yes') = inr (yes_decides status (IsConsisten
 verdict_decides cap status net (inr (inl no')) = inr (no_decides status (IsConsistent net) no'.0 no'.1)
 verdict_decides cap status net (inr (inr full)) = inl full
 
-pub edits_are_decided : (d : Document) (cap : ℕ) (edits : List (List ℕ)) (e : Edited d cap edits) → IsEditedVerdict cap (edited d edits) e.call.status
-edits_are_decided d cap edits e = by_ended e.call.told.ended
+pub edits_are_decided : YesAccepted → NoAccepted → (d : Document) (cap : ℕ) (edits : List (List ℕ)) (e : Edited d cap edits) → IsEditedVerdict cap (edited d edits) e.call.status
+edits_are_decided yes_text no_text d cap edits e = by_ended (call_tells yes_text no_text (edit d.asked cap) (d.bytes ∷ []) e.call).ended
   where
     names : List (List ℕ)
     names = d.parts.names

@@ -3,9 +3,9 @@ use Rattle.std.proofs.Common.{◌≡◌, ℕ, List, [], ◌++◌, map, subst, ar
 use Rattle.std.specs.Prelude.{Option, Vec}
 use Rattle.std.specs.Global.{Global}
 use Rattle.std.proofs.lemmas.Grind.{common_steps}
-use Rattle.cstn_words.specs.Requests.{host}
+use Rattle.cstn_request.specs.Requests.{host}
 use Rattle.cstn_log.specs.declared.caps.Cap.{Cap}
-use Rattle.cstn_documents.specs.declared.reading.NamedNetwork.{NamedNetwork}
+use Rattle.cstn_request.specs.declared.reading.NamedNetwork.{NamedNetwork}
 use Rattle.cstn_top.specs.Plans.{ComesTo}
 use Rattle.cstn_top.specs.commands.Host.{attended, on_documents}
 use Rattle.cstn_top.specs.Questions.{Asks}

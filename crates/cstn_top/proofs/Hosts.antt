@@ -12,8 +12,8 @@ use Rattle.cstn_refute.specs.Texts.{shown}
 use Rattle.cstn_check.specs.Growth.{is_refuted, log_of, load_of}
 use Rattle.cstn_check.specs.declared.verdicts.Verdict.{Verdict}
 use Rattle.cstn_check.specs.declared.verdicts.Verdict.TheVariants.{Yes, No, Full as IsFullVerdict}
-use Rattle.cstn_words.specs.Requests.{host}
-use Rattle.cstn_documents.specs.Files.{AreContents, AreThere}
+use Rattle.cstn_request.specs.Requests.{host}
+use Rattle.cstn_request.specs.Files.{AreContents, AreThere}
 use Rattle.cstn_reply.specs.Read.{the_said}
 use Rattle.cstn_reply.specs.declared.output.Said.{Said as SaidText}
 use Rattle.cstn_reply.specs.Texts.{Said, say}
@@ -22,22 +22,22 @@ use Rattle.cstn_top.specs.Answers.{Answer, on_verdict}
 use Rattle.cstn_top.specs.commands.Host.{on_documents, on_verdicts, attended, hosted_plan, EachHas, FirstHas}
 use Rattle.cstn_top.specs.Questions.{TellsInstead}
 use Rattle.cstn_top.specs.Meanings.{files_read, RefusedIsThere}
-use Rattle.cstn_documents.specs.Documents.{AreUnlabelled}
+use Rattle.cstn_request.specs.Documents.{AreUnlabelled}
 use Rattle.cstn_reply.specs.Statuses.{status_of}
 use Rattle.cstn_reply.specs.declared.status.Status.{Status}
 use Rattle.cstn_reply.specs.declared.status.Status.TheVariants.{Good as IsGood, Bad as IsBad, Words as IsWords, Document as IsRefusedStatus, Full as IsFullStatus, ReadFault, WriteFault, Memory as NoMemory, Unfinished as IsUnfinished, Script as IsScript, Wide as IsWideStatus}
 use Rattle.cstn_reply.specs.declared.output.Outcome.{Outcome}
 use Rattle.cstn_reply.specs.declared.output.Outcome.TheVariants.{Good, Bad, Words, Document, Full, Unfinished, Script, Wide}
-use Rattle.cstn_documents.proofs.Contents.{none_there}
+use Rattle.cstn_request.proofs.Contents.{none_there}
 use Rattle.cstn_lines.specs.Pieces.{lines_of}
-use Rattle.cstn_documents.specs.Documents.{parts_of, HasNetwork, IsRefused}
-use Rattle.cstn_documents.specs.Documents.{IsSaidPlainly}
+use Rattle.cstn_request.specs.Documents.{parts_of, HasNetwork, IsRefused}
+use Rattle.cstn_request.specs.Documents.{IsSaidPlainly}
 use Rattle.cstn_check.specs.Decisions.{verdict, IsYes, IsNo}
 use Rattle.cstn_check.proofs.Deciding.{Tells, verdict_tells}
-use Rattle.cstn_host.specs.Sessions.{begun, host_turn, host_ending}
-use Rattle.cstn_host.specs.Files.{Named, the_file, yes_lines}
+use Rattle.cstn_run.specs.hosted.Sessions.{begun, host_turn, host_ending}
+use Rattle.cstn_run.specs.hosted.Files.{Named, the_file, yes_lines}
 use Rattle.cstn_top.specs.Begun.{IsRefusedAt}
-use Rattle.cstn_host.proofs.Plays.{IsEnd, plays}
+use Rattle.cstn_run.proofs.hosts.Plays.{IsEnd, plays}
 use Rattle.cstn_top.proofs.Standing.{IsOfDocument as IsNamedNetwork}
 use Rattle.cstn_top.proofs.Comes.{plain_refusal_output}
 use Rattle.cstn_top.proofs.Documents.{document_says, document_talks, document_then}

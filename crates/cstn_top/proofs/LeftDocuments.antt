@@ -10,8 +10,8 @@ use Rattle.std.proofs.lemmas.List.FromFn.{get_or-range_with_len, length-range_wi
 use Rattle.std.proofs.lemmas.List.Filters.{length-filter_both}
 use Rattle.std.proofs.lemmas.List.Kept.{AllPairs-filter}
 use Rattle.std.proofs.lemmas.Option.{slice_get-get_or}
+use Rattle.cstn_facts.proofs.Pairs.{pairs_map}
 use Rattle.cstn_net.specs.Networks.{Constraint, Observes, count}
-use Rattle.cstn_net.proofs.ListLemmas.{pairs_map}
 use Rattle.cstn_text.specs.Names.{AreNames, IsName}
 use Rattle.cstn_lift.specs.Labelled.{Labelled}
 use Rattle.cstn_lift.specs.Completion.{full_label}

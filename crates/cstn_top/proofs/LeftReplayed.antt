@@ -23,12 +23,12 @@ use Rattle.cstn_check.specs.declared.verdicts.Verdict.{Verdict}
 use Rattle.cstn_check.specs.declared.verdicts.Verdict.TheVariants.{Yes, No, Full}
 use Rattle.cstn_check.proofs.Deciding.{Tells, verdict_tells}
 use Rattle.cstn_refute.specs.Texts.{shown}
-use Rattle.cstn_words.specs.Requests.{Asked, replay}
+use Rattle.cstn_request.specs.Requests.{Asked, replay}
 use Rattle.cstn_reply.specs.Texts.{line}
 use Rattle.cstn_reply.specs.Sessions.{Turn, more, last, wrong}
 use Rattle.cstn_reply.specs.Reached.{state_after}
-use Rattle.cstn_documents.specs.Limits.{most_document}
-use Rattle.cstn_documents.specs.Documents.{parts_of, HasLabelled}
+use Rattle.cstn_request.specs.Limits.{most_document}
+use Rattle.cstn_request.specs.Documents.{parts_of, HasLabelled}
 use Rattle.cstn_follow.specs.Following.{Following, begun, left_now, names_left, verdict_now}
 use Rattle.cstn_follow.specs.Hearing.{counted}
 use Rattle.cstn_follow.specs.Questions.{check_after}
@@ -39,8 +39,8 @@ use Rattle.cstn_top.specs.Dispatch.{plan_at}
 use Rattle.cstn_top.specs.commands.Replay.{replayed}
 use Rattle.cstn_top.specs.commands.Follow.{heard_turn, follow_turn}
 use Rattle.cstn_top.proofs.FollowedDocuments.{small_numbers}
-use Rattle.cstn_top.proofs.FollowedPoints.{KeepsPoints, lines_keep}
-use Rattle.cstn_top.proofs.FollowedStates.{IsSound, begun_sound, lines_sound}
+use Rattle.cstn_follow.proofs.Points.{KeepsPoints, lines_keep}
+use Rattle.cstn_follow.proofs.States.{IsSound, begun_sound, lines_sound}
 use Rattle.cstn_top.proofs.LeftDocuments.{renumbered, read_back, lowered_same, left_unseen, names_of_left}
 use Rattle.cstn_top.proofs.OneOutput.{OneJudgement}
 use Rattle.cstn_top.proofs.Replayed.{labelled_accepted}
@@ -56,7 +56,7 @@ pub record DocumentsBack : Type 0 where
   pub fit : (m : Labelled) (names : List (List ℕ)) → IsLabelled m → IsWellFormed (lowered m) → IsFit (parts m names)
 
 -- the text of an answer
-abbrev text_of : Turn Following → List ℕ
+abbrev pub text_of : Turn Following → List ℕ
 text_of (more text next) = text
 text_of (last said) = said.text
 text_of wrong = []
@@ -72,6 +72,20 @@ no_load cap load net is = by_tests (nat_lt cap (load_of net)) (is_refuted net (l
     by_tests true b here = absurd (cc)
     by_tests false true here = cc
     by_tests false false here = absurd (cc)
+
+-- the state that lines lead to has names and what is unseen as at the start
+module _ (start s : Following) (keeps : KeepsPoints start s) where
+  pub named_still : AreNamesOf start.network.base start.names → AreNamesOf s.network.base s.names
+  named_still named = record {
+    named = subst AreNames (sym keeps.names) named.named;
+    each = ap length keeps.names ∙ named.each ∙ sym (ap length keeps.observes);
+    origin = ap (λ (ns : List (List ℕ)). slice_get ns 0) keeps.names ∙ named.origin;
+  }
+
+  pub unseen_still : AreUnseen start.network.base → AreUnseen s.network.base
+  unseen_still unseen p none =
+      ap (λ (f : ℕ → ℕ). f p) keeps.reaction
+      ∙ unseen p (λ x o. none x (record { what = ap (λ (os : List (Option ℕ)). slice_index_or os x None) keeps.observes ∙ o.what }))
 
 module _ (one : OneJudgement) (no_text : NoAccepted) (backs : DocumentsBack) where
   -- a labelled network whose lowered network has none but small ids, after a no
@@ -112,8 +126,8 @@ module _ (one : OneJudgement) (no_text : NoAccepted) (backs : DocumentsBack) whe
       → IsAccepted (plan_at (replay asked file) (bytes ∷ text ∷ []))
   refutation_passes cap names m lines s t u load text bytes file asked good few named unseen capped leads refuted checked left_is short plain =
       let begins = begun_sound cap names m good few named.each in
-      let sound = lines_sound (begun cap names m) s 0 lines begins leads in
-      let keeps = lines_keep (begun cap names m) s 0 lines begins leads in
+      let sound = lines_sound canonical (begun cap names m) s 0 lines begins leads in
+      let keeps = lines_keep canonical (begun cap names m) s 0 lines begins leads in
       let said : text_of (follow_turn s (codes "check")) ≡ shown (names_left s) load (part (log_of (lowered (left_now s)))) ++ line (codes "end") =
       ap (λ (v : Verdict). text_of (heard_turn (check_after (counted s) v))) refuted in
       let text_is : shown (names_left s) load (part (log_of (lowered (left_now s)))) ≡ text =
@@ -121,17 +135,5 @@ module _ (one : OneJudgement) (no_text : NoAccepted) (backs : DocumentsBack) whe
       let bytes_are : canonical (left_now s) (names_left s) ≡ bytes = ap text_of left_is in
       subst (λ (b : List ℕ). IsAccepted (plan_at (replay asked file) (b ∷ text ∷ []))) bytes_are
       (subst (λ (x : List ℕ). IsAccepted (plan_at (replay asked file) (canonical (left_now s) (names_left s) ∷ x ∷ []))) text_is
-      (left_passes s load file sound (named_still s keeps) (unseen_still s keeps) (subst (λ (c : ℕ). c ≤ most_load) (sym keeps.cap) capped) refuted
+      (left_passes s load file sound (named_still (begun cap names m) s keeps named) (unseen_still (begun cap names m) s keeps unseen) (subst (λ (c : ℕ). c ≤ most_load) (sym keeps.cap) capped) refuted
       (subst (λ (b : List ℕ). length b ≤ most_document) (sym bytes_are) short) asked plain))
-    where
-      named_still : (s : Following) → KeepsPoints (begun cap names m) s → AreNamesOf s.network.base s.names
-      named_still s keeps = record {
-        named = subst AreNames (sym keeps.names) named.named;
-        each = ap length keeps.names ∙ named.each ∙ sym (ap length keeps.observes);
-        origin = ap (λ (ns : List (List ℕ)). slice_get ns 0) keeps.names ∙ named.origin;
-      }
-
-      unseen_still : (s : Following) → KeepsPoints (begun cap names m) s → AreUnseen s.network.base
-      unseen_still s keeps p none =
-          ap (λ (f : ℕ → ℕ). f p) keeps.reaction
-          ∙ unseen p (λ x o. none x (record { what = ap (λ (os : List (Option ℕ)). slice_index_or os x None) keeps.observes ∙ o.what }))

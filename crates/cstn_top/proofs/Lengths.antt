@@ -72,13 +72,13 @@ bound_short names b are inside low high =
     within : (whole n v l : ℕ) → whole ≡ n + v + l + 2 → n ≤ 192 → v ≤ 7 → l ≤ 104 → whole ≤ 305
     within whole n v l is a b c = omega arith
 
-bounds_short : (names : List (List ℕ)) (bounds : List Bound) → AreNames names → All (IsWrittenBound names) bounds → length (printed_bounds names bounds) ≤ 312 * length bounds
-bounds_short names [] are all = omega arith
-bounds_short names (b ∷ bounds) are all =
+bounds_short : (names : List (List ℕ)) (k : ℕ) (bounds : List Bound) → AreNames names → All (IsWrittenBound names) bounds → length (printed_bounds names k bounds) ≤ 312 * length bounds
+bounds_short names k [] are all = omega arith
+bounds_short names k (b ∷ bounds) are all =
     let here = All-get_or (IsWrittenBound names) (b ∷ bounds) 0 b (omega arith) all in
-    within (length (printed_bounds names (b ∷ bounds))) (length (printed_bound names b)) (length (printed_bounds names bounds)) (length bounds)
-    (front_part (codes "bound ") (printed_bound names b) (printed_bounds names bounds) 10)
-    (bound_short names b are here.node here.low here.high) (bounds_short names bounds are (All-tail (IsWrittenBound names) b bounds all))
+    within (length (printed_bounds names k (b ∷ bounds))) (length (printed_bound names b)) (length (printed_bounds names (k + 1) bounds)) (length bounds)
+    (front_part (codes "bound ") (printed_bound names b) (printed_bounds names (k + 1) bounds) 10)
+    (bound_short names b are here.node here.low here.high) (bounds_short names (k + 1) bounds are (All-tail (IsWrittenBound names) b bounds all))
   where
     within : (whole l r n : ℕ) → whole ≡ 6 + l + r + 1 → l ≤ 305 → r ≤ 312 * n → whole ≤ 312 * suc n
     within whole l r n is a b = omega arith
@@ -86,9 +86,9 @@ bounds_short names (b ∷ bounds) are all =
 -- a text of bounds isn't too long
 pub bounds_text_short : (names : List (List ℕ)) (load : ℕ) (bounds : List Bound) → AreNames names → AreWrittenBounds names load bounds → length (shown_bounds names load bounds) ≤ most_text
 bounds_text_short names load bounds are written =
-    within (length (shown_bounds names load bounds)) (length (printed_number load)) (length (printed_bounds names bounds)) (length bounds)
-    (front_part (codes "yes ") (printed_number load) (printed_bounds names bounds) 10)
-    (load_short load written.load_high) (bounds_short names bounds are written.each) written.few
+    within (length (shown_bounds names load bounds)) (length (printed_number load)) (length (printed_bounds names 0 bounds)) (length bounds)
+    (front_part (codes "yes ") (printed_number load) (printed_bounds names 0 bounds) 10)
+    (load_short load written.load_high) (bounds_short names 0 bounds are written.each) written.few
   where
     load_short : (load : ℕ) → load ≤ most_load → length (printed_number load) ≤ 7
     load_short load most = length-decimal-le 7 load (omega arith) (omega arith) (omega arith)

@@ -30,12 +30,6 @@ pub mod Preparing
 -- Sessions that follow.
 pub mod FollowedDocuments
 pub mod FollowedLines
-pub mod FollowedFacts
-pub mod FollowedStates
-pub mod FollowedPoints
-pub mod FollowedPlans
-pub mod FollowedAnswers
-pub mod FollowedRefusals
 -- What is proved of each request.
 pub mod EvidenceLemmas
 pub mod Dispatched
@@ -58,3 +52,4 @@ pub mod OneOutput
 pub mod Replayed
 pub mod LeftDocuments
 pub mod LeftReplayed
+pub mod LeftChecked

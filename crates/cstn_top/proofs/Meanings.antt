@@ -15,7 +15,7 @@ use Rattle.cstn_reply.specs.Texts.{Said, say}
 use Rattle.cstn_top.specs.Plans.{says, IsOutput, MayTalk}
 use Rattle.cstn_top.specs.Answers.{Answer, on_document, on_verdict, by_text}
 use Rattle.cstn_top.specs.Verdicts.{IsLabelledYes, IsLabelledNo, IsLabelledDecided}
-use Rattle.cstn_documents.specs.Documents.{AreUnlabelled, parts_of, HasNetwork, IsRefused}
+use Rattle.cstn_request.specs.Documents.{AreUnlabelled, parts_of, HasNetwork, IsRefused}
 use Rattle.cstn_reply.specs.Sessions.{script}
 use Rattle.cstn_lift.specs.Labelled.{Labelled}
 use Rattle.cstn_lift.specs.Lowered.{lowered}
@@ -77,26 +77,6 @@ verdicts_labelled cap m Document same is = is
 verdicts_labelled cap m Unfinished same is = is
 verdicts_labelled cap m Script same is = is
 verdicts_labelled cap m Wide same is = is
-
--- what the outcome of a search over several logs tells of a network, where `full` tells whether one of the logs was too long
-abbrev pub Finds : Bool → Network → Outcome → Type 0
-Finds full net Good = IsConsistent net × (full ≡ false)
-Finds full net Bad = IsConsistent net → ⊥
-Finds full net Full = full ≡ true
-Finds full net Words = ⊥
-Finds full net Document = ⊥
-Finds full net Unfinished = ⊥
-Finds full net Script = ⊥
-Finds full net Wide = ⊥
-
-pub search_says : (full ok : Bool) (net : Network) (one two three live : List ℕ) (said : Said) → IsWellFormed net → is_consistent net ≡ ok → said ≡ (if full then record { outcome = Full; text = one } else if ok then record { outcome = Good; text = two } else record { outcome = Bad; text = three }) → Finds full net said.outcome
-search_says true ok net one two three live said good is output = subst (Finds true net) (sym (ap (λ (s : Said). s.outcome) output)) refl
-search_says false true net one two three live said good is output = subst (Finds false net) (sym (ap (λ (s : Said). s.outcome) output)) ((decided net good).0 is, refl)
-search_says false false net one two three live said good is output =
-    subst (Finds false net) (sym (ap (λ (s : Said). s.outcome) output)) (λ consistent. differ ((decided net good).1 consistent) is)
-  where
-    differ : is_consistent net ≡ true → is_consistent net ≡ false → ⊥
-    differ yes' no' = let same : true ≡ false = sym yes' ∙ no' in let f : ⊥ = cc in f
 
 -- what is said of a document tells what is told of its network
 pub on_network : (answer : Answer) (bytes : List ℕ) (deadline : Option ℕ) (live : List ℕ) (said : Said) (told : Outcome → List (List ℕ) → Network → Type 0) (right : Outcome → Type 0) → (IsRefused bytes deadline → right Document) → ((names : List (List ℕ)) (net : Network) → IsWellFormed net → length names ≡ count net → IsOutput (answer names net) live said → told said.outcome names net) → ((o : Outcome) → HasNetwork bytes deadline (told o) → right o) → IsOutput (on_document answer bytes deadline) live said → right said.outcome

@@ -13,7 +13,7 @@ use Rattle.cstn_tree.specs.Texts.{shown}
 use Rattle.cstn_graphml.specs.Document.{Parts}
 use Rattle.cstn_graphml.specs.Networks.{IsFit, IsUnfit, IsMislabelled}
 use Rattle.cstn_closed.specs.Certificates.{fault_words}
-use Rattle.cstn_documents.specs.Refusals.{fault_text, label_fault_text}
+use Rattle.cstn_request.specs.Refusals.{fault_text, label_fault_text}
 use Rattle.cstn_reply.specs.Texts.{Said, say}
 use Rattle.cstn_top.specs.Plans.{Plan, says, replays, certifies, branches, talks, judges, unlabelled, IsOutput}
 use Rattle.cstn_replay.specs.Texts.{IsReplay}

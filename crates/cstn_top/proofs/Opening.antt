@@ -5,7 +5,7 @@ use Rattle.cstn_net.specs.Networks.{Network}
 use Rattle.cstn_net.specs.Read.{the_network}
 use Rattle.cstn_text.specs.Limits.{most_text}
 use Rattle.cstn_lift.specs.Read.{the_labelled}
-use Rattle.cstn_words.specs.Requests.{Asked, Request, check, run, edit, follow, closed, tight, conflict, tree, save, replay, closedcheck, treecheck, files_of}
+use Rattle.cstn_request.specs.Requests.{Asked, Request, check, run, edit, follow, closed, tight, conflict, tree, save, replay, closedcheck, treecheck, files_of}
 use Rattle.cstn_reply.specs.Texts.{Said, say}
 use Rattle.cstn_reply.specs.Statuses.{status_of}
 use Rattle.cstn_reply.specs.Read.{the_said}
@@ -14,11 +14,11 @@ use Rattle.cstn_reply.specs.declared.output.Outcome.{Outcome}
 use Rattle.cstn_reply.specs.declared.output.Outcome.TheVariants.{Document, Script}
 use Rattle.cstn_reply.specs.declared.status.Status.{Status}
 use Rattle.cstn_reply.specs.declared.status.Status.TheVariants.{Good as IsGood, Bad as IsBad, Words as IsWords, Document as IsRefusedStatus, Full as IsFull, ReadFault, WriteFault, Memory as NoMemory, Unfinished as IsUnfinished, Script as IsScript, Wide as IsWide}
-use Rattle.cstn_documents.specs.Files.{file_at, IsContent, AreContents, AreThere}
-use Rattle.cstn_documents.specs.Opened.{IsFile, IsAsked, IsLabelledOf, IsLoweredOf, IsPlainOf, IsRefusal, IsPlainRefusal, IsTextOf, IsLongText}
-use Rattle.cstn_documents.specs.declared.reading.NamedNetwork.{NamedNetwork}
-use Rattle.cstn_documents.specs.declared.reading.NamedLabelled.{NamedLabelled}
-use Rattle.cstn_documents.proofs.Contents.{one_content, two_contents, some_content, none_there, two_there}
+use Rattle.cstn_request.specs.Files.{file_at, IsContent, AreContents, AreThere}
+use Rattle.cstn_request.specs.Opened.{IsFile, IsAsked, IsLabelledOf, IsLoweredOf, IsPlainOf, IsRefusal, IsPlainRefusal, IsTextOf, IsLongText}
+use Rattle.cstn_request.specs.declared.reading.NamedNetwork.{NamedNetwork}
+use Rattle.cstn_request.specs.declared.reading.NamedLabelled.{NamedLabelled}
+use Rattle.cstn_request.proofs.Contents.{one_content, two_contents, some_content, none_there, two_there}
 use Rattle.cstn_top.specs.Plans.{Plan, says, IsOutput, ComesTo}
 use Rattle.cstn_top.specs.Answers.{Answer, LabelledAnswer, of_plain, of_lowered, on_labelled, by_text}
 use Rattle.cstn_top.specs.commands.Check.{checked}

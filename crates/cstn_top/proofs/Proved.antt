@@ -2,7 +2,7 @@
 use Rattle.std.proofs.Common.{◌≡◌, ℕ, List}
 use Rattle.std.specs.Prelude.{Option}
 use Rattle.cstn_io.specs.Contents.{IsAllOf, with_bytes}
-use Rattle.cstn_words.specs.Requests.{Request}
+use Rattle.cstn_request.specs.Requests.{Request}
 use Rattle.cstn_reply.specs.Texts.{Said}
 use Rattle.cstn_top.specs.Plans.{IsOutput, MayTalk, ComesTo}
 use Rattle.cstn_top.specs.Dispatch.{plan_at, command_of}

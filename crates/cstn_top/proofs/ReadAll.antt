@@ -6,19 +6,19 @@ use Rattle.std.proofs.lemmas.List.{length-map, map-append}
 use Rattle.std.proofs.Math.Seq.{get_or-append_seam}
 use Rattle.std.proofs.lemmas.List.Folds.{list_all-append}
 use Rattle.std.proofs.lemmas.List.Elements.{All-append, All-cons, All-nil}
-use Rattle.cstn_words.specs.Requests.{Asked}
-use Rattle.cstn_documents.specs.Files.{file_at, AreContents, AreThere}
+use Rattle.cstn_request.specs.Requests.{Asked}
+use Rattle.cstn_request.specs.Files.{file_at, AreContents, AreThere}
 use Rattle.cstn_top.specs.Plans.{Plan, says, ComesTo}
 use Rattle.cstn_top.specs.Answers.{Answer}
 use Rattle.cstn_top.specs.commands.Host.{on_documents}
 use Rattle.cstn_reply.specs.Read.{the_said}
 use Rattle.cstn_reply.specs.declared.output.Said.{Said as SaidText}
-use Rattle.cstn_documents.proofs.Contents.{some_contents, one_content, none_there}
-use Rattle.cstn_documents.specs.Opened.{IsAsked, IsPlainOf, IsPlainRefusal}
-use Rattle.cstn_documents.specs.Documents.{IsSaidPlainly}
+use Rattle.cstn_request.proofs.Contents.{some_contents, one_content, none_there}
+use Rattle.cstn_request.specs.Opened.{IsAsked, IsPlainOf, IsPlainRefusal}
+use Rattle.cstn_request.specs.Documents.{IsSaidPlainly}
 use Rattle.cstn_top.proofs.Comes.{comes_itself, comes_through, accepted_comes, told_comes}
-use Rattle.cstn_documents.specs.declared.reading.NamedNetwork.{NamedNetwork}
-use Rattle.cstn_host.specs.Files.{Named}
+use Rattle.cstn_request.specs.declared.reading.NamedNetwork.{NamedNetwork}
+use Rattle.cstn_run.specs.hosted.Files.{Named}
 use Rattle.std.specs.List.{All}
 use Rattle.cstn_top.specs.Begun.{the_named, HasRead, IsRefusedAt, IsSound}
 

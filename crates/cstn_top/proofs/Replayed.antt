@@ -5,9 +5,9 @@ use Rattle.cstn_net.specs.Limits.{most_load}
 use Rattle.cstn_element.specs.Results.{Refusal as DocumentRefusal}
 use Rattle.cstn_graphml.specs.Document.{Parts, document}
 use Rattle.cstn_graphml.specs.Networks.{labelled_of, IsFit}
-use Rattle.cstn_words.specs.Requests.{Asked, check, run, closed, replay, closedcheck}
+use Rattle.cstn_request.specs.Requests.{Asked, check, run, closed, replay, closedcheck}
 use Rattle.cstn_reply.specs.Texts.{Said, say}
-use Rattle.cstn_documents.specs.Limits.{most_document}
+use Rattle.cstn_request.specs.Limits.{most_document}
 use Rattle.cstn_top.specs.Plans.{Plan, says, judges, IsOutput}
 use Rattle.cstn_top.specs.Answers.{LabelledAnswer, of_lowered, judged, on_labelled, by_text}
 use Rattle.cstn_top.specs.commands.Check.{checked}
@@ -20,7 +20,7 @@ use Rattle.cstn_top.specs.Dispatch.{plan_at}
 use Rattle.cstn_reply.specs.Statuses.{status_of}
 use Rattle.cstn_reply.specs.declared.output.Outcome.{Outcome}
 use Rattle.cstn_reply.specs.declared.output.Outcome.TheVariants.{Good, Bad, Document}
-use Rattle.cstn_documents.specs.Documents.{parts_of, HasLabelled}
+use Rattle.cstn_request.specs.Documents.{parts_of, HasLabelled}
 use Rattle.cstn_top.proofs.Standing.{YesAccepted, NoAccepted}
 use Rattle.cstn_top.proofs.records.Check.{check_proved}
 use Rattle.cstn_top.proofs.records.Run.{run_proved}

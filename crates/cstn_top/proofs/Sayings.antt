@@ -9,12 +9,14 @@ use Rattle.cstn_refute.specs.Texts.{Told as ToldSteps, tells as tells_steps, wro
 use Rattle.cstn_replay.specs.Texts.{IsReplayOfSteps, IsReplayOf}
 use Rattle.cstn_closed.specs.Texts.{Told as ToldBounds, tells as tells_bounds, wrong as wrong_bound, told as told_bounds}
 use Rattle.cstn_closed.specs.Certificates.{IsCertificateOfBounds, IsCertificateOf}
+use Rattle.cstn_tight.specs.Texts.{tightened as tightened_text}
 use Rattle.cstn_tree.specs.Unfolded.{observed, wide, IsTreeUnless, IsUnfolded}
 use Rattle.cstn_reply.specs.Texts.{Said, say}
 use Rattle.cstn_reply.specs.declared.output.Outcome.TheVariants.{Script}
 use Rattle.cstn_top.specs.Plans.{Plan, says, branches, IsOutput}
 use Rattle.cstn_top.specs.Answers.{Answer, by_text, unless_said, on_verdict}
 use Rattle.cstn_top.specs.commands.Check.{checked}
+use Rattle.cstn_top.specs.commands.Tight.{tightened}
 use Rattle.cstn_top.specs.commands.Tree.{unfolded}
 use Rattle.cstn_top.specs.commands.Replay.{replayed_steps, replayed}
 use Rattle.cstn_top.specs.commands.Closedcheck.{certified_bounds, certified}
@@ -25,6 +27,9 @@ said_or (Some other) said = refl
 
 pub check_says : (cap : ℕ) (names : List (List ℕ)) (net : Network) → says (checked_text cap names net) ≡ checked cap names net
 check_says cap names net = said_or (unless_yes cap names net (verdict cap net)) _
+
+pub tight_says : (cap : ℕ) (names : List (List ℕ)) (net : Network) → says (tightened_text cap names net) ≡ tightened cap names net
+tight_says cap names net = said_or (unless_yes cap names net (verdict cap net)) _
 
 pub tree_says : (cap : ℕ) (names : List (List ℕ)) (net : Network) (said : Said) → IsUnfolded cap names net said → (live : List ℕ) → IsOutput (unfolded cap names net) live said
 tree_says cap names net said (inl (many, is)) live = subst (λ (p : Plan). IsOutput p live said) (sym (beyond 10 (observed net) (says (wide net)) (on_verdict cap names net (branches names (load_of net) (live_bounds (log_of net)) net) (verdict cap net)) many)) is

@@ -9,10 +9,11 @@ use Rattle.cstn_label.specs.Bounds.{Bound}
 use Rattle.cstn_net.specs.Networks.{Network, count, limit}
 use Rattle.cstn_rules.specs.Closed.{IsCovered, IsClosed}
 use Rattle.cstn_rules.specs.Rules.{base}
-use Rattle.cstn_check.specs.Tests.{dominates}
-use Rattle.cstn_check.proofs.Decided.{Small, dominates_true, true_dominates}
+use Rattle.cstn_label.specs.Tests.{dominates}
+use Rattle.cstn_check.proofs.Decided.{dominates_true, true_dominates}
 use Rattle.cstn_closed.specs.Faults.{Fault, bad, no_base, no_chain, no_wait, kind, place, other, IsFit, IsFault, IsBefore, IsFirstFault, IsFaultless}
 use Rattle.cstn_closed.proofs.FaultLemmas.{faultless_closed}
+use Rattle.cstn_label.specs.OnLetters.{IsOnLetters}
 
 -- ---- faults in their order
 
@@ -110,7 +111,7 @@ contained_later : (b : Bound) (bounds : List Bound) (x : Bound) → Contains bou
 contained_later b bounds x has = (suc has.0, let inside = has.1 in omega (arith, inside), has.2)
 
 -- a list whose labels mark the letters alone covers a bound, or it doesn't
-covers_or : (bounds : List Bound) → ((b : Bound) → Contains bounds b → Small b.label) → (r : Bound) → IsCovered bounds r ⊎ (IsCovered bounds r → ⊥)
+covers_or : (bounds : List Bound) → ((b : Bound) → Contains bounds b → IsOnLetters b.label) → (r : Bound) → IsCovered bounds r ⊎ (IsCovered bounds r → ⊥)
 covers_or [] small r = inr (λ covered. let inside = covered.in_list.1 in omega (arith, inside))
 covers_or (b ∷ bounds) small r = elim (cases_Bool (dominates b r)) [
   | inl is ↦ inl (record { by = b; in_list = (0, omega arith, refl); dominates = true_dominates b r (small b (0, omega arith, refl)) is })
@@ -126,7 +127,7 @@ covers_or (b ∷ bounds) small r = elim (cases_Bool (dominates b r)) [
 -- ---- lists without a fault
 
 -- a list without a fault is closed, where its labels mark the letters alone
-pub faultless_is_closed : (net : Network) (bounds : List Bound) → ((b : Bound) → Contains bounds b → Small b.label) → IsFaultless net bounds → IsClosed net bounds
+pub faultless_is_closed : (net : Network) (bounds : List Bound) → ((b : Bound) → Contains bounds b → IsOnLetters b.label) → IsFaultless net bounds → IsClosed net bounds
 faultless_is_closed net bounds small none = faultless_closed net bounds
     (λ b has. fits net b (λ unfit. none (bad has.0) (b, there b has, unfit)))
     (λ x inside. covers (base x) (λ uncovered. none (no_base x) (inside, uncovered)))

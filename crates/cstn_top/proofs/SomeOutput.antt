@@ -39,9 +39,9 @@ use Rattle.cstn_tree.specs.Made.{IsTreeOf}
 use Rattle.cstn_tree.specs.Good.{IsUnbroken}
 use Rattle.cstn_tree.specs.Texts.{Told as ToldTree, tells as tells_tree, wrong as wrong_tree, told as told_tree, shown as shown_tree}
 use Rattle.cstn_tree.specs.Written.{AreWritten as IsWrittenTree}
-use Rattle.cstn_words.specs.Requests.{tree}
+use Rattle.cstn_request.specs.Requests.{tree}
 use Rattle.cstn_reply.specs.Texts.{Said, say, yes_line}
-use Rattle.cstn_documents.specs.Limits.{most_document}
+use Rattle.cstn_request.specs.Limits.{most_document}
 use Rattle.cstn_top.specs.Plans.{Plan, says, replays, branches, IsOutput, session}
 use Rattle.cstn_top.specs.Answers.{Answer, LabelledAnswer, of_plain, judged, on_labelled, on_document, on_verdict, by_text}
 use Rattle.cstn_top.specs.commands.Replay.{replayed, replayed_steps}
@@ -57,8 +57,8 @@ use Rattle.cstn_top.proofs.Standing.{IsOfDocument}
 use Rattle.cstn_tree.specs.Unfolded.{observed}
 use Rattle.cstn_exec.specs.Guides.{begun}
 use Rattle.cstn_run.specs.Sessions.{guide_turn, guide_ending}
-use Rattle.cstn_host.specs.Sessions.{begun as begun_host, host_turn, host_ending}
-use Rattle.cstn_host.specs.Files.{Named, the_file, yes_lines}
+use Rattle.cstn_run.specs.hosted.Sessions.{begun as begun_host, host_turn, host_ending}
+use Rattle.cstn_run.specs.hosted.Files.{Named, the_file, yes_lines}
 use Rattle.cstn_top.proofs.Documents.{of_network}
 use Rattle.cstn_top.proofs.SomeFault.{faultless, faultless_is_closed}
 use Rattle.cstn_plan.specs.Asked.{asked}

@@ -11,8 +11,8 @@ use Rattle.cstn_check.specs.Decisions.{unless_yes}
 use Rattle.cstn_check.specs.declared.verdicts.Verdict.{Verdict}
 use Rattle.cstn_reply.specs.Texts.{Said, say}
 use Rattle.cstn_reply.specs.declared.output.Outcome.TheVariants.{Document, Script}
-use Rattle.cstn_documents.specs.Limits.{most_document}
-use Rattle.cstn_documents.specs.Refusals.{refusal_text}
+use Rattle.cstn_request.specs.Limits.{most_document}
+use Rattle.cstn_request.specs.Refusals.{refusal_text}
 use Rattle.cstn_top.specs.Plans.{Plan, says, judges, unlabelled}
 
 -- what is said of a network under the names of its time-points

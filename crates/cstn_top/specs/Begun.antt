@@ -2,17 +2,17 @@
 use Rattle.std.specs.Prelude.{◌≡◌, ℕ, suc, List, [], ◌++◌, length, map, take, get_or, Option}
 use Rattle.cstn_net.specs.Networks.{IsWellFormed, count}
 use Rattle.cstn_net.specs.Read.{the_network}
-use Rattle.cstn_documents.specs.Files.{AreContents, AreThere}
+use Rattle.cstn_request.specs.Files.{AreContents, AreThere}
 use Rattle.cstn_reply.specs.Texts.{Said}
 use Rattle.cstn_top.specs.Plans.{Plan, says, ComesTo}
 use Rattle.cstn_top.specs.commands.Host.{on_documents, on_verdicts}
-use Rattle.cstn_documents.specs.Documents.{IsSaidPlainly}
+use Rattle.cstn_request.specs.Documents.{IsSaidPlainly}
 use Rattle.cstn_reply.specs.Read.{the_said}
 use Rattle.cstn_reply.specs.declared.output.Outcome.TheVariants.{Document}
-use Rattle.cstn_host.specs.Sessions.{begun as begun_session}
-use Rattle.cstn_host.specs.Files.{Named, the_file, yes_lines}
-use Rattle.cstn_host.specs.SessionRead.{the_names, the_files, the_host_session, IsHostSession}
-use Rattle.cstn_documents.specs.declared.reading.NamedNetwork.{NamedNetwork}
+use Rattle.cstn_run.specs.hosted.Sessions.{begun as begun_session}
+use Rattle.cstn_run.specs.hosted.Files.{Named, the_file, yes_lines}
+use Rattle.cstn_run.specs.hosted.SessionRead.{the_names, the_files, the_host_session, IsHostSession}
+use Rattle.cstn_request.specs.declared.reading.NamedNetwork.{NamedNetwork}
 use Rattle.cstn_reply.specs.declared.output.Said.{Said as SaidText}
 use Rattle.cstn_top.specs.declared.commands.Prepared.{Prepared}
 use Rattle.cstn_top.specs.declared.commands.Prepared.TheVariants.{Says, Runs, Edits, Follows, Hosts}

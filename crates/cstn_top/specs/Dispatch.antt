@@ -1,6 +1,6 @@
 -- The command of each request, and its plan.
 use Rattle.std.specs.Prelude.{ℕ, List, Option, None, Some, codes}
-use Rattle.cstn_words.specs.Requests.{Request, check, run, edit, follow, closed, tight, conflict, tree, save, replay, closedcheck, treecheck, drill, host, version}
+use Rattle.cstn_request.specs.Requests.{Request, check, run, edit, follow, closed, tight, conflict, tree, save, replay, closedcheck, treecheck, drill, host, version}
 use Rattle.cstn_reply.specs.Texts.{say}
 use Rattle.cstn_reply.specs.declared.output.Outcome.TheVariants.{Words}
 use Rattle.cstn_top.specs.Plans.{Plan, says}

@@ -13,20 +13,20 @@ use Rattle.cstn_graphml.specs.Document.{Parts, document}
 use Rattle.cstn_graphml.specs.Networks.{labelled_of, IsFit}
 use Rattle.cstn_check.specs.Growth.{load_of}
 use Rattle.cstn_exec.specs.Sound.{AgreesHanded}
-use Rattle.cstn_words.specs.Requests.{Asked, Request, check, run, edit, replay, files_of}
+use Rattle.cstn_request.specs.Requests.{Asked, Request, check, run, edit, replay, files_of}
 use Rattle.cstn_reply.specs.Written.{LiveState}
-use Rattle.cstn_documents.specs.Limits.{most_document}
+use Rattle.cstn_request.specs.Limits.{most_document}
 use Rattle.cstn_top.specs.Plans.{Ends}
 use Rattle.cstn_top.specs.Dispatch.{command_of, plan_at}
 use Rattle.cstn_top.specs.Meanings.{IsStopped}
 use Rattle.cstn_top.specs.commands.Run.{run_bounds}
-use Rattle.cstn_documents.specs.Documents.{AreEmpty}
-use Rattle.cstn_documents.specs.Files.{file_at}
+use Rattle.cstn_request.specs.Documents.{AreEmpty}
+use Rattle.cstn_request.specs.Files.{file_at}
 use Rattle.cstn_reply.specs.declared.status.Status.{Status}
 use Rattle.cstn_reply.specs.declared.status.Status.TheVariants.{Good, Bad, Full, Script}
 use Rattle.cstn_run.specs.Meanings.{end_of, WasNamed}
-use Rattle.cstn_top.specs.EditSessions.{network_after, IsNoCheck}
-use Rattle.cstn_top.specs.Told.{IsToldOf}
+use Rattle.cstn_change.specs.ChangeLines.{network_after}
+use Rattle.cstn_top.specs.EditSessions.{IsNoCheck}
 
 -- the bytes are a document with the deadline that is asked for, and its parts make a labelled network
 pub record Document : Type 0 where
@@ -57,7 +57,8 @@ abbrev pub edited : Document → List (List ℕ) → Network
 edited d edits = network_after d.parts.names (network d).base edits
 
 -- A call answered a request whose files have these contents: it wrote the text after the bytes `old` and ended with the status,
--- and neither a fault nor want of memory stopped it. The live source has the bytes `live`. `IsCall` says it of a call of `run`.
+-- and neither a fault nor want of memory stopped it. The cap of the request is in range, and the live source has the bytes
+-- `live`. `IsCall` says it of a call of `run`.
 pub record Call (request : Request) (contents : List (List ℕ)) : Type 0 where
   pub live : List ℕ
   pub status : Status
@@ -66,7 +67,7 @@ pub record Call (request : Request) (contents : List (List ℕ)) : Type 0 where
   pub after : LiveState
   pub old : List ℕ
   pub output : Ends (plan_at request contents) before after (Some old) (Some (old ++ text)) status
-  pub told : IsToldOf before (Some old) (Some (old ++ text)) status contents (command_of request)
+  pub ranged : (command_of request).ranged
   pub live_is : before.left ≡ Some live
   pub unstopped : IsStopped status → ⊥
 

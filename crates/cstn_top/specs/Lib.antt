@@ -16,8 +16,6 @@ pub mod Told
 pub mod EditSessions
 pub mod Headline
 pub mod LabelledDeadlines
-pub mod FollowedPlans
-pub mod FollowedAnswers
 -- What is asked on the way to an answer.
 pub mod Prepared
 pub mod Begun

@@ -1,7 +1,7 @@
 -- How a call with a request ends.
 use Rattle.std.specs.Prelude.{◌≡◌, ◌⊎◌, ℕ, List, [], take, Option, None, Some}
-use Rattle.cstn_words.specs.Requests.{Request, files_of}
-use Rattle.cstn_documents.specs.Files.{AreContents}
+use Rattle.cstn_request.specs.Requests.{Request, files_of}
+use Rattle.cstn_request.specs.Files.{AreContents}
 use Rattle.cstn_reply.specs.declared.status.Status.{Status}
 use Rattle.cstn_reply.specs.declared.status.Status.TheVariants.{Good, Bad, Words, Document, Full, ReadFault, WriteFault, Memory, Unfinished, Script, Wide}
 use Rattle.cstn_reply.specs.Reached.{MeetsLine}

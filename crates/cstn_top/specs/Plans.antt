@@ -19,8 +19,8 @@ use Rattle.cstn_reply.specs.declared.output.Outcome.TheVariants.{Document}
 use Rattle.cstn_replay.specs.Texts.{IsReplay}
 use Rattle.cstn_closed.specs.Certificates.{IsCertificate}
 use Rattle.cstn_tree.specs.Unfolded.{IsTreeText}
-use Rattle.cstn_documents.specs.Refusals.{fault_text, label_fault_text}
-use Rattle.cstn_documents.specs.Documents.{AreEmpty}
+use Rattle.cstn_request.specs.Refusals.{fault_text, label_fault_text}
+use Rattle.cstn_request.specs.Documents.{AreEmpty}
 
 -- What a request says: a text and no more; what the replay of steps on a network says; what the check of a list of bounds says,
 -- under the names of the time-points; the tree of a network, by a load and bounds; an opening and then a session over the lines

@@ -1,7 +1,7 @@
 -- What is prepared for a request.
 use Rattle.std.specs.Prelude.{true, false, ◌≡◌, ℕ, List, [], Option, Some}
-use Rattle.cstn_words.specs.Requests.{Request, files_of}
-use Rattle.cstn_documents.specs.Files.{AreContents, AreThere}
+use Rattle.cstn_request.specs.Requests.{Request, files_of}
+use Rattle.cstn_request.specs.Files.{AreContents, AreThere}
 use Rattle.cstn_reply.specs.Texts.{Said}
 use Rattle.cstn_reply.specs.Read.{the_said}
 use Rattle.cstn_reply.specs.Statuses.{status_of}
@@ -10,8 +10,8 @@ use Rattle.cstn_reply.specs.Reached.{heard, MeetsLine}
 use Rattle.cstn_reply.specs.declared.output.Outcome.TheVariants.{Document}
 use Rattle.cstn_run.specs.Sessions.{guided_turn, guided_ending}
 use Rattle.cstn_edit.specs.Editing.{the_editing, edit_turn, edit_wants, edit_ending}
-use Rattle.cstn_host.specs.Sessions.{host_turn, host_wants, host_ending}
-use Rattle.cstn_host.specs.SessionRead.{the_host_session}
+use Rattle.cstn_run.specs.hosted.Sessions.{host_turn, host_wants, host_ending}
+use Rattle.cstn_run.specs.hosted.SessionRead.{the_host_session}
 use Rattle.cstn_follow.specs.Following.{following_ending}
 use Rattle.cstn_follow.specs.Read.{the_following}
 use Rattle.cstn_top.specs.Plans.{Plan, says, ComesTo, IsOutput, session, ended_session}

@@ -5,12 +5,12 @@ use Rattle.cstn_net.specs.Networks.{Constraint}
 use Rattle.cstn_net.specs.Read.{the_network}
 use Rattle.cstn_text.specs.Limits.{most_text}
 use Rattle.cstn_lift.specs.Read.{the_labelled}
-use Rattle.cstn_words.specs.Limits.{most_files}
-use Rattle.cstn_words.specs.Requests.{Request, files_of}
+use Rattle.cstn_request.specs.Limits.{most_files}
+use Rattle.cstn_request.specs.Requests.{Request, files_of}
 use Rattle.cstn_reply.specs.Read.{the_said}
 use Rattle.cstn_reply.specs.declared.output.Said.{Said as SaidText}
-use Rattle.cstn_documents.specs.Files.{AreContents, AreThere}
-use Rattle.cstn_documents.specs.Opened.{AreNamesOf}
+use Rattle.cstn_request.specs.Files.{AreContents, AreThere}
+use Rattle.cstn_request.specs.Opened.{AreNamesOf}
 use Rattle.cstn_top.specs.Plans.{Plan, says, ComesTo}
 use Rattle.cstn_top.specs.commands.Check.{checked}
 use Rattle.cstn_top.specs.commands.Closed.{listed}

@@ -1,12 +1,12 @@
--- What a call tells: all of it of the same contents of the files that its words name.
+-- What a call tells, and what follows of it for its command: all of it of the same contents of the files that its words name.
 use Rattle.std.specs.Prelude.{◌≡◌, ◌⊎◌, ℕ, List, Option, IfSome, String, codes}
 use Rattle.cstn_io.specs.Causes.{Rose}
 use Rattle.cstn_io.specs.Contents.{with_bytes}
-use Rattle.cstn_words.specs.Requests.{Request, names_of}
-use Rattle.cstn_words.specs.Read.{request_in}
-use Rattle.cstn_words.specs.declared.words.Release.{Release}
+use Rattle.cstn_request.specs.Requests.{Request, names_of}
+use Rattle.cstn_request.specs.Read.{request_in}
+use Rattle.cstn_request.specs.declared.words.Release.{Release}
 use Rattle.cstn_reply.specs.Texts.{line}
-use Rattle.cstn_documents.specs.Files.{AreContents}
+use Rattle.cstn_request.specs.Files.{AreContents}
 use Rattle.cstn_reply.specs.Written.{LiveState}
 use Rattle.cstn_top.specs.Plans.{Ends, Untouched}
 use Rattle.cstn_top.specs.Command.{Command}
@@ -36,8 +36,8 @@ Reads release words files = TellsOf release words files ReadsLive
 abbrev pub WroteMemory : {K : Type 0} → (K → Option (List ℕ)) → K → K → Type 0
 WroteMemory written old new = written new ≡ with_bytes (written old) (line (codes "memory"))
 
--- What is told of a command whose files have these contents. The live source was seen as `before`, and what was written goes
--- from `old` to `new`.
+-- What follows for a command whose files have these contents from what was written. The live source was seen as `before`, and what
+-- was written goes from `old` to `new`.
 pub record IsToldOf (before : LiveState) (old new : Option (List ℕ)) (status : Status) (contents : List (List ℕ)) (command : Command) : Type 0 where
   -- Good: the network has a strategy, or what was handed in or asked for is right
   pub good : status ≡ Good → command.good before.left contents
@@ -76,5 +76,5 @@ pub record IsTold {S : Type 0} (words : Option Request) (files : Option (List �
   pub output : Ends (plan_of words contents) (seen source) (seen now) old new status
   -- the live source is as it was, unless the plan comes to a session
   pub untouched : Untouched (plan_of words contents) source now
-  -- where the words are a request, what is told of it
-  pub request : IfSome words (λ request. IsToldOf (seen source) old new status contents (command_of request))
+  -- where the words are a request, its cap is in range
+  pub ranged : IfSome words (λ request. (command_of request).ranged)

@@ -2,8 +2,8 @@
 ghost use Rattle.std.specs.Prelude.{◌≡◌, ◌≤◌, [], IfOk, IsTrue, IsErrOf};
 ghost use Rattle.std.specs.List.{list_all};
 ghost use Rattle.cstn_io.specs.Causes.{Rose};
-ghost use Rattle.cstn_words.specs.Requests.{files_of};
-ghost use Rattle.cstn_words.specs.Read.{the_request};
+ghost use Rattle.cstn_request.specs.Requests.{files_of};
+ghost use Rattle.cstn_request.specs.Read.{the_request};
 ghost use Rattle.cstn_top.specs.Prepared.{the_plan, Planned, FitsKind, TellsRefused};
 ghost use Rattle.cstn_top.specs.Questions.{kind_at};
 
@@ -19,13 +19,11 @@ mod several;
 mod version;
 
 use answers::answer;
-use cstn_documents::Unread;
 use cstn_edit::Editing;
-use cstn_host::HostSession;
 use cstn_io::Shelf;
 use cstn_reply::{Refused, Said};
-use cstn_run::RunSession;
-use cstn_words::Request;
+use cstn_request::{Request, Unread};
+use cstn_run::{HostSession, RunSession};
 use follow::Follower;
 use questions::ask;
 use std::alloc::Global;

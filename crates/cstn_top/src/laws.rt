@@ -1,27 +1,22 @@
-// Laws of edit sessions and of sessions that follow, of the least deadlines of labelled networks, of outputs and of evidence. The
-// calls do nothing: their contracts are the laws.
-ghost use Rattle.std.specs.Prelude.{ℕ, ◌≡◌, ◌<◌, ◌≤◌, ◌↔◌, ◌⊎◌, ◌+◌, ◌^◌, ◌++◌, List, [], ◌∷◌, length, None, Some, codes, false};
+// Laws of edit sessions, of the least deadlines of labelled networks, of outputs and of evidence. The calls do nothing: their
+// contracts are the laws.
+ghost use Rattle.std.specs.Prelude.{ℕ, ◌≡◌, ◌<◌, ◌≤◌, ◌↔◌, ◌+◌, ◌^◌, ◌++◌, List, [], ◌∷◌, length, None, Some, codes, false};
 ghost use Rattle.std.specs.List.{All};
 ghost use Rattle.cstn_net.specs.Limits.{most_constraints, most_load};
 ghost use Rattle.cstn_net.specs.Networks.{Network, Constraint, IsWellFormed, Observes, count};
 ghost use Rattle.cstn_lines.specs.Pieces.{is_past};
-ghost use Rattle.cstn_text.specs.Names.{number_of};
-ghost use Rattle.cstn_lines.specs.FollowLines.{Follow, follow_read, asks_next, asks_by, asks_blame};
-ghost use Rattle.cstn_check.specs.declared.verdicts.Verdict.{Verdict};
 ghost use Rattle.cstn_check.specs.declared.verdicts.Verdict.TheVariants.{No};
 ghost use Rattle.cstn_save.specs.ReadBack.{AreNamesOf};
-ghost use Rattle.cstn_next.specs.Next.{IsAllDone};
-ghost use Rattle.cstn_follow.specs.Following.{Following, begun, verdict_now, is_any_open};
-ghost use Rattle.cstn_follow.specs.Hearing.{counted};
+ghost use Rattle.cstn_follow.specs.Following.{Following, begun, verdict_now};
 ghost use Rattle.cstn_edit.specs.Editing.{Editing, begun_editing, edit_turn, last_checked};
 ghost use Rattle.cstn_reply.specs.Sessions.{more};
 ghost use Rattle.cstn_reply.specs.Reached.{state_after};
-ghost use Rattle.cstn_documents.specs.Limits.{most_document};
+ghost use Rattle.cstn_request.specs.Limits.{most_document};
 ghost use Rattle.cstn_top.specs.Accepted.{HasIds, IsAccepted};
 ghost use Rattle.cstn_top.specs.Plans.{Plan, IsOutput};
 ghost use Rattle.cstn_top.specs.Lines.{AreAnswered};
 ghost use Rattle.cstn_top.specs.Dispatch.{command_of, plan_at};
-ghost use Rattle.cstn_words.specs.Requests.{Asked, Request, check, run, closed, replay, closedcheck};
+ghost use Rattle.cstn_request.specs.Requests.{Asked, Request, check, run, closed, replay, closedcheck};
 ghost use Rattle.cstn_reply.specs.Texts.{Said, line};
 ghost use Rattle.cstn_reply.specs.declared.output.Outcome.TheVariants.{Good, Bad};
 ghost use Rattle.cstn_lift.specs.Labelled.{Labelled};
@@ -30,10 +25,9 @@ ghost use Rattle.cstn_lift.specs.WellFormed.{IsLabelled};
 ghost use Rattle.cstn_history.specs.Continuations.{Can};
 ghost use Rattle.cstn_tight.specs.Deadlines.{at_deadline, IsLeastDeadline};
 ghost use Rattle.cstn_top.specs.LabelledDeadlines.{labelled_at, IsLabelledLeastDeadline};
-ghost use Rattle.cstn_top.specs.EditSessions.{network_after, AnswersCheck, IsAtLastCheck};
-ghost use Rattle.cstn_top.specs.FollowedPlans.{IsRefusedBy, KeepToNext, KeepGoing};
-ghost use Rattle.cstn_top.specs.FollowedAnswers.{IsReached, Accepts, AnswersNext, AnswersBy, AnswersBlame};
-ghost use Rattle.cstn_top.specs.commands.Follow.{IsFact, IsTrueOf, follow_turn};
+ghost use Rattle.cstn_change.specs.ChangeLines.{network_after};
+ghost use Rattle.cstn_top.specs.EditSessions.{AnswersCheck, IsAtLastCheck};
+ghost use Rattle.cstn_top.specs.commands.Follow.{follow_turn};
 
 use crate::evidence::evidence_is_accepted;
 use cstn_closed::{closed_lists_are_accepted, closed_texts_are_read_back};
@@ -105,45 +99,6 @@ pub fn evidence_passes()
     evidence_is_accepted();
 }
 
-/// In each state that lines lead a session that follows to, the verdict is true: yes is said only where some table continues what has
-/// happened, no only where none does, and that the log is full only where the log of what is left has more entries than it may. A fact
-/// is refused, with nothing changed but the count of lines; or it is in the history then, nothing else is changed, and the answer is the
-/// line of the verdict on what is left then, which is true.
-pub fn followed_verdicts_are_true()
-    ensures states { (s : Following) → IsReached s → IsTrueOf s (verdict_now s) }
-    ensures facts { (s next : Following) (bytes text : List ℕ) (fact : Follow) → IsReached s → follow_read bytes ≡ Some fact → IsFact fact
-        → follow_turn s bytes ≡ more text next → IsRefusedBy s text next ⊎ Accepts s fact text next }
-{}
-
-/// In each state that lines lead a session that follows to, a question changes nothing but the count of lines, and its answer is true.
-/// After yes `next` is answered by `done` where nothing is left, and else by the next moment with exactly the names of the time-points
-/// that are named and the outcomes that are awaited at it; `by`, unless it is refused, by the last moment until which the time-point can
-/// wait. After no `blame` is answered by the ids of constraints by which alone no table continues what has happened, while without any
-/// one of them some table does. That a log is full is said only where that of what is left with the time-point at some moment or later,
-/// or of what is left by some of the constraints alone, has more entries than it may. The lines end with `done` exactly where nothing is
-/// left. And a line that is refused changes nothing but the count of lines.
-pub fn followed_answers_are_true()
-    ensures next { (s t : Following) (bytes text : List ℕ) → IsReached s → follow_read bytes ≡ Some asks_next → follow_turn s bytes ≡ more text t
-        → (t ≡ counted s) × AnswersNext s (verdict_now s) text }
-    ensures by { (s t : Following) (bytes text name : List ℕ) → IsReached s → follow_read bytes ≡ Some (asks_by name)
-        → follow_turn s bytes ≡ more text t → (t ≡ counted s) × AnswersBy s name (number_of s.names name) text }
-    ensures blame { (s t : Following) (bytes text : List ℕ) → IsReached s → follow_read bytes ≡ Some asks_blame → follow_turn s bytes ≡ more text t
-        → (t ≡ counted s) × AnswersBlame s (verdict_now s) text }
-    ensures over { (s : Following) → IsReached s → (is_any_open s ≡ false ↔ IsAllDone s.network s.history) }
-    ensures refused { (s next : Following) (bytes why : List ℕ) → IsReached s
-        → follow_turn s bytes ≡ more (line (codes "refused " ++ why)) next → next ≡ counted s }
-{}
-
-/// Where what has happened can go on, as after yes, whoever does what is named when it is named, tells what is awaited before time passes
-/// it, and lets time pass at most up to the next moment, is never answered no. Each such line is refused, with nothing changed but the
-/// count of lines, or answered with yes, or that the log is full; and after any list of them some table still continues what has
-/// happened.
-pub fn followed_plans_go_on()
-    ensures { (cap : ℕ) (names : List (List ℕ)) (m : Labelled) (before lines : List (List ℕ)) (s : Following) → IsLabelled m
-        → length (lowered m).constraints ≤ most_constraints → length names ≡ count m.base
-        → state_after follow_turn (begun cap names m) 0 before ≡ Some s → Can s.network s.history → KeepToNext s lines → KeepGoing s lines }
-{}
-
 /// After no, the refutation that `check` answers, less its line `end`, passes: `replay` accepts it on the document that `rest` answers
 /// in the same state, where that has at most 8,388,608 bytes. What nothing observes has a reaction of 1 tick, as in each document.
 pub fn followed_refutations_pass()
@@ -156,5 +111,21 @@ pub fn followed_refutations_pass()
 {
     documents_have_one_answer();
     evidence_is_accepted();
+    documents_are_read_back();
+}
+
+/// `check` of the document that `rest` answers says yes only where some table continues what has happened, and no only where none does. What nothing observes has a reaction of 1 tick, as in each document.
+pub fn followed_rests_decide()
+    ensures yes { (cap checks : ℕ) (names : List (List ℕ)) (m : Labelled) (lines : List (List ℕ)) (s u : Following) (bytes live : List ℕ) (asked : Asked)
+        (said : Said) → IsLabelled m → length (lowered m).constraints ≤ most_constraints → AreNamesOf m.base names
+        → ((p : ℕ) → ((x : ℕ) → Observes m.base x p → ⊥) → m.base.reaction p ≡ 1) → state_after follow_turn (begun cap names m) 0 lines ≡ Some s
+        → follow_turn s (codes "rest") ≡ more bytes u → asked.deadline ≡ None → IsOutput (plan_at (check asked checks) (bytes ∷ [])) live said
+        → said.outcome ≡ Good → Can s.network s.history }
+    ensures no { (cap checks : ℕ) (names : List (List ℕ)) (m : Labelled) (lines : List (List ℕ)) (s u : Following) (bytes live : List ℕ) (asked : Asked)
+        (said : Said) → IsLabelled m → length (lowered m).constraints ≤ most_constraints → AreNamesOf m.base names
+        → ((p : ℕ) → ((x : ℕ) → Observes m.base x p → ⊥) → m.base.reaction p ≡ 1) → state_after follow_turn (begun cap names m) 0 lines ≡ Some s
+        → follow_turn s (codes "rest") ≡ more bytes u → asked.deadline ≡ None → IsOutput (plan_at (check asked checks) (bytes ∷ [])) live said
+        → said.outcome ≡ Bad → Can s.network s.history → ⊥ }
+{
     documents_are_read_back();
 }

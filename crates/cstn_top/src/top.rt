@@ -1,21 +1,19 @@
 // The top call.
-ghost use Rattle.std.specs.Prelude.{◌≡◌, ◌≢◌, ◌⊎◌, ◌≤◌, [], IsTrue, IsNone, IfSome, length};
+ghost use Rattle.std.specs.Prelude.{◌≡◌, ◌≢◌, ◌⊎◌, ◌≤◌, [], IsTrue, IsNone, length};
 ghost use Rattle.std.specs.Option.{option_map};
 ghost use Rattle.std.specs.List.{list_all};
-ghost use Rattle.cstn_words.specs.Read.{request_in, named_files};
-ghost use Rattle.cstn_documents.specs.Files.{AreThere};
+ghost use Rattle.cstn_request.specs.Read.{request_in, named_files};
+ghost use Rattle.cstn_request.specs.Files.{AreThere};
 ghost use Rattle.cstn_top.specs.Plans.{Ends, Untouched, MayTalk};
-ghost use Rattle.cstn_top.specs.Dispatch.{command_of};
 ghost use Rattle.cstn_top.specs.Meanings.{files_read, RefusedIsThere, MayStop};
 ghost use Rattle.cstn_top.specs.Prepared.{the_plan, IsLined, MayWant};
 ghost use Rattle.cstn_reply.specs.declared.status.Status.TheVariants.{Words, Document, ReadFault, WriteFault, Memory};
-ghost use Rattle.cstn_top.specs.Told.{view, Failed, TellsOf, Reads, WroteMemory, Answers, IsTold};
+ghost use Rattle.cstn_top.specs.Told.{view, Failed, TellsOf, Reads, WroteMemory, IsTold};
 
 use crate::commands::{Prepared, prepare};
-use crate::evidence::evidence_is_accepted;
 use cstn_io::{Shelf, Sink, Source};
 use cstn_reply::{Refused, Status, converse, finish};
-use cstn_words::{Release, parse};
+use cstn_request::{Release, parse};
 use std::alloc::Global;
 
 /// Answers one request to a program of this release: writes what it says to `out`, and tells how it ended.
@@ -39,36 +37,6 @@ pub fn run<F: Shelf, S: Source, K: Sink>(
         ⊎ (WroteMemory K.written out.old out.new × (live.new ≡ live.old)) }
     ensures words { IsNone (request_in release words.now) → (result ≡ Words) ⊎ (result ≡ WriteFault) }
     ensures words_only { result ≡ Words → IsNone (request_in release words.now) }
-    ensures unnamed_stand { named_files release words.now ≡ [] → shelf.new ≡ shelf.old }
-    ensures names { F.may_ask shelf.new ≡ F.may_ask shelf.old }
-    ensures files { F.files shelf.new ≡ F.files shelf.old }
-    ensures later { (F.faults shelf.old ≤ F.faults shelf.new) × (S.faults live.old ≤ S.faults live.new) × (K.faults out.old ≤ K.faults out.new) }
-{
-    evidence_is_accepted();
-    respond(alloc, release, words, shelf, live, out)
-}
-
-// Prepares what is said for the words, and says it.
-fn respond<F: Shelf, S: Source, K: Sink>(
-    alloc: Global,
-    release: Release,
-    words: &[String],
-    shelf: &mut F,
-    live: &mut S,
-    out: &mut K,
-) -> Status
-    requires may_ask { IsTrue (list_all (F.may_ask shelf.old) (named_files release words.now)) }
-    ensures told { Answers (request_in release words.now) (F.files shelf.old) (view S.left S.faults) live.old live.new (K.written out.old) (K.written out.new) result }
-    ensures ranged { IfSome (request_in release words.now) (λ request. (command_of request).ranged) }
-    ensures there { AreThere (F.files shelf.old) (files_read result (named_files release words.now)) }
-    ensures refused { result ≡ Document → TellsOf release words.now (F.files shelf.old) (RefusedIsThere (F.files shelf.old)) }
-    ensures flushed { result ≢ WriteFault → K.flushed out.new ≡ option_map length (K.written out.new) }
-    ensures read_fault { result ≡ ReadFault → Failed F.faults shelf.old shelf.new ⊎ (Reads release words.now (F.files shelf.old) × Failed S.faults live.old live.new) }
-    ensures write_fault { result ≡ WriteFault → Failed K.faults out.old out.new }
-    ensures live { Reads release words.now (F.files shelf.old) ⊎ (live.new ≡ live.old) }
-    ensures memory { result ≡ Memory → TellsOf release words.now (F.files shelf.old) (MayStop (S.left live.old))
-        ⊎ (WroteMemory K.written out.old out.new × (live.new ≡ live.old)) }
-    ensures words { IsNone (request_in release words.now) → (result ≡ Words) ⊎ (result ≡ WriteFault) }
     ensures unnamed_stand { named_files release words.now ≡ [] → shelf.new ≡ shelf.old }
     ensures names { F.may_ask shelf.new ≡ F.may_ask shelf.old }
     ensures files { F.files shelf.new ≡ F.files shelf.old }

@@ -5,17 +5,17 @@ use Rattle.std.specs.List.{All}
 use Rattle.std.specs.Option.{option_and_then, option_map}
 use Rattle.std.proofs.lemmas.Bool.{ne_eqb}
 use Rattle.std.proofs.lemmas.List.Elements.{All-nil, All-cons, All-head, All-append, All-tail}
-use Rattle.cstn_label.specs.Letters.{letter_of, prop_of}
+use Rattle.cstn_label.specs.Letters.{letter_of}
 use Rattle.cstn_net.specs.Limits.{most_load}
 use Rattle.cstn_text.specs.Names.{AreNames}
 use Rattle.cstn_text.specs.Numbers.{number_within, printed_number}
 use Rattle.cstn_text.specs.PrintedNames.{printed_name}
 use Rattle.cstn_text.proofs.PartLemmas.{number_part}
 use Rattle.cstn_text.specs.Parts.{Parts, parts_at}
-use Rattle.cstn_listing.specs.Listings.{AreLines}
+use Rattle.cstn_text.specs.Listings.{AreLines}
 use Rattle.cstn_text.proofs.SplitLemmas.{parts_cut}
 use Rattle.cstn_text.proofs.ReadingLemmas.{word_part, part_free, part_back, within_back, node_back, name_one_part, IsFree, free, space_free, spaced}
-use Rattle.cstn_listing.proofs.ListingLemmas.{text_back}
+use Rattle.cstn_text.proofs.ListingLemmas.{text_back}
 use Rattle.cstn_tree.specs.Trees.{Tree, Line, lines_of}
 use Rattle.cstn_tree.specs.Trees.Tree.{at, ask, done}
 use Rattle.cstn_tree.specs.Trees.Line.{AtLine, AskLine, DoneLine}
@@ -23,6 +23,7 @@ use Rattle.cstn_tree.specs.Texts.{printed_line, printed_lines, shown, put_first,
 use Rattle.cstn_tree.specs.Written.{NamesSome, depth, FitsText, IsPrintableLine, AreWritten}
 use Rattle.cstn_tree.specs.Read.{the_tree}
 use Rattle.cstn_tree.proofs.ReadLemmas.{along_more}
+use Rattle.cstn_label.proofs.LetterLemmas.{letter_back, letter_above}
 
 -- ---- parts
 
@@ -34,12 +35,6 @@ parts_whole end (b ∷ text) free =
     let other = ne_eqb b end (free 0 b (omega arith)) in
     let more = parts_whole end text (All-tail (λ b. b ≢ end) b text free) in
     rw (other, more) refl
-
-letter_back : (p : ℕ) → p < 52 → prop_of (letter_of p) ≡ Some p
-letter_back p small = grind arith
-
-letter_high : (p : ℕ) → 32 < letter_of p
-letter_high p = grind arith
 
 module _ (names : List (List ℕ)) (are : AreNames names) where
   -- ---- names
@@ -101,7 +96,7 @@ module _ (names : List (List ℕ)) (are : AreNames names) where
       (names_free xs is.1)
   line_free (AskLine p) is =
       spaced (codes "ask") (letter_of p ∷ []) (free (codes "ask") (word_part (codes "ask") (omega arith) refl))
-      (All-cons (λ b. b ≢ 10) (letter_of p) [] (λ e. let high = letter_high p in omega arith) (All-nil (λ b. b ≢ 10)))
+      (All-cons (λ b. b ≢ 10) (letter_of p) [] (λ e. let high = letter_above p in omega arith) (All-nil (λ b. b ≢ 10)))
   line_free DoneLine is = free (codes "done") (word_part (codes "done") (omega arith) refl)
 
   -- ---- trees
@@ -153,7 +148,7 @@ pub shown_back : (names : List (List ℕ)) (load : ℕ) (tree : Tree) → AreNam
 shown_back names load tree are is =
     let short = is.fits.short in
     let fit = subst (AreFit names are (1 ∷ [])) (append-nil (lines_of tree)) (tree_fits names are tree 1 [] [] (omega arith) tt) in
-    ap without_load (text_back (tree_lines names) (word_part (codes "yes") (omega arith) refl) (shown names load (lines_of tree)) load (lines_of tree) (record {
+    ap without_load (text_back (tree_lines names) (word_part (codes "yes") (omega arith) refl) (omega arith) (shown names load (lines_of tree)) load (lines_of tree) (record {
       low = is.load_low;
       high = is.load_high;
       ends = ap is_over (along_over names are (1 ∷ []) (lines_of tree) fit);

@@ -4,16 +4,15 @@ use Rattle.std.specs.Prelude.{◌==◌, is_none, is_some, nat_le, slice_set, if�
 use Rattle.std.specs.List.{position, list_all, range_with_len}
 use Rattle.std.specs.Option.{option_and_then}
 use Rattle.std.proofs.Math.Path.{fun_ext}
-use Rattle.std.proofs.lemmas.Bool.{cases_Bool, cases_eq, cases_lt, cond-true, cond-false, eq-eqb, ne_eqb, both_ways}
-use Rattle.std.proofs.lemmas.Bool.Decides.{leb_tells}
+use Rattle.std.proofs.lemmas.Bool.{cases_Bool, cases_eq, cases_lt, cond-true, cond-false, eq-eqb, ne_eqb, both_ways, lt-leb, and_right}
 use Rattle.std.proofs.lemmas.List.{length-set, set_past, drop_all}
 use Rattle.std.proofs.lemmas.List.Folds.{list_all_at}
+use Rattle.cstn_facts.proofs.Options.{is_some-true, is_some-false}
+use Rattle.cstn_facts.proofs.Ranges.{each_passes, all_pass}
 use Rattle.cstn_label.specs.declared.nodes.NodeId.{NodeId}
 use Rattle.cstn_net.specs.Limits.{most_deadline}
 use Rattle.cstn_net.specs.Networks.{Network, IsNetwork, Observes, limit, is_prop}
 use Rattle.cstn_exec.proofs.Knowing.{observer_at, at_observer}
-use Rattle.cstn_exec.proofs.Options.{is_some-false, is_some-true}
-use Rattle.cstn_exec.proofs.Ranges.{each_passes, all_pass}
 use Rattle.cstn_tree.specs.Trees.{is_named}
 use Rattle.cstn_tree.specs.Good.{Branch, placed_with, are_new, are_in_time, observed_on}
 use Rattle.cstn_tree.specs.Branches.{the_placed, numbers, IsBranchOf}
@@ -112,16 +111,9 @@ pub may_not_name : (net : Network) (placed : ℕ → Option ℕ) (t x : ℕ) (xs
 may_not_name net placed t x xs taken =
     ap (λ b. (b && (not (is_named x xs) && are_new placed xs)) && (nat_le t (limit net x) && are_in_time net t xs)) taken
 
-not_le : (m n : ℕ) → n < m → nat_le m n ≡ false
-not_le m n h = grind (arith, leb_tells)
-
-and_false : (b : Bool) → (b && false) ≡ false
-and_false true = refl
-and_false false = refl
-
 pub may_not_name_late : (net : Network) (placed : ℕ → Option ℕ) (t x : ℕ) (xs : List ℕ) → nat_le t (limit net x) ≡ false → may_name net placed t (x ∷ xs) ≡ false
 may_not_name_late net placed t x xs late =
-    ap (λ b. are_new placed (x ∷ xs) && (b && are_in_time net t xs)) late ∙ and_false (are_new placed (x ∷ xs))
+    ap (λ b. are_new placed (x ∷ xs) && (b && are_in_time net t xs)) late ∙ and_right (are_new placed (x ∷ xs)) false refl
 
 pub placed_next : (placed : ℕ → Option ℕ) (t x : ℕ) (xs : List ℕ) → placed_with placed t (x ∷ xs) ≡ placed_with (with_one placed t x) t xs
 placed_next placed t x xs = fun_ext (λ y. go (y == x) (is_named y xs) y)
@@ -188,7 +180,7 @@ module _ (net : Network) (moments : List (Option ℕ)) (t : ℕ) (named : List N
   pub late_fails : limit net here < t → may_name net (the_placed moments) t (numbers (drop k named)) ≡ false
   late_fails late =
       ap (may_name net (the_placed moments) t) left
-      ∙ may_not_name_late net (the_placed moments) t here (numbers (drop (k + 1) named)) (not_le t (limit net here) late)
+      ∙ may_not_name_late net (the_placed moments) t here (numbers (drop (k + 1) named)) (lt-leb t (limit net here) late)
 
 pub placed_done : (moments : List (Option ℕ)) (t : ℕ) (named : List NodeId) (k : ℕ) → length named ≤ k →
     the_placed moments ≡ placed_with (the_placed moments) t (numbers (drop k named))

@@ -5,12 +5,13 @@ use Rattle.std.specs.List.{Contains, list_all, range_with_len}
 use Rattle.std.proofs.lemmas.Bool.{cases_Bool, cases_eq, cases_lt, cond-true, cond-false, and_parts, and_cases, or_cases, or_left, or_right, eq-eqb, ne_eqb, both_ways, false≢true, not-false}
 use Rattle.std.proofs.lemmas.List.{map-append, length-map}
 use Rattle.std.proofs.lemmas.List.Elements.{All-nil, All-cons, All-append}
+use Rattle.std.proofs.lemmas.Option.{same_Some}
+use Rattle.cstn_facts.proofs.Options.{is_none-true, is_some-false}
+use Rattle.cstn_facts.proofs.Ranges.{each_passes, all_pass}
+use Rattle.cstn_facts.proofs.Members.{contains_tail, contains_head, contains_cases}
 use Rattle.cstn_label.specs.Labels.{Label}
 use Rattle.cstn_net.specs.Networks.{Network, IsWellFormed, Constraint, Observes, count, limit}
-use Rattle.cstn_plan.proofs.AskedLemmas.{fits_true, true_fits}
 use Rattle.cstn_exec.specs.Runs.{is_possible, fits_known}
-use Rattle.cstn_exec.proofs.Options.{is_none-true, is_some-false}
-use Rattle.cstn_exec.proofs.Ranges.{each_passes, all_pass}
 use Rattle.cstn_tree.specs.Trees.{Tree, Line, is_named, lines_of}
 use Rattle.cstn_tree.specs.Trees.Tree.{at, ask, done}
 use Rattle.cstn_tree.specs.Trees.Line.{AtLine, AskLine, DoneLine}
@@ -20,27 +21,16 @@ use Rattle.cstn_tree.specs.Breaks.Breaks.{not_later, not_known, named_above, nam
 use Rattle.cstn_tree.proofs.Standing.{fits_at_from, fits_ask_from, complete_from}
 use Rattle.cstn_tree.proofs.BranchLemmas.{observed_by}
 use Rattle.cstn_tree.proofs.Following.{named_has, has_named}
+use Rattle.cstn_label.proofs.MarkLemmas.{fits_true, true_fits}
+use Rattle.cstn_reply.proofs.Sessions.{no_state}
 
 -- ---- elements
-
-first_there : {X : Type 0} (x : X) (xs : List X) → Contains (x ∷ xs) x
-first_there x xs = (0, omega arith, refl)
-
-later_there : {X : Type 0} (y x : X) (xs : List X) → Contains xs x → Contains (y ∷ xs) x
-later_there y x xs c = (suc c.0, let h = c.1 in omega arith, c.2)
-
-there_cases : {X : Type 0} (y x : X) (xs : List X) → Contains (y ∷ xs) x → (y ≡ x) ⊎ Contains xs x
-there_cases y x xs (zero, inside, e) = inl e
-there_cases y x xs (suc k, inside, e) = inr (k, omega arith, e)
-
-none_there : {X : Type 0} (x : X) → Contains [] x → ⊥
-none_there x c = let h = c.1 in omega arith
 
 one_fails : {X : Type 0} (test : X → Bool) (xs : List X) → list_all test xs ≡ false → (x : X) × Contains xs x × (test x ≡ false)
 one_fails test [] h = absurd (both_ways true h refl)
 one_fails test (x ∷ xs) h = elim (and_cases (test x) (list_all test xs) h) [
-  | inl here ↦ (x, first_there x xs, here)
-  | inr later ↦ let found = one_fails test xs later in (found.0, later_there x found.0 xs found.1, found.2)
+  | inl here ↦ (x, contains_head x xs, here)
+  | inr later ↦ let found = one_fails test xs later in (found.0, contains_tail x found.0 xs found.1, found.2)
 ]
 
 same_named : (t m : ℕ) (xs ys : List ℕ) → Named t xs ≡ Named m ys → (t ≡ m) × (xs ≡ ys)
@@ -52,20 +42,14 @@ same_asked p q v w e = (cc, cc)
 named_or_asked : (t p : ℕ) (v : Bool) (xs : List ℕ) → Named t xs ≡ Asked p v → ⊥
 named_or_asked t p v xs e = cc
 
-some_is : {X : Type 0} (x y : X) → Some x ≡ Some y → x ≡ y
-some_is x y e = cc
-
-no_some : {X : Type 0} (o : Option X) (x : X) → o ≡ None → o ≡ Some x → ⊥
-no_some o x none some = cc
-
 asked_later : (t p : ℕ) (v : Bool) (xs : List ℕ) (above : List Above) → Contains (Named t xs ∷ above) (Asked p v) → Contains above (Asked p v)
-asked_later t p v xs above c = elim (there_cases (Named t xs) (Asked p v) above c) [
+asked_later t p v xs above c = elim (contains_cases (Named t xs) (Asked p v) above c) [
   | inl same ↦ absurd (named_or_asked t p v xs same)
   | inr later ↦ later
 ]
 
 named_later : (p m x : ℕ) (v : Bool) (above : List Above) → IsNamedAt (Asked p v ∷ above) x m → IsNamedAt above x m
-named_later p m x v above (xs, c, has) = elim (there_cases (Asked p v) (Named m xs) above c) [
+named_later p m x v above (xs, c, has) = elim (contains_cases (Asked p v) (Named m xs) above c) [
   | inl same ↦ absurd (named_or_asked m p v xs (sym same))
   | inr later ↦ (xs, later, has)
 ]
@@ -91,13 +75,13 @@ record IsBranch (net : Network) (b : Branch) (above : List Above) : Type 0 where
 
 branch_start : (net : Network) → IsBranch net start []
 branch_start net = record {
-  placed = λ x m named. absurd (none_there _ named.1);
+  placed = λ x m named. absurd (let h = named.1.1 in omega arith);
   named = λ x m e. absurd (cc);
-  asked = λ p v c. absurd (none_there _ c);
+  asked = λ p v c. absurd (let h = c.1 in omega arith);
   seen = λ p v e. absurd (cc);
-  observed = λ p v c. absurd (none_there _ c);
-  later = λ u ys c. absurd (none_there _ c);
-  known = λ p v x m c. absurd (none_there _ c);
+  observed = λ p v c. absurd (let h = c.1 in omega arith);
+  later = λ u ys c. absurd (let h = c.1 in omega arith);
+  known = λ p v x m c. absurd (let h = c.1 in omega arith);
   early = λ t h. absurd (omega (arith, h));
 }
 
@@ -107,7 +91,7 @@ module _ (net : Network) (wf : IsWellFormed net) (b : Branch) (above : List Abov
   module _ (t : ℕ) (xs : List ℕ) where
     -- where the time-points of the line are not named above, a time-point is named on the line or above where the branch says so
     placed_here : ((x : ℕ) → is_named x xs ≡ true → b.placed x ≡ None) → (x m : ℕ) → IsNamedAt (Named t xs ∷ above) x m → placed_with b.placed t xs x ≡ Some m
-    placed_here once x m (ys, c, has) = elim (there_cases (Named t xs) (Named m ys) above c) [
+    placed_here once x m (ys, c, has) = elim (contains_cases (Named t xs) (Named m ys) above c) [
       | inl same ↦
           let both = same_named t m xs ys same in
           let here = has_named x xs (subst (λ zs. Contains zs x) (sym both.1) has) in
@@ -115,7 +99,7 @@ module _ (net : Network) (wf : IsWellFormed net) (b : Branch) (above : List Abov
       | inr later ↦
           let there = is.placed x m (ys, later, has) in
           elim (cases_Bool (is_named x xs)) [
-            | inl here ↦ absurd (no_some (b.placed x) m (once x here) there)
+            | inl here ↦ absurd (no_state (b.placed x) m (once x here) there)
             | inr other ↦ cond-false (is_named x xs) (Some t) (b.placed x) other ∙ there
           ]
     ]
@@ -123,11 +107,11 @@ module _ (net : Network) (wf : IsWellFormed net) (b : Branch) (above : List Abov
     named_here : (x m : ℕ) → placed_with b.placed t xs x ≡ Some m → IsNamedAt (Named t xs ∷ above) x m
     named_here x m e = elim (cases_Bool (is_named x xs)) [
       | inl here ↦
-          let same = some_is t m (sym (cond-true (is_named x xs) (Some t) (b.placed x) here) ∙ e) in
-          (xs, subst (λ n. Contains (Named t xs ∷ above) (Named n xs)) same (first_there (Named t xs) above), named_has x xs here)
+          let same = same_Some t m (sym (cond-true (is_named x xs) (Some t) (b.placed x) here) ∙ e) in
+          (xs, subst (λ n. Contains (Named t xs ∷ above) (Named n xs)) same (contains_head (Named t xs) above), named_has x xs here)
       | inr other ↦
           let there = is.named x m (sym (cond-false (is_named x xs) (Some t) (b.placed x) other) ∙ e) in
-          (there.0, later_there (Named t xs) (Named m there.0) above there.1, there.2)
+          (there.0, contains_tail (Named t xs) (Named m there.0) above there.1, there.2)
     ]
 
     branch_at : fits_at net b t xs ≡ true → IsBranch net (below_at b t xs) (Named t xs ∷ above)
@@ -138,10 +122,10 @@ module _ (net : Network) (wf : IsWellFormed net) (b : Branch) (above : List Abov
           placed = placed_here f.once;
           named = named_here;
           asked = λ p v c. is.asked p v (asked_later t p v xs above c);
-          seen = λ p v e. later_there (Named t xs) (Asked p v) above (is.seen p v e);
+          seen = λ p v e. contains_tail (Named t xs) (Asked p v) above (is.seen p v e);
           observed = λ p v c. let o = is.observed p v (asked_later t p v xs above c) in
-              (o.0, o.1, o.2, (o.3.0, later_there (Named t xs) (Named o.1 o.3.0) above o.3.1, o.3.2));
-          later = λ u ys c. elim (there_cases (Named t xs) (Named u ys) above c) [
+              (o.0, o.1, o.2, (o.3.0, contains_tail (Named t xs) (Named o.1 o.3.0) above o.3.1, o.3.2));
+          later = λ u ys c. elim (contains_cases (Named t xs) (Named u ys) above c) [
             | inl same ↦ let both = same_named t u xs ys same in let one = both.0 in omega (arith, one)
             | inr there ↦ let low = is.later u ys there in omega (arith, low, first)
           ];
@@ -152,12 +136,12 @@ module _ (net : Network) (wf : IsWellFormed net) (b : Branch) (above : List Abov
               let placed = is.placed observer.0 observer.1 observer.3 in
               let on_line = placed_here f.once x m named in
               elim (cases_Bool (is_named x xs)) [
-                | inl here ↦ absurd (no_some (b.placed x) observer.1 (f.once x here) (subst (λ y. b.placed y ≡ Some observer.1) same placed))
+                | inl here ↦ absurd (no_state (b.placed x) observer.1 (f.once x here) (subst (λ y. b.placed y ≡ Some observer.1) same placed))
                 | inr other ↦
                     let known = is.known p v x m there o (is.named x m (sym (cond-false (is_named x xs) (Some t) (b.placed x) other) ∙ on_line)) in
                     omega (arith, known, first)
               ];
-          early = λ u below. inl (t, xs, first_there (Named t xs) above, omega (arith, below));
+          early = λ u below. inl (t, xs, contains_head (Named t xs) above, omega (arith, below));
         }
 
     -- ---- what an `at` that fits doesn't do
@@ -205,7 +189,7 @@ module _ (net : Network) (wf : IsWellFormed net) (b : Branch) (above : List Abov
       let low = is.known p v x m c o named in
       omega (arith, first, low, early)
   unbroken_at _ _ fits (named_above t x m xs has named) =
-      no_some (b.placed x) m ((fits_at_from net b t xs fits).once x (has_named x xs has)) (is.placed x m named)
+      no_state (b.placed x) m ((fits_at_from net b t xs fits).once x (has_named x xs has)) (is.placed x m named)
   unbroken_at _ _ fits (named_twice t x one other has) =
       let xs = one ++ x ∷ other in
       let parts = and_parts (nat_le b.from t) _ fits in
@@ -232,13 +216,13 @@ module _ (net : Network) (wf : IsWellFormed net) (b : Branch) (above : List Abov
   unfolding AreNotNew
   not_new placed [] h = absurd (false≢true (sym h))
   not_new placed (x ∷ xs) h = elim (and_cases (is_none (placed x)) (not (is_named x xs) && are_new placed xs) h) [
-    | inl taken ↦ let m = is_there (placed x) taken in inl (x, m.0, first_there x xs, m.1)
+    | inl taken ↦ let m = is_there (placed x) taken in inl (x, m.0, contains_head x xs, m.1)
     | inr rest ↦
         elim (and_cases (not (is_named x xs)) (are_new placed xs) rest) [
           | inl twice ↦ inr (x, [], xs, refl, named_has x xs (not-false (is_named x xs) twice))
           | inr below ↦
               elim (not_new placed xs below) [
-                | inl (y, m, has, there) ↦ inl (y, m, later_there x y xs has, there)
+                | inl (y, m, has, there) ↦ inl (y, m, contains_tail x y xs has, there)
                 | inr (y, one, other, same, has) ↦ inr (y, x ∷ one, other, ap (λ l. x ∷ l) same, has)
               ]
         ]
@@ -314,7 +298,7 @@ module _ (net : Network) (wf : IsWellFormed net) (b : Branch) (above : List Abov
       nowhere f.placed.observer f.moment f.placed.observes (is.named f.placed.observer f.moment f.placed.there)
   unbroken_ask _ fits (asked_above p v c) =
       let free = is_none-true (b.asked p) (and_parts (is_some (observed_on net b p)) (is_none (b.asked p)) fits).1 in
-      no_some (b.asked p) v free (is.asked p v c)
+      no_state (b.asked p) v free (is.asked p v c)
 
   is_seen : (o : Option Bool) → is_none o ≡ false → (v : Bool) × (o ≡ Some v)
   is_seen None h = absurd (false≢true (sym h))
@@ -324,7 +308,7 @@ module _ (net : Network) (wf : IsWellFormed net) (b : Branch) (above : List Abov
   breaks_ask p fails = elim (and_cases (is_some (observed_on net b p)) (is_none (b.asked p)) fails) [
     | inl none ↦
         not_observed p (λ x m o named.
-        no_some (observed_on net b p) m (is_some-false (observed_on net b p) none) (observed_by net wf.network b x p o ∙ is.placed x m named))
+        no_state (observed_on net b p) m (is_some-false (observed_on net b p) none) (observed_by net wf.network b x p o ∙ is.placed x m named))
     | inr taken ↦ let v = is_seen (b.asked p) taken in asked_above p v.0 (is.seen p v.0 v.1)
   ]
 
@@ -340,57 +324,57 @@ module _ (net : Network) (wf : IsWellFormed net) (b : Branch) (above : List Abov
       let above_from : b.from ≤ from = omega arith in
       let above_known : f.moment + net.reaction p ≤ from = omega (arith, known_at) in
       let deeper : (x m : ℕ) → IsNamedAt above x m → IsNamedAt (Asked p v ∷ above) x m =
-      λ x m named. (named.0, later_there (Asked p v) (Named m named.0) above named.1, named.2) in
+      λ x m named. (named.0, contains_tail (Asked p v) (Named m named.0) above named.1, named.2) in
       record {
         placed = λ x m named. is.placed x m (named_later p m x v above named);
         named = λ x m e. deeper x m (is.named x m e);
-        asked = λ q w c. elim (there_cases (Asked p v) (Asked q w) above c) [
+        asked = λ q w c. elim (contains_cases (Asked p v) (Asked q w) above c) [
           | inl same ↦ let both = same_asked p q v w same in cond-true (q == p) (Some v) (b.asked q) (eq-eqb q p (sym both.0)) ∙ ap (λ x. Some x) both.1
           | inr later ↦
               let known = is.asked q w later in
               elim (cases_eq q p) [
-                | inl same ↦ absurd (no_some (b.asked p) w free (subst (λ r. b.asked r ≡ Some w) same known))
+                | inl same ↦ absurd (no_state (b.asked p) w free (subst (λ r. b.asked r ≡ Some w) same known))
                 | inr other ↦ cond-false (q == p) (Some v) (b.asked q) (ne_eqb q p other) ∙ known
               ]
         ];
         seen = λ q w e. elim (cases_eq q p) [
           | inl same ↦
-              let value = some_is v w (sym (cond-true (q == p) (Some v) (b.asked q) (eq-eqb q p same)) ∙ e) in
-              subst (λ r. Contains (Asked p v ∷ above) (Asked r w)) (sym same) (subst (λ u. Contains (Asked p v ∷ above) (Asked p u)) value (first_there (Asked p v) above))
-          | inr other ↦ later_there (Asked p v) (Asked q w) above (is.seen q w (sym (cond-false (q == p) (Some v) (b.asked q) (ne_eqb q p other)) ∙ e))
+              let value = same_Some v w (sym (cond-true (q == p) (Some v) (b.asked q) (eq-eqb q p same)) ∙ e) in
+              subst (λ r. Contains (Asked p v ∷ above) (Asked r w)) (sym same) (subst (λ u. Contains (Asked p v ∷ above) (Asked p u)) value (contains_head (Asked p v) above))
+          | inr other ↦ contains_tail (Asked p v) (Asked q w) above (is.seen q w (sym (cond-false (q == p) (Some v) (b.asked q) (ne_eqb q p other)) ∙ e))
         ];
-        observed = λ q w c. elim (there_cases (Asked p v) (Asked q w) above c) [
+        observed = λ q w c. elim (contains_cases (Asked p v) (Asked q w) above c) [
           | inl same ↦
               let both = same_asked p q v w same in
               (observer, f.moment, subst (λ r. Observes net observer r) both.0 f.placed.observes, deeper observer f.moment there)
           | inr later ↦ let o = is.observed q w later in (o.0, o.1, o.2, deeper o.0 o.1 o.3)
         ];
-        later = λ u ys c. elim (there_cases (Asked p v) (Named u ys) above c) [
+        later = λ u ys c. elim (contains_cases (Asked p v) (Named u ys) above c) [
           | inl same ↦ absurd (named_or_asked u p v ys (sym same))
           | inr later ↦ let low = is.later u ys later in omega (arith, low, above_from)
         ];
         known = λ q w x m c o named.
             let before = named_later p m x v above named in
-            elim (there_cases (Asked p v) (Asked q w) above c) [
+            elim (contains_cases (Asked p v) (Asked q w) above c) [
               | inl same ↦
                   let both = same_asked p q v w same in
                   let observes = subst (λ r. Observes net x r) (sym both.0) o in
                   let one : observer ≡ x = wf.network.one_observer observer x p f.placed.observes observes in
-                  let moment = some_is f.moment m (sym f.placed.there ∙ ap b.placed one ∙ is.placed x m before) in
+                  let moment = same_Some f.moment m (sym f.placed.there ∙ ap b.placed one ∙ is.placed x m before) in
                   subst (λ r. m + net.reaction r ≤ from) both.0 (subst (λ n. n + net.reaction p ≤ from) moment above_known)
               | inr later ↦ let low = is.known q w x m later o before in omega (arith, low, above_from)
             ];
         early = λ t below. elim (cases_lt t b.from) [
           | inl before ↦ earlier p v t (is.early t before)
           | inr past ↦
-              inr (p, v, observer, f.moment, first_there (Asked p v) above, f.placed.observes, deeper observer f.moment there, omega (arith, below, known_at, past))
+              inr (p, v, observer, f.moment, contains_head (Asked p v) above, f.placed.observes, deeper observer f.moment there, omega (arith, below, known_at, past))
         ];
       }
     where
       earlier : (p : ℕ) (v : Bool) (t : ℕ) → IsEarly net above t → IsEarly net (Asked p v ∷ above) t
-      earlier p v t (inl (u, ys, c, low)) = inl (u, ys, later_there (Asked p v) (Named u ys) above c, low)
+      earlier p v t (inl (u, ys, c, low)) = inl (u, ys, contains_tail (Asked p v) (Named u ys) above c, low)
       earlier p v t (inr (q, w, x, m, c, o, named, low)) =
-          inr (q, w, x, m, later_there (Asked p v) (Asked q w) above c, o, (named.0, later_there (Asked p v) (Named m named.0) above named.1, named.2), low)
+          inr (q, w, x, m, contains_tail (Asked p v) (Asked q w) above c, o, (named.0, contains_tail (Asked p v) (Named m named.0) above named.1, named.2), low)
 
   -- ---- `done`
 
@@ -402,7 +386,7 @@ module _ (net : Network) (wf : IsWellFormed net) (b : Branch) (above : List Abov
   breaks_done : is_complete net b ≡ false → Breaks net above DoneLine
   breaks_done fails =
       let x = one_left (λ x. is_some (b.placed x)) 0 (count net) fails in
-      not_named x.0 (omega (arith, x.2)) (λ m named. no_some (b.placed x.0) m (is_some-false (b.placed x.0) x.3) (is.placed x.0 m named))
+      not_named x.0 (omega (arith, x.2)) (λ m named. no_state (b.placed x.0) m (is_some-false (b.placed x.0) x.3) (is.placed x.0 m named))
     where
       one_left : (test : ℕ → Bool) (low n : ℕ) → list_all test (range_with_len low n) ≡ false → (x : ℕ) × (low ≤ x) × (x < low + n) × (test x ≡ false)
       one_left test low zero h = absurd (false≢true (sym h))

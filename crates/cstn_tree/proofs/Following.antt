@@ -6,6 +6,9 @@ use Rattle.std.proofs.Math.Path.{fun_ext}
 use Rattle.std.proofs.lemmas.Bool.{cases_Bool, cases_eq, cases_lt, cond-true, cond-false, and_from, or_left, or_right, eq-eqb, eqb-true, ne_eqb, both_ways, false≢true, le-leb}
 use Rattle.std.proofs.lemmas.List.{get_or_past}
 use Rattle.std.proofs.lemmas.List.Elements.{All-contains}
+use Rattle.cstn_facts.proofs.Ranges.{each_passes, some_passes}
+use Rattle.cstn_facts.proofs.Places.{get_or_repeated, some_within}
+use Rattle.cstn_facts.proofs.Members.{contains_tail}
 use Rattle.cstn_label.specs.declared.marks.Mark.{Mark}
 use Rattle.cstn_label.specs.declared.marks.Mark.TheVariants.{Absent, Yes, No, Unknown}
 use Rattle.cstn_label.specs.Labels.{Label, Scenario, Holds, MarkFits, IsPlain, IsMarkPlain}
@@ -14,13 +17,10 @@ use Rattle.cstn_net.specs.Networks.{Network, Constraint, IsConstraint, IsWellFor
 use Rattle.cstn_net.specs.Strategies.{Table}
 use Rattle.cstn_plan.specs.Asked.{greatest}
 use Rattle.cstn_plan.specs.Plans.{IsEarliest}
-use Rattle.cstn_plan.proofs.AskedLemmas.{fits_true}
 use Rattle.cstn_exec.specs.Runs.{Run, start, next, executed_at, outcome_of, is_ready, known, is_awaited, awaited, is_possible, fits_known, is_free, has_work, called, due}
 use Rattle.cstn_exec.specs.Moves.{Awaiting, moment_refusal, moved, handed, executed}
 use Rattle.cstn_exec.specs.Right.{AgreesKnown, IsRight}
-use Rattle.cstn_exec.proofs.Filled.{default_of}
-use Rattle.cstn_exec.proofs.Ranges.{each_passes, some_passes}
-use Rattle.cstn_exec.proofs.Knowing.{Ready, some_within, observed_where, known_from, awaited_from}
+use Rattle.cstn_exec.proofs.Knowing.{Ready, observed_where, known_from, awaited_from}
 use Rattle.cstn_exec.proofs.Judging.{judged}
 use Rattle.cstn_exec.proofs.Naming.{passing, passing_yes, passing_no, from_passing, in_passing, executed_passing, executed_failing, executed_size}
 use Rattle.cstn_exec.proofs.Running.{IsQuiet, awaits_none, awaited_least, executed_is, idle_from, at_moment}
@@ -30,17 +30,15 @@ use Rattle.cstn_tree.specs.Trees.{is_named}
 use Rattle.cstn_tree.specs.Good.{Branch, start as first_branch, placed_with, below_at, are_new, are_in_time, is_within, is_kept, is_met, fits_at, observed_on, known_from as known_at, below_ask, fits_ask}
 use Rattle.cstn_tree.proofs.BranchLemmas.{observed_by}
 use Rattle.cstn_tree.proofs.Strategies.{AreOf}
+use Rattle.cstn_label.proofs.MarkLemmas.{fits_true}
 
 -- ---- names
-
-contains_later : {X : Type 0} (y x : X) (xs : List X) → Contains xs x → Contains (y ∷ xs) x
-contains_later y x xs c = (suc c.0, let h = c.1 in omega arith, c.2)
 
 pub named_has : (x : ℕ) (xs : List ℕ) → is_named x xs ≡ true → Contains xs x
 named_has x [] h = absurd (false≢true h)
 named_has x (y ∷ ys) h = elim (cases_Bool (x == y)) [
   | inl same ↦ (0, omega arith, sym (eqb-true x y same))
-  | inr other ↦ contains_later y x ys (named_has x ys (subst (λ b. (b || is_named x ys) ≡ true) other h))
+  | inr other ↦ contains_tail y x ys (named_has x ys (subst (λ b. (b || is_named x ys) ≡ true) other h))
 ]
 
 pub has_named : (x : ℕ) (xs : List ℕ) → Contains xs x → is_named x xs ≡ true
@@ -50,7 +48,7 @@ has_named x (y ∷ ys) (suc k, inside, e) = or_right (x == y) (is_named x ys) (h
 
 pub each_of : {X : Type 0} (test : X → Bool) (xs : List X) → ((x : X) → Contains xs x → test x ≡ true) → list_all test xs ≡ true
 each_of test [] h = refl
-each_of test (x ∷ xs) h = and_from (test x) (list_all test xs) (h x (0, omega arith, refl)) (each_of test xs (λ y c. h y (contains_later x y xs c)))
+each_of test (x ∷ xs) h = and_from (test x) (list_all test xs) (h x (0, omega arith, refl)) (each_of test xs (λ y c. h y (contains_tail x y xs c)))
 
 -- the time-points that pass a test are new on the branch, where none of them is named there
 passing_new : (placed : ℕ → Option ℕ) (test : ℕ → Bool) (a n : ℕ) → ((x : ℕ) → test x ≡ true → placed x ≡ None) → are_new placed (passing test a n) ≡ true
@@ -97,8 +95,8 @@ module _ (net : Network) (bounds : List Bound) (table : Table) (wf : IsWellForme
   pub follows_start : Follows net bounds (start (count net)) first_branch
   follows_start = record {
     right = start_right net bounds table wf plan;
-    placed = λ x. sym (default_of (count net) x None);
-    asked = λ p. sym (default_of 52 p None);
+    placed = λ x. sym (get_or_repeated (count net) x None);
+    asked = λ p. sym (get_or_repeated 52 p None);
     from = omega arith;
     quiet = λ u low high. absurd (omega arith);
   }

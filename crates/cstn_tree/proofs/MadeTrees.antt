@@ -4,6 +4,7 @@ use Rattle.std.specs.Prelude.{is_some, slice_index_or, slice_set, if◌then◌el
 use Rattle.std.specs.List.{All, Contains}
 use Rattle.std.proofs.lemmas.Bool.{cases_Bool, cond-true}
 use Rattle.std.proofs.lemmas.List.Elements.{All-nil, All-cons, All-append, All-weaker, All-contains_itself}
+use Rattle.cstn_facts.proofs.Ranges.{all_pass}
 use Rattle.cstn_label.specs.Labels.{Scenario}
 use Rattle.cstn_label.specs.Bounds.{Bound}
 use Rattle.cstn_net.specs.Limits.{most_load}
@@ -12,7 +13,6 @@ use Rattle.cstn_net.specs.Strategies.{Table, IsLeast}
 use Rattle.cstn_plan.specs.Plans.{IsEarliest}
 use Rattle.cstn_exec.specs.Runs.{Run, start, is_free, called, due}
 use Rattle.cstn_exec.specs.Moves.{Awaiting, moment_refusal, moved, handed, executed}
-use Rattle.cstn_exec.proofs.Ranges.{all_pass}
 use Rattle.cstn_exec.proofs.Naming.{from_passing}
 use Rattle.cstn_exec.proofs.Moving.{free_parts}
 use Rattle.cstn_exec.proofs.Dues.{done_from, due_is_due, due_none}

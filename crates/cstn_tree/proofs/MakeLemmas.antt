@@ -12,10 +12,7 @@ use Rattle.cstn_tree.specs.Whole.{all_lines}
 use Rattle.cstn_tree.specs.Made.{IsTreeOf, AreTreesFrom, IsGrown}
 use Rattle.cstn_tree.specs.Made.IsTreeFrom.{ends, asks, names}
 use Rattle.cstn_tree.specs.Read.{AreWhole, the_tree}
-use Rattle.cstn_tree.proofs.TreeLemmas.{tree_back}
-
-more : (ls : List Line) (l : Line) (others : List Line) → (ls ++ l ∷ []) ++ others ≡ ls ++ (l ∷ others)
-more ls l others = append_assoc ls (l ∷ []) others
+use Rattle.cstn_tree.proofs.TreeLemmas.{tree_back, more_lines}
 
 module _ (net : Network) (bounds : List Bound) where
   pub grown_first : IsGrown net bounds [] (start (count net) ∷ [])
@@ -38,7 +35,7 @@ module _ (net : Network) (bounds : List Bound) where
       go : (trees : List Tree) → AreTreesFrom net bounds runs trees → (tree : Tree) × ((ls ++ DoneLine ∷ []) ++ all_lines trees ≡ lines_of tree) × IsTreeOf net bounds tree
       go trees are =
           let whole = g.grown (done ∷ trees) (ends run none, are) in
-          (whole.0, more ls DoneLine (all_lines trees) ∙ whole.1, whole.2)
+          (whole.0, more_lines ls DoneLine (all_lines trees) ∙ whole.1, whole.2)
 
   pub grown_at : (ls : List Line) (run : Run) (runs : List Run) (t : ℕ) → due net bounds run ≡ Some t → moment_refusal net bounds run t ≡ None →
       IsGrown net bounds ls (run ∷ runs) → IsGrown net bounds (ls ++ AtLine t (called net bounds run t) ∷ []) (moved net bounds run t ∷ runs)
@@ -49,7 +46,7 @@ module _ (net : Network) (bounds : List Bound) where
       go [] no_tree = absurd no_tree
       go (below ∷ trees) are =
           let whole = g.grown (at t (called net bounds run t) below ∷ trees) (names run t below is accepted are.0, are.1) in
-          (whole.0, more ls (AtLine t (called net bounds run t)) (all_lines (below ∷ trees)) ∙ whole.1, whole.2)
+          (whole.0, more_lines ls (AtLine t (called net bounds run t)) (all_lines (below ∷ trees)) ∙ whole.1, whole.2)
 
   pub grown_ask : (ls : List Line) (run : Run) (runs : List Run) (t p : ℕ) → due net bounds run ≡ Some t → moment_refusal net bounds run t ≡ Some (Awaiting p) →
       IsGrown net bounds ls (run ∷ runs) → IsGrown net bounds (ls ++ AskLine p ∷ []) (handed run p true ∷ (handed run p false ∷ runs))
@@ -62,7 +59,7 @@ module _ (net : Network) (bounds : List Bound) where
       go (one ∷ (other ∷ trees)) are =
           let whole = g.grown (ask p one other ∷ trees) (asks run t p one other is waits are.0 are.1.0, are.1.1) in (
             whole.0,
-            more ls (AskLine p) (all_lines (one ∷ (other ∷ trees)))
+            more_lines ls (AskLine p) (all_lines (one ∷ (other ∷ trees)))
                 ∙ ap (λ l. ls ++ (AskLine p ∷ l)) (sym (append_assoc (lines_of one) (lines_of other) (all_lines trees))) ∙ whole.1,
             whole.2,
           )

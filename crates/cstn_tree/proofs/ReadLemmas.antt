@@ -6,7 +6,7 @@ use Rattle.std.proofs.lemmas.List.{map-append, length-map, reverse-append}
 use Rattle.std.proofs.lemmas.List.Elements.{All-push}
 use Rattle.cstn_text.specs.Cuts.{cut_at}
 use Rattle.cstn_text.specs.Parts.{Parts, parts_at}
-use Rattle.cstn_listing.specs.Listings.{Told as Listing, tells as tells_with, wrong as wrong_line, at_end, or_wrong, told_after}
+use Rattle.cstn_text.specs.Listings.{Told as Listing, tells as tells_with, wrong as wrong_line, at_end, or_wrong, told_after}
 use Rattle.cstn_text.proofs.SplitLemmas.{parts_cut}
 use Rattle.cstn_tree.specs.declared.trees.Line.{Line as ProgramLine}
 use Rattle.cstn_tree.specs.declared.reading.Reader.{Reader}

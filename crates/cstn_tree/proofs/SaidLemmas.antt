@@ -6,16 +6,18 @@ use Rattle.std.specs.Option.{option_and_then, option_map}
 use Rattle.std.proofs.lemmas.Option.{same_Some}
 use Rattle.std.proofs.lemmas.List.Elements.{All-nil, All-cons}
 use Rattle.std.proofs.lemmas.Slice.Eq.{bytes_eq-Decides}
+use Rattle.cstn_facts.proofs.Options.{then_read, map_read, if_read}
 use Rattle.cstn_label.specs.Letters.{letter_of, prop_of}
 use Rattle.cstn_net.specs.Limits.{most_load}
 use Rattle.cstn_text.specs.Names.{AreNames}
 use Rattle.cstn_text.specs.Numbers.{number_within, printed_number}
 use Rattle.cstn_text.specs.PrintedNames.{printed_name}
 use Rattle.cstn_text.specs.Parts.{parts_at, joined, part, node_read}
-use Rattle.cstn_listing.specs.Listings.{Told as Listing, tells as tells_with, wrong as wrong_line, told as told_by, AreLines}
+use Rattle.cstn_text.specs.Listings.{Told as Listing, tells as tells_with, wrong as wrong_line, told as told_by, AreLines}
 use Rattle.cstn_text.proofs.SplitLemmas.{parts_joined}
-use Rattle.cstn_text.proofs.ReadingLemmas.{then_read, map_read, if_read, within_said, part_said, node_said}
-use Rattle.cstn_listing.proofs.ListingLemmas.{text_said as listing_said}
+use Rattle.cstn_text.proofs.ReadingLemmas.{within_said, part_said, node_said}
+use Rattle.cstn_text.proofs.ListingLemmas.{text_said as listing_said}
+pub use Rattle.cstn_text.proofs.ListingLemmas.{told_first, first_wrong, told_last}
 use Rattle.cstn_tree.specs.Trees.{Tree, Line, lines_of}
 use Rattle.cstn_tree.specs.Trees.Tree.{at, ask, done}
 use Rattle.cstn_tree.specs.Trees.Line.{AtLine, AskLine, DoneLine}

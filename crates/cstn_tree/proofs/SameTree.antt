@@ -1,7 +1,9 @@
 -- The tree of a network is the same whatever plan it is made by.
-use Rattle.std.proofs.Common.{ℕ, ◌≡◌, inl, inr, ◌+◌, ◌<◌, Bool, true, false, List, Option, Some, None, arith, refl, sym, subst, ap, ◌∙◌}
+use Rattle.std.proofs.Common.{ℕ, ◌≡◌, inl, inr, ◌+◌, ◌<◌, true, false, List, Option, Some, None, arith, refl, sym, subst, ap, ◌∙◌}
 use Rattle.std.specs.Prelude.{if◌then◌else◌}
 use Rattle.std.proofs.lemmas.Bool.{cases_lt}
+use Rattle.cstn_facts.proofs.Ranges.{passing_same}
+use Rattle.cstn_facts.proofs.Booleans.{same_truth}
 use Rattle.cstn_label.specs.Bounds.{Bound}
 use Rattle.cstn_net.specs.Networks.{Network, IsWellFormed, count}
 use Rattle.cstn_net.specs.Strategies.{Table, IsConsistent}
@@ -14,7 +16,7 @@ use Rattle.cstn_exec.specs.Runs.{Run, start, called, due, is_done, is_free, awai
 use Rattle.cstn_exec.specs.Moves.{Done, moment_refusal, unless_past, unless_awaiting, unless_late, moved, handed, executed}
 use Rattle.cstn_exec.specs.Right.{IsRight, IsDue}
 use Rattle.cstn_exec.proofs.Dues.{due_is_due, due_none, done_none}
-use Rattle.cstn_exec.proofs.Naming.{from_passing, in_passing, filter_same}
+use Rattle.cstn_exec.proofs.Naming.{from_passing, in_passing}
 use Rattle.cstn_exec.proofs.Refusals.{called_exactly}
 use Rattle.cstn_tree.specs.Trees.{Tree}
 use Rattle.cstn_tree.specs.Trees.Tree.{at}
@@ -33,11 +35,6 @@ one_due net run t u one two = elim (cases_lt t u) [
     | inr from ↦ omega arith
   ]
 ]
-
-alike : (a b : Bool) → (a ≡ true → b ≡ true) → (b ≡ true → a ≡ true) → a ≡ b
-alike true b to from = sym (to refl)
-alike false true to from = from refl
-alike false false to from = refl
 
 -- a time-point that is called by one plan is called by the other
 free_by : (net : Network) (bounds others : List Bound) (table other : Table) (run : Run) (t : ℕ) → IsWellFormed net → IsEarliest net bounds table → IsEarliest net others other →
@@ -64,8 +61,8 @@ module _ (net : Network) (bounds others : List Bound) (table other : Table) (wf 
 
   same_called : (run : Run) (t : ℕ) → IsRight net run → moment_refusal net bounds run t ≡ None → moment_refusal net others run t ≡ None → called net bounds run t ≡ called net others run t
   same_called run t right accepted accepts =
-      filter_same (is_free net bounds run t) (is_free net others run t) 0 (count net)
-      (λ x from upto. alike (is_free net bounds run t x) (is_free net others run t x)
+      passing_same (is_free net bounds run t) (is_free net others run t) 0 (count net)
+      (λ x from upto. same_truth (is_free net bounds run t x) (is_free net others run t x)
       (free_by net bounds others table other run t wf plan again right accepted accepts x upto)
       (free_by net others bounds other table run t wf again plan right accepts accepted x upto))
 

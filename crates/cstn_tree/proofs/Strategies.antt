@@ -4,19 +4,19 @@ use Rattle.std.specs.Prelude.{pos, ◌-ℤ◌, ◌≤ℤ◌, ◌==◌}
 use Rattle.std.specs.List.{Contains}
 use Rattle.std.proofs.lemmas.Int.{ints}
 use Rattle.std.proofs.lemmas.List.Elements.{All-contains}
-use Rattle.std.proofs.lemmas.Bool.{cases_Bool, cond-true, cond-false, eqb-true}
+use Rattle.std.proofs.lemmas.Bool.{cases_Bool, cond-true, cond-false, eqb-true, or_left, or_right}
+use Rattle.cstn_facts.proofs.Options.{cases_option, some_or_none}
+use Rattle.cstn_facts.proofs.Ranges.{all_pass}
 use Rattle.cstn_label.specs.Labels.{Label, Scenario, Holds, MarkFits}
-use Rattle.cstn_plan.proofs.AskedLemmas.{true_fits}
 use Rattle.cstn_net.specs.Networks.{Network, IsNetwork, IsConstraint, Constraint, count, limit}
 use Rattle.cstn_net.specs.Strategies.{IsStrategy}
 use Rattle.cstn_exec.specs.Runs.{fits_known, is_possible}
-use Rattle.cstn_exec.proofs.Options.{cases_option, some_or_none}
-use Rattle.cstn_exec.proofs.Ranges.{all_pass}
 use Rattle.cstn_tree.specs.Trees.{Tree, is_named, walk, moment_or_zero, table_of}
 use Rattle.cstn_tree.specs.Trees.Tree.{at, ask, done}
 use Rattle.cstn_tree.specs.Good.{Branch, start, placed_with, below_at, below_ask, IsUnbroken}
 use Rattle.cstn_tree.proofs.Standing.{Stands, stands_from}
 use Rattle.cstn_tree.proofs.Ways.{full, some_same, placed_full, named_walk, unnamed_walk, true_walk, false_walk, full_at, full_true, full_false, walk_alike}
+use Rattle.cstn_label.proofs.MarkLemmas.{true_fits}
 
 -- the outcomes that were asked are those of the scenario
 abbrev pub AreOf : Scenario → (ℕ → Option Bool) → Type 0
@@ -78,13 +78,6 @@ newly b u xs x m none e = elim (cases_Bool (is_named x xs)) [
   | inr unnamed ↦ absurd (some_or_none (b.placed x) m (sym (cond-false (is_named x xs) (Some u) (b.placed x) unnamed) ∙ e) none)
 ]
 
-left_true : (a b : Bool) → a ≡ true → (a || b) ≡ true
-left_true a b h = rw h refl
-
-right_true : (a b : Bool) → b ≡ true → (a || b) ≡ true
-right_true true b h = refl
-right_true false b h = h
-
 walk_meets : (net : Network) (b : Branch) (tree : Tree) (s : Scenario) (c : Constraint) (m_f m_t : ℕ) → Stands net b tree →
     AreOf s b.asked → Contains net.constraints c → c.from < count net → c.to < count net → Holds s c.label →
     full b tree s c.from ≡ Some m_f → full b tree s c.to ≡ Some m_t → ((b.placed c.from ≡ None) ⊎ (b.placed c.to ≡ None)) →
@@ -100,8 +93,8 @@ walk_meets net b (at u xs next) s c m_f m_t good of has f_in t_in h e_f e_t new 
             let same_f = some_same from.0 m_f (sym (placed_full (below_at b u xs) next s c.from from.0 from.1) ∙ below_f) in
             let same_t = some_same to.0 m_t (sym (placed_full (below_at b u xs) next s c.to to.0 to.1) ∙ below_t) in
             let named : (is_named c.from xs || is_named c.to xs) ≡ true = elim new [
-              | inl n ↦ left_true (is_named c.from xs) (is_named c.to xs) (newly b u xs c.from from.0 n from.1)
-              | inr n ↦ right_true (is_named c.from xs) (is_named c.to xs) (newly b u xs c.to to.0 n to.1)
+              | inl n ↦ or_left (is_named c.from xs) (is_named c.to xs) (newly b u xs c.from from.0 n from.1)
+              | inr n ↦ or_right (is_named c.from xs) (is_named c.to xs) (newly b u xs c.to to.0 n to.1)
             ] in
             let met = good.0.meets c has (holds_possible s b.asked c.label of h) named from.0 to.0 from.1 to.1 in
             omega (arith, ints)

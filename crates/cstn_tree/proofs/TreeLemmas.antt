@@ -95,10 +95,6 @@ walk_finds net tree =
     nothing None = refl
     nothing (Some line) = refl
 
-pub no_items : {X : Type 0} (xs : List X) → length xs ≡ 0 → xs ≡ []
-no_items [] h = refl
-no_items (x ∷ xs) h = absurd (omega arith)
-
 pub numbers_all : (n : ℕ) (xs : List NodeId) → All (λ x. x.0 < n) xs → All (λ x. x < n) (numbers xs)
 numbers_all n xs all = λ k d inside.
     let within = subst (λ m. k < m) (length-map xs (λ (x : NodeId). x.0)) inside in
@@ -117,7 +113,7 @@ begun_first = record { whole = one }
 pub begun_end : (ls : List Line) → IsBegun ls 0 → AreWhole ls
 begun_end ls b = let w = b.whole [] refl in (w.0, sym (append-nil ls) ∙ w.1)
 
-more_lines : (ls : List Line) (l : Line) (others : List Line) → (ls ++ l ∷ []) ++ others ≡ ls ++ (l ∷ others)
+pub more_lines : (ls : List Line) (l : Line) (others : List Line) → (ls ++ l ∷ []) ++ others ≡ ls ++ (l ∷ others)
 more_lines ls l others = append_assoc ls (l ∷ []) others
 
 pub begun_next : (ls : List Line) (depth : ℕ) (ahead : List ℕ) (l : Line) → IsBegun ls (length (depth ∷ ahead)) → IsBegun (ls ++ l ∷ []) (length (ahead_after depth ahead l))

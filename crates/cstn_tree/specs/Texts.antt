@@ -2,10 +2,12 @@
 use Rattle.std.specs.Prelude.{ℕ, ◌+◌, ◌++◌, Bool, true, false, nat_le, if◌then◌else◌, List, [], ◌∷◌, flat_map, slice_index_or, Option, None, Some, codes, bytes_eq}
 use Rattle.std.specs.Option.{option_and_then, option_map}
 use Rattle.cstn_label.specs.Letters.{letter_of, prop_of}
-use Rattle.cstn_text.specs.Numbers.{number_within, printed_number}
+use Rattle.cstn_net.specs.Limits.{most_load}
+use Rattle.cstn_text.specs.SmallNumbers.{u32_read}
+use Rattle.cstn_text.specs.Numbers.{printed_number}
 use Rattle.cstn_text.specs.PrintedNames.{printed_name}
 use Rattle.cstn_text.specs.Parts.{parts_at, part, node_read}
-use Rattle.cstn_listing.specs.Listings.{Told as Listing, tells as tells_with, wrong as wrong_line, Kind, told as told_by}
+use Rattle.cstn_text.specs.Listings.{Told as Listing, tells as tells_with, wrong as wrong_line, Kind, told as told_by}
 use Rattle.cstn_tree.specs.Trees.{Line}
 use Rattle.cstn_tree.specs.Trees.Line.{AtLine, AskLine, DoneLine}
 
@@ -42,7 +44,7 @@ names_read names bytes = nodes_read names (parts_at 32 bytes).0 (parts_at 32 byt
 -- the `at` of a text that is a moment below 2^32, a space, and names
 abbrev pub at_read : List (List ℕ) → List ℕ → Option Line
 at_read names bytes =
-    option_and_then (λ found. option_and_then (λ t. option_map (AtLine t) (names_read names found.1)) (number_within 0 4294967295 found.0)) (part bytes)
+    option_and_then (λ found. option_and_then (λ t. option_map (AtLine t) (names_read names found.1)) (u32_read found.0)) (part bytes)
 
 -- the `ask` of a text that is a letter
 abbrev pub ask_read : List ℕ → Option Line
@@ -99,7 +101,7 @@ is_whole lines = is_over (ahead_of lines)
 
 -- trees are listings of their lines behind the word `yes`, and end where no tree is still to come
 abbrev pub tree_lines : List (List ℕ) → Kind Line
-tree_lines names = record { word = codes "yes"; line_read = λ lines text. next_read names (ahead_of lines) text; may_end = is_whole }
+tree_lines names = record { word = codes "yes"; most = most_load; line_read = λ lines text. next_read names (ahead_of lines) text; may_end = is_whole }
 
 -- what a text says: the lines of a tree, or that a line, counted from 1, is the first that isn't of the grammar
 pub data Told : Type 0 where

@@ -9,8 +9,7 @@ ghost use Rattle.cstn_tree.specs.Read.{the_line};
 
 use crate::trees::{Line, Named};
 use cstn_label::Prop;
-use cstn_listing::{part, read_node};
-use cstn_text::{Names, read_number_within};
+use cstn_text::{Names, part, read_node, read_number_within};
 use std::alloc::{AllocError, Global};
 
 // The time-points of one name or more, with a space between names; none where the text isn't of that form.

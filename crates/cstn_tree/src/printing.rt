@@ -13,8 +13,7 @@ ghost use Rattle.cstn_tree.specs.Branches.{numbers};
 
 use crate::trees::{Line, Tree};
 use cstn_label::NodeId;
-use cstn_listing::push_load;
-use cstn_text::{Names, print_name, push_number};
+use cstn_text::{Names, print_name, push_load, push_number};
 use std::alloc::{AllocError, Global};
 
 /// The text of a tree: a line for the load, and one for each line of the tree.

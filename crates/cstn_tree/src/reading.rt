@@ -5,7 +5,7 @@ ghost use Rattle.std.specs.Option.{option_map};
 ghost use Rattle.cstn_label.specs.Limits.{most_ids};
 ghost use Rattle.cstn_tree.specs.Trees.{IsAmong, names_on};
 ghost use Rattle.cstn_text.specs.Parts.{parts_at};
-ghost use Rattle.cstn_listing.specs.Listings.{at_end, told_after};
+ghost use Rattle.cstn_text.specs.Listings.{at_end, told_after};
 ghost use Rattle.cstn_tree.specs.Texts.{Told, tells, without_load, tree_lines, is_whole, told, line_within, ahead_after};
 ghost use Rattle.cstn_tree.specs.Written.{FitsText};
 ghost use Rattle.cstn_tree.specs.Read.{the_line, the_tree};
@@ -14,8 +14,8 @@ ghost use Rattle.cstn_tree.specs.Reading.{the_ahead, the_lines, IsReader, IsWron
 use crate::errors::TreeError;
 use crate::parts::read_line;
 use crate::trees::{Line, Tree};
-use cstn_listing::read_load;
-use cstn_text::{Names, cut_at};
+use cstn_net::MAX_LOAD;
+use cstn_text::{Names, cut_at, read_start};
 use std::alloc::{AllocError, Global};
 
 /// How many lines there may be on a branch, with its last one.
@@ -34,10 +34,7 @@ pub fn read(alloc: Global, names: &Names, bytes: &[u8]) -> Result<Tree, TreeErro
     ensures few { IfOk result (λ t. length t + 1 < 2 ^ 32) }
     ensures fits { IfOk result (λ t. FitsText (the_tree t)) }
 {
-    let Some((line, rest)) = cut_at(bytes, b'\n') else {
-        return Err(TreeError::Line { line: 1 });
-    };
-    let Some(_load) = read_load("yes", line) else {
+    let Some((_load, rest)) = read_start("yes", MAX_LOAD, bytes) else {
         return Err(TreeError::Line { line: 1 });
     };
     read_lines(alloc, names, rest)

@@ -1,15 +1,18 @@
-// Follows what really happens, by a journal.
-ghost use Rattle.std.specs.Prelude.{◌≡◌, OnOk};
-ghost use Rattle.cstn_history.specs.Read.{the_history};
-ghost use Rattle.rehearsal.specs.Journals.{after, after_all};
+// Follows what really happens, by a session.
+ghost use Rattle.std.specs.Prelude.{◌≡◌, ◌<◌, ◌^◌, ◌↔◌, IsTrue};
+ghost use Rattle.std.specs.List.{All};
 
 use crate::bottling::SOUR;
 use crate::events::Event;
 use crate::heating::{FILL, HEAT, SAMPLE, heating};
-use crate::journals::Journal;
-use crate::outlooks::Outlook;
+use crate::plans::CAP;
 use crate::printing::{print_blame, print_event, print_latest, print_outlook};
+use anyhow::bail;
+use cstn_session::{FollowError, Outlook, Session};
 use cstn_label::NodeId;
+use cstn_lift::Labelled;
+use cstn_log::Cap;
+use cstn_net::Network;
 use cstn_text::Names;
 use std::alloc::Global;
 
@@ -47,60 +50,67 @@ pub fn rehearse_following(rt: &impl Print, alloc: Global) -> anyhow::Result<()> 
     follow_from_start(rt, alloc, &TOO_LATE)
 }
 
-// Follows a course by a journal of its own.
+// Follows a course by a session of its own.
 fn follow_from_start(
     rt: &impl Print,
     alloc: Global,
     course: &[(u32, Event)],
 ) -> anyhow::Result<()> {
     let (network, names) = heating(alloc)?;
-    let mut journal = Journal::start(alloc, network)?;
-    tell(rt, alloc, &journal, &names)?;
-    follow(rt, alloc, &mut journal, &names, course)
+    let mut session = start(alloc, network)?;
+    tell(rt, &session, &names)?;
+    follow(rt, &mut session, &names, course)
+}
+
+// A session of a network. Refused where the network has an id of 2^31 or above.
+fn start(alloc: Global, network: Labelled) -> anyhow::Result<Session> {
+    if !has_low_ids(network.base()) {
+        bail!("the network has an id of 2147483648 or above");
+    }
+    Ok(Session::start(alloc, network, Cap { entries: CAP })?)
+}
+
+// Whether the ids of all constraints are below 2^31.
+fn has_low_ids(net: &Network) -> bool
+    ensures { IsTrue result ↔ All (λ c. c.id < 2 ^ 31) net.now.constraints }
+{
+    net.constraints().iter().all(|c| c.id < 2_147_483_648)
 }
 
 // Records the events of a course in turn, and tells after each how the plan stands.
 fn follow(
     rt: &impl Print,
-    alloc: Global,
-    journal: &mut Journal,
+    session: &mut Session,
     names: &Names,
     course: &[(u32, Event)],
-) -> anyhow::Result<()>
-    ensures recorded { OnOk result (the_history journal.new.history ≡ after_all (the_history journal.old.history) course.now) }
-    ensures network { journal.new.network ≡ journal.old.network }
-{
+) -> anyhow::Result<()> {
     for step in course {
         let (moment, event) = *step;
-        turn(rt, alloc, journal, names, moment, event)?;
+        record(session, moment, event)?;
+        print_event(rt, moment, event, names)?;
+        tell(rt, session, names)?;
     }
     Ok(())
 }
 
-// Records an event, and tells how the plan stands then.
-fn turn(
-    rt: &impl Print,
-    alloc: Global,
-    journal: &mut Journal,
-    names: &Names,
-    moment: u32,
-    event: Event,
-) -> anyhow::Result<()>
-    ensures recorded { OnOk result (the_history journal.new.history ≡ after (the_history journal.old.history) moment event) }
-    ensures network { journal.new.network ≡ journal.old.network }
-{
-    journal.record(moment, event)?;
-    print_event(rt, moment, event, names)?;
-    tell(rt, alloc, journal, names)
+// Records what happens at a moment. What is refused changes nothing.
+fn record(session: &mut Session, moment: u32, event: Event) -> Result<(), FollowError> {
+    match event {
+        Event::Passed => session.now(moment)?,
+        Event::Executed(x) => session.did(moment, &[x])?,
+        Event::Observed(p, value) => session.saw(moment, p, value)?,
+        Event::Expected(p) => session.expect(moment, p)?,
+    };
+    Ok(())
 }
 
 // Tells how the plan stands: what is next, and until when each time-point that is named can wait; or what is to blame.
-fn tell(rt: &impl Print, alloc: Global, journal: &Journal, names: &Names) -> anyhow::Result<()> {
-    let outlook = journal.outlook(alloc)?;
+fn tell(rt: &impl Print, session: &Session, names: &Names) -> anyhow::Result<()> {
+    let outlook = session.next()?;
     print_outlook(rt, &outlook, names)?;
     match outlook {
-        Outlook::Next(next) => tell_latest(rt, alloc, journal, names, &next.named),
-        Outlook::Impossible => tell_blame(rt, alloc, journal),
+        Outlook::Next(next) => tell_latest(rt, session, names, &next.named),
+        Outlook::Impossible => tell_blame(rt, session),
         Outlook::Finished | Outlook::Unknown => Ok(()),
     }
 }
@@ -108,21 +118,19 @@ fn tell(rt: &impl Print, alloc: Global, journal: &Journal, names: &Names) -> any
 // Tells until when each of these time-points can wait.
 fn tell_latest(
     rt: &impl Print,
-    alloc: Global,
-    journal: &Journal,
+    session: &Session,
     names: &Names,
     named: &[NodeId],
 ) -> anyhow::Result<()> {
     for x in named {
-        let latest = journal.latest(alloc, *x)?;
-        print_latest(rt, latest, *x, names)?;
+        print_latest(rt, session.latest(*x)?, *x, names)?;
     }
     Ok(())
 }
 
 // Tells which constraints are to blame.
-fn tell_blame(rt: &impl Print, alloc: Global, journal: &Journal) -> anyhow::Result<()> {
-    let blame = journal.blame(alloc)?;
+fn tell_blame(rt: &impl Print, session: &Session) -> anyhow::Result<()> {
+    let blame = session.blame()?;
     print_blame(rt, &blame)?;
     Ok(())
 }

@@ -3,15 +3,12 @@
 //! that can wait, or which constraints are to blame.
 #![tactic(auto)]
 
-mod answers;
 mod bottling;
 mod courses;
 mod events;
 mod following;
 mod heating;
-mod journals;
 mod labelled;
-mod outlooks;
 mod plain;
 mod plans;
 mod printing;

@@ -1,6 +1,5 @@
-use crate::answers::{Blame, Latest};
 use crate::events::Event;
-use crate::outlooks::Outlook;
+use cstn_session::{Latest, Outlook, ToBlame};
 use cstn_label::{NodeId, Prop};
 use cstn_next::NextMoment;
 use cstn_text::Names;
@@ -73,9 +72,8 @@ fn print_awaited(rt: &impl Print, awaited: &[Prop]) -> io::Result<()> {
 pub fn print_latest(rt: &impl Print, latest: Latest, x: NodeId, names: &Names) -> io::Result<()> {
     match latest {
         Latest::Until(moment) => print!(rt; "by {moment}")?,
-        Latest::Executed(moment) => print!(rt; "done at {moment}")?,
-        Latest::RuledOut => print!(rt; "ruled out")?,
-        Latest::NoTimePoint => print!(rt; "no time-point")?,
+        Latest::Refused(error) => print!(rt; "{error}:")?,
+        Latest::TooManyConstraints => print!(rt; "too many constraints")?,
         Latest::Impossible => print!(rt; "no")?,
         Latest::Unknown => print!(rt; "not known")?,
     }
@@ -84,11 +82,11 @@ pub fn print_latest(rt: &impl Print, latest: Latest, x: NodeId, names: &Names) -
 }
 
 /// Prints the ids of the constraints that are to blame, or why there are none.
-pub fn print_blame(rt: &impl Print, blame: &Blame) -> io::Result<()> {
+pub fn print_blame(rt: &impl Print, blame: &ToBlame) -> io::Result<()> {
     match blame {
-        Blame::Constraints(ids) => print_ids(rt, ids),
-        Blame::Nothing => println!(rt; "nothing to blame"),
-        Blame::Unknown => println!(rt; "not known"),
+        ToBlame::Constraints(ids) => print_ids(rt, ids),
+        ToBlame::Nothing => println!(rt; "nothing to blame"),
+        ToBlame::Unknown => println!(rt; "not known"),
     }
 }
 

@@ -1,7 +1,7 @@
 // Hosts of several ids.
 use crate::fixtures::{P, origin, plan};
-use cstn_host::{Host, HostError};
 use cstn_label::NodeId;
+use cstn_run::{Host, HostError};
 use std::alloc::Global;
 use std::process::Abort;
 

@@ -1,7 +1,8 @@
 // Each session is dropped by a call, since a drop at the end of a function is proved as a part of it.
 use crate::networks::{branch, late_branch};
+use cstn_change::EditError;
 use cstn_check::Verdict;
-use cstn_edit::{EditError, Outcome, Session};
+use cstn_edit::{Outcome, Session};
 use cstn_label::{Label, NodeId};
 use cstn_log::Cap;
 use cstn_net::Network;

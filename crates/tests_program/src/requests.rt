@@ -1,7 +1,7 @@
 // Requests on files and live lines in memory, and their answers.
 use cstn_io::{MemoryFile, MemoryShelf, MemorySink, MemorySource};
+use cstn_request::Release;
 use cstn_top::{Status, run};
-use cstn_words::Release;
 use std::alloc::{AllocError, Global};
 use std::process::Abort;
 use std::test::Fail;

@@ -1,7 +1,7 @@
 use Rattle.std.proofs.Common.{◌≡◌, ℕ, true, List, [], ◌∷◌, refl}
 use Rattle.std.specs.Prelude.{IsTrue, map, string_bytes}
 use Rattle.std.specs.List.{list_all}
-use Rattle.cstn_words.specs.Requests.{names_of, request_of}
+use Rattle.cstn_request.specs.Requests.{names_of, request_of}
 use Rattle.cstn.specs.declared.TheConstants.{RELEASE, LINES}
 use Rattle.cstn.proofs.main.Goals as goal
 

@@ -2,7 +2,7 @@
 use Rattle.std.proofs.Common.{ℕ, List, ap, sym, subst, inl, inr, []}
 use Rattle.std.specs.Prelude.{get_or, Option}
 use Rattle.cstn_check.specs.Growth.{load_of}
-use Rattle.cstn_words.specs.Requests.{Asked, check}
+use Rattle.cstn_request.specs.Requests.{Asked, check}
 use Rattle.cstn_reply.specs.Texts.{Said, yes_line}
 use Rattle.cstn_top.specs.Plans.{IsOutput}
 use Rattle.cstn_top.specs.Answers.{of_lowered}
@@ -10,7 +10,7 @@ use Rattle.cstn_top.specs.commands.Check.{checked}
 use Rattle.cstn_top.specs.Verdicts.{IsLabelledDecided}
 use Rattle.cstn_lift.specs.Labelled.{Labelled}
 use Rattle.cstn_lift.specs.Lowered.{lowered}
-use Rattle.cstn_documents.specs.Documents.{HasLabelled}
+use Rattle.cstn_request.specs.Documents.{HasLabelled}
 use Rattle.cstn_reply.specs.Statuses.{status_of}
 use Rattle.cstn_reply.specs.declared.output.Outcome.{Outcome}
 use Rattle.cstn_reply.specs.declared.output.Outcome.TheVariants.{Good, Bad, Words, Document, Full, Unfinished, Script, Wide}

@@ -3,7 +3,7 @@ use Rattle.std.proofs.Common.{ℕ, ◌<◌, List, ap, sym, subst, inl, inr, arit
 use Rattle.std.specs.Prelude.{get_or, Option}
 use Rattle.cstn_net.specs.Networks.{IsWellFormed}
 use Rattle.cstn_check.specs.Growth.{log_of, load_of, live_bounds}
-use Rattle.cstn_words.specs.Requests.{Asked, closed}
+use Rattle.cstn_request.specs.Requests.{Asked, closed}
 use Rattle.cstn_reply.specs.Texts.{Said}
 use Rattle.cstn_top.specs.Plans.{IsOutput}
 use Rattle.cstn_top.specs.Answers.{of_lowered}
@@ -12,7 +12,7 @@ use Rattle.cstn_top.specs.commands.Closed.{listed}
 use Rattle.cstn_lift.specs.Labelled.{Labelled}
 use Rattle.cstn_lift.specs.Lowered.{lowered}
 use Rattle.cstn_lift.specs.Strategies.{IsEquivalent}
-use Rattle.cstn_documents.specs.Documents.{HasLabelled}
+use Rattle.cstn_request.specs.Documents.{HasLabelled}
 use Rattle.cstn_top.proofs.EvidenceLemmas.{listed_well}
 use Rattle.cstn_reply.specs.Statuses.{status_of}
 use Rattle.cstn_reply.specs.declared.output.Outcome.{Outcome}

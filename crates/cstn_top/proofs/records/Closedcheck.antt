@@ -4,7 +4,7 @@ use Rattle.std.specs.Prelude.{nat_lt, if◌then◌else◌, get_or, Option, codes
 use Rattle.cstn_net.specs.Networks.{Network, IsWellFormed}
 use Rattle.cstn_net.specs.Strategies.{IsConsistent}
 use Rattle.cstn_text.specs.Limits.{most_text}
-use Rattle.cstn_words.specs.Requests.{Asked, closedcheck}
+use Rattle.cstn_request.specs.Requests.{Asked, closedcheck}
 use Rattle.cstn_reply.specs.Texts.{Said, say}
 use Rattle.cstn_top.specs.Plans.{says, IsOutput, MayTalk}
 use Rattle.cstn_top.specs.Answers.{of_lowered, by_text}
@@ -13,7 +13,7 @@ use Rattle.cstn_reply.specs.Sessions.{script}
 use Rattle.cstn_lift.specs.Labelled.{Labelled}
 use Rattle.cstn_lift.specs.Lowered.{lowered}
 use Rattle.cstn_lift.specs.Strategies.{IsEquivalent, IsLabelledConsistent}
-use Rattle.cstn_documents.specs.Documents.{HasLabelled}
+use Rattle.cstn_request.specs.Documents.{HasLabelled}
 use Rattle.cstn_reply.specs.declared.output.Outcome.{Outcome}
 use Rattle.cstn_reply.specs.declared.output.Outcome.TheVariants.{Good, Bad, Words, Document, Full, Unfinished, Script, Wide}
 use Rattle.cstn_top.proofs.Labels.{IsOfLabelled, none_labelled, on_labels, labels_silent}

@@ -1,48 +1,51 @@
 -- What is proved of `conflict`.
-use Rattle.std.proofs.Common.{◌≡◌, ℕ, true, List, refl, sym, subst, []}
+use Rattle.std.proofs.Common.{◌≡◌, ℕ, List, Some, None, inl, inr, refl, sym, subst, []}
 use Rattle.std.specs.Prelude.{get_or, Option}
 use Rattle.cstn_net.specs.Networks.{Network, IsWellFormed}
 use Rattle.cstn_net.specs.Strategies.{IsConsistent}
 use Rattle.cstn_graphml.specs.Document.{document}
-use Rattle.cstn_check.specs.Growth.{load_of}
-use Rattle.cstn_words.specs.Requests.{Asked, conflict}
+use Rattle.cstn_check.specs.Decisions.{verdict, IsNo}
+use Rattle.cstn_check.specs.declared.verdicts.Verdict.{Verdict}
+use Rattle.cstn_check.specs.declared.verdicts.Verdict.TheVariants.{Yes, No, Full as IsFull}
+use Rattle.cstn_check.proofs.Deciding.{Tells, verdict_tells}
+use Rattle.cstn_request.specs.Requests.{Asked, conflict}
 use Rattle.cstn_top.specs.commands.Conflict.{IsConflict, blamed, IsConflictText}
-use Rattle.cstn_reply.specs.Texts.{yes_line, full_line}
-use Rattle.cstn_documents.specs.Documents.{parts_of, HasNetwork}
+use Rattle.cstn_reply.specs.Texts.{Said}
+use Rattle.cstn_request.specs.Documents.{parts_of, HasNetwork}
 use Rattle.cstn_top.proofs.EvidenceLemmas.{conflict_well}
 use Rattle.cstn_reply.specs.Statuses.{status_of}
 use Rattle.cstn_reply.specs.declared.output.Outcome.{Outcome}
 use Rattle.cstn_reply.specs.declared.output.Outcome.TheVariants.{Good, Bad, Words, Document, Full, Unfinished, Script, Wide}
-use Rattle.cstn_check.specs.Verdicts.{is_consistent}
-use Rattle.cstn_conflict.specs.Conflicts.{conflict_set, is_conflict_full as is_blame_full}
-use Rattle.cstn_conflict.specs.Texts.{blame_text}
+use Rattle.cstn_conflict.specs.Conflicts.{conflict_set, IsConflictFull}
+use Rattle.cstn_conflict.specs.Texts.{blamed_after_no, blamed_by}
 use Rattle.cstn_top.proofs.Standing.{Stands, StandsFor, conflict_stands}
 use Rattle.cstn_top.proofs.Dispatched.{IsEvidence}
 use Rattle.cstn_top.proofs.Proved.{IsRight, IsProved}
-use Rattle.cstn_top.proofs.Meanings.{Finds, search_says, on_network, none_such, never_talks}
+use Rattle.cstn_top.proofs.Meanings.{on_network, none_such, never_talks}
 use Rattle.cstn_top.proofs.Accepted.{network_shown}
 use Rattle.cstn_top.proofs.SomeOutput.{said_some, plain_some}
 
 -- what the outcome of `conflict` tells
 abbrev Blames : ℕ → Network → Outcome → Type 0
 Blames cap net Good = IsConsistent net
-Blames cap net Bad = (IsConsistent net → ⊥) × IsConflict net (conflict_set net)
-Blames cap net Full = is_blame_full cap net ≡ true
+Blames cap net Bad = (IsConsistent net → ⊥) × (ids : List ℕ) × (conflict_set cap net ≡ Some ids) × IsConflict net ids
+Blames cap net Full = IsConflictFull cap net
 Blames cap net Words = ⊥
 Blames cap net Document = ⊥
 Blames cap net Unfinished = ⊥
 Blames cap net Script = ⊥
 Blames cap net Wide = ⊥
 
-blames : (cap : ℕ) (net : Network) (o : Outcome) → IsWellFormed net → Finds (is_blame_full cap net) net o → Blames cap net o
-blames cap net Good good is = is.0
-blames cap net Bad good is = (is, conflict_well net good is)
-blames cap net Full good is = is
-blames cap net Words good is = is
-blames cap net Document good is = is
-blames cap net Unfinished good is = is
-blames cap net Script good is = is
-blames cap net Wide good is = is
+module _ (cap : ℕ) (names : List (List ℕ)) (net : Network) (said : Said) (good : IsWellFormed net) where
+  blames_set : (o : Option (List ℕ)) → conflict_set cap net ≡ o → IsNo cap net → said ≡ blamed_after_no cap names net o → Blames cap net said.outcome
+  blames_set None none tells is = subst (λ (s : Said). Blames cap net s.outcome) (sym is) (inr (tells.0, none))
+  blames_set (Some ids) some tells is =
+      subst (λ (s : Said). Blames cap net s.outcome) (sym is) (tells.0, ids, some, conflict_well cap net ids good tells.0 some)
+
+  blames : (v : Verdict) → Tells cap net v → said ≡ blamed_by cap names net v → Blames cap net said.outcome
+  blames (Yes load) tells is = subst (λ (s : Said). Blames cap net s.outcome) (sym is) tells.0
+  blames (No load) tells is = blames_set (conflict_set cap net) refl tells is
+  blames IsFull tells is = subst (λ (s : Said). Blames cap net s.outcome) (sym is) (inl tells)
 
 conflict_right : (live : Option (List ℕ)) (asked : Asked) (cap : ℕ) (contents : List (List ℕ)) (o : Outcome) → HasNetwork (get_or contents 0 []) asked.deadline (λ names net. Blames cap net o) → IsRight live o (conflict asked cap) contents
 conflict_right live asked cap contents Good has = has
@@ -68,7 +71,7 @@ pub conflict_proved : (asked : Asked) (cap : ℕ) → IsProved (conflict asked c
 conflict_proved asked cap = record {
   right = λ told contents live said all output.
       on_network (blamed cap) (get_or contents 0 []) asked.deadline live said (λ o names net. Blames cap net o) (λ o. IsRight told o (conflict asked cap) contents) (λ refused. tt)
-      (λ names net good named is. blames cap net said.outcome good (search_says (is_blame_full cap net) (is_consistent net) net (full_line cap) (yes_line (load_of net)) (blame_text names net (conflict_set net)) live said good refl is)) (conflict_right told asked cap contents) output;
+      (λ names net good named is. blames cap names net said good (verdict cap net) (verdict_tells cap net good) is) (conflict_right told asked cap contents) output;
   complete = λ contents live said output. tt;
   evidence = λ yes_text no_text contents live said capped output.
       network_shown (blamed cap) (get_or contents 0 []) asked.deadline live said (λ names net s. StandsFor (λ text. Unit {0}) (IsConflictText names net) s) (λ s. IsEvidence (conflict asked cap) (status_of s.outcome) s.text contents)

@@ -1,6 +1,6 @@
 -- What is proved of `drill`.
 use Rattle.std.proofs.Common.{ℕ, ap, sym, subst, []}
-use Rattle.cstn_words.specs.Requests.{drill}
+use Rattle.cstn_request.specs.Requests.{drill}
 use Rattle.cstn_reply.specs.Texts.{Said}
 use Rattle.cstn_reply.specs.Statuses.{status_of}
 use Rattle.cstn_reply.specs.declared.output.Outcome.{Outcome}

@@ -1,6 +1,6 @@
 -- What is proved of `edit`.
 use Rattle.std.proofs.Common.{◌≡◌, ℕ, ◌<◌, List, length, refl, ap, sym, ◌∙◌, subst, inl, inr, []}
-use Rattle.std.specs.Prelude.{◌⊎◌, get_or, Option, None, Some, IsSomeAnd, IfSome}
+use Rattle.std.specs.Prelude.{◌⊎◌, get_or, Option, None, Some, Result, Ok, Err, IsSomeAnd, IfSome}
 use Rattle.std.proofs.lemmas.Option.{same_Some}
 use Rattle.cstn_net.specs.Limits.{most_constraints}
 use Rattle.cstn_io.specs.Contents.{IsAllOf, with_bytes}
@@ -11,25 +11,25 @@ use Rattle.cstn_lines.specs.Pieces.{lines_of}
 use Rattle.cstn_check.specs.Growth.{load_of}
 use Rattle.cstn_check.specs.declared.verdicts.Verdict.{Verdict}
 use Rattle.cstn_check.specs.declared.verdicts.Verdict.TheVariants.{Yes, No, Full as IsFullVerdict}
-use Rattle.cstn_words.specs.Requests.{Asked, edit}
+use Rattle.cstn_request.specs.Requests.{Asked, edit}
 use Rattle.cstn_reply.specs.Texts.{Said}
 use Rattle.cstn_top.specs.Plans.{IsOutput, MayTalk}
 use Rattle.cstn_top.specs.commands.Edit.{edited, IsVerdictOn, EditEnds, WroteEdits}
 use Rattle.cstn_top.specs.Dispatch.{plan_at}
 use Rattle.cstn_top.specs.Meanings.{ReadsLive}
 use Rattle.cstn_reply.specs.Sessions.{play}
-use Rattle.cstn_documents.specs.Documents.{parts_of, HasNetwork, IsRefused}
+use Rattle.cstn_request.specs.Documents.{parts_of, HasNetwork, IsRefused}
 use Rattle.cstn_reply.specs.Statuses.{status_of}
 use Rattle.cstn_reply.specs.declared.output.Outcome.{Outcome}
 use Rattle.cstn_reply.specs.declared.output.Outcome.TheVariants.{Good, Bad, Words, Document, Full, Unfinished, Script, Wide}
 use Rattle.cstn_top.proofs.Documents.{document_says, document_talks}
 use Rattle.cstn_top.proofs.Edited.{EditTells, edit_tells}
-use Rattle.cstn_label.specs.Labels.{Label}
-use Rattle.cstn_edit.specs.Edits.{Session, Refusal as EditRefusal, add_refusal, remove_refusal, change_refusal, with_added, with_removed, with_changed}
+use Rattle.cstn_change.specs.Changes.{Change, removes, revalues, Refusal as EditRefusal, refusal}
+use Rattle.cstn_change.specs.ChangeLines.{addition}
+use Rattle.cstn_edit.specs.Edits.{Session, edited_of, with_change}
 use Rattle.cstn_lines.specs.EditLines.{Edit, added, removed, changed, asked as check_asked, edit_read}
-use Rattle.cstn_text.specs.Names.{number_of}
 use Rattle.cstn_top.specs.Lines.{StopsAtLine}
-use Rattle.cstn_edit.specs.Editing.{Editing, begun_editing, answered_edit, answered_add, answered, edit_turn, edit_ending, ending_by, last_checked}
+use Rattle.cstn_edit.specs.Editing.{Editing, begun_editing, answered_edit, answered_change, answered, edit_turn, edit_ending, ending_by, last_checked}
 use Rattle.cstn_top.proofs.Played.{TurnIs, stops_at, Played, all_answered, one_last, one_stops, played}
 use Rattle.cstn_top.proofs.Dispatched.{IsEnded}
 use Rattle.cstn_top.proofs.Proved.{IsRight, IsProved, no_evidence}
@@ -50,16 +50,15 @@ edit_is : (e : Editing) (o : Option EditRefusal) (text : List ℕ) (next : Sessi
 edit_is e None text next Unread = tt
 edit_is e (Some refusal) text next Unread = tt
 
-add_is : (e : Editing) (from to : List ℕ) (most : _) (a : Label) (x y : Option ℕ) (Unread : Type 0) → TurnIs Unread (λ outcome. ⊥) (answered_add e from to most a x y)
-add_is e from to most a None y Unread = tt
-add_is e from to most a (Some x) None Unread = tt
-add_is e from to most a (Some x) (Some y) Unread = edit_is e (add_refusal most_constraints e.session most a) _ (with_added e.session x y most a) Unread
+change_is : (e : Editing) (r : Result Change EditRefusal) (Unread : Type 0) → TurnIs Unread (λ outcome. ⊥) (answered_change e r)
+change_is e (Err why) Unread = tt
+change_is e (Ok change) Unread = edit_is e (refusal most_constraints (edited_of e.session) change) _ (with_change e.session change) Unread
 
 answer_is : (e : Editing) (o : Option Edit) → TurnIs (o ≡ None) (λ outcome. ⊥) (answered e o)
 answer_is e None = refl
-answer_is e (Some (added from to most a)) = add_is e from to most a (number_of e.names from) (number_of e.names to) (Some (added from to most a) ≡ None)
-answer_is e (Some (removed id)) = edit_is e (remove_refusal e.session id) _ (with_removed e.session id) (Some (removed id) ≡ None)
-answer_is e (Some (changed id most)) = edit_is e (change_refusal e.session id most) _ (with_changed e.session id most) (Some (changed id most) ≡ None)
+answer_is e (Some (added from to most a)) = change_is e (addition e.names from to most a) (Some (added from to most a) ≡ None)
+answer_is e (Some (removed id)) = change_is e (Ok (removes id)) (Some (removed id) ≡ None)
+answer_is e (Some (changed id most)) = change_is e (Ok (revalues id most)) (Some (changed id most) ≡ None)
 answer_is e (Some check_asked) = tt
 
 -- the end of an edit session that answers all its lines

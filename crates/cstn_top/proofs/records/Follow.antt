@@ -12,7 +12,7 @@ use Rattle.cstn_lines.specs.Pieces.{heard_lines}
 use Rattle.cstn_lines.specs.FollowLines.{follow_read}
 use Rattle.cstn_follow.specs.Following.{Following, Heard, says, saves, begun, left_now, verdict_now, is_any_open, following_ending, outcome_by}
 use Rattle.cstn_follow.specs.Hearing.{hear}
-use Rattle.cstn_words.specs.Requests.{Asked, follow}
+use Rattle.cstn_request.specs.Requests.{Asked, follow}
 use Rattle.cstn_reply.specs.Texts.{Said, after_text}
 use Rattle.cstn_reply.specs.Sessions.{play}
 use Rattle.cstn_reply.specs.Reached.{state_after}
@@ -21,14 +21,16 @@ use Rattle.cstn_reply.specs.declared.status.Status.{Status}
 use Rattle.cstn_reply.specs.declared.status.Status.TheVariants.{Unfinished as IsUnfinished}
 use Rattle.cstn_reply.specs.declared.output.Outcome.{Outcome}
 use Rattle.cstn_reply.specs.declared.output.Outcome.TheVariants.{Good, Bad, Words, Document, Full, Unfinished, Script, Wide}
-use Rattle.cstn_documents.specs.Documents.{HasLabelled, IsNoDocument}
+use Rattle.cstn_request.specs.Documents.{HasLabelled, IsNoDocument}
 use Rattle.cstn_top.specs.Plans.{IsOutput, MayTalk}
-use Rattle.cstn_top.specs.commands.Follow.{heard_turn, follow_turn, follow_opening, followed, IsTrueOf, EndsWith, IsVerdictOn, FollowEnds, WroteFollowing}
+use Rattle.cstn_save.specs.Canonical.{canonical}
+use Rattle.cstn_top.specs.commands.Follow.{heard_turn, follow_turn, follow_opening, followed, EndsWith, IsVerdictOn, FollowEnds, WroteFollowing}
 use Rattle.cstn_top.specs.Dispatch.{plan_at}
 use Rattle.cstn_top.specs.Meanings.{ReadsLive}
 use Rattle.cstn_top.proofs.Dispatched.{IsEnded}
 use Rattle.cstn_top.proofs.Documents.{labelled_says}
-use Rattle.cstn_top.proofs.FollowedStates.{IsSound, begun_sound, lines_sound, verdict_true}
+use Rattle.cstn_follow.specs.Turns.{IsTrueOf}
+use Rattle.cstn_follow.proofs.States.{IsSound, begun_sound, lines_sound, verdict_true}
 use Rattle.cstn_top.proofs.Labels.{IsOfLabelled, on_labels, labelled_then, none_labelled, talks_labelled}
 use Rattle.cstn_top.proofs.Played.{TurnIs, stops_at, Played, all_answered, one_last, one_stops, played}
 use Rattle.cstn_top.proofs.Proved.{IsRight, IsProved, no_evidence}
@@ -71,7 +73,7 @@ module _ (cap : ℕ) (names : List (List ℕ)) (m : Labelled) (of : IsOfLabelled
 
   -- in a state that its lines lead to
   reached_ends : (reached : Following) → state_after follow_turn (begun cap names m) 0 (heard_lines true live) ≡ Some reached → EndsIn (following_ending reached).outcome reached
-  reached_ends reached leads = ends_in reached (lines_sound (begun cap names m) reached 0 (heard_lines true live) (begun_sound cap names m of.labelled of.plain.good.few_constraints of.plain.named) leads)
+  reached_ends reached leads = ends_in reached (lines_sound canonical (begun cap names m) reached 0 (heard_lines true live) (begun_sound cap names m of.labelled of.plain.good.few_constraints of.plain.named) leads)
 
   module _ (told : Option (List ℕ)) (all : IsAllOf told live) where
     -- what the end of the session tells in the state that its lines lead to

@@ -9,7 +9,7 @@ use Rattle.cstn_reply.specs.Statuses.{status_of}
 use Rattle.cstn_reply.specs.declared.output.Outcome.{Outcome}
 use Rattle.cstn_reply.specs.declared.output.Outcome.TheVariants.{Good, Bad, Words, Document, Full, Unfinished, Script, Wide}
 use Rattle.cstn_top.proofs.Hosts.{IsToldNo, HostTells, host_tells, host_talks, first_then, host_refused}
-use Rattle.cstn_words.specs.Requests.{host}
+use Rattle.cstn_request.specs.Requests.{host}
 use Rattle.cstn_top.specs.Accepted.{IsNoText}
 use Rattle.cstn_top.specs.commands.Host.{FirstHas, attended}
 use Rattle.cstn_top.proofs.Standing.{NoAccepted, Stands}

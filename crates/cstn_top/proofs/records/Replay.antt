@@ -6,7 +6,7 @@ use Rattle.cstn_net.specs.Strategies.{IsConsistent}
 use Rattle.cstn_text.specs.Limits.{most_text}
 use Rattle.cstn_rules.proofs.Derived.{refuted_inconsistent}
 use Rattle.cstn_refute.specs.Texts.{Told as ToldText, tells, wrong as wrong_text, told as told_by}
-use Rattle.cstn_words.specs.Requests.{Asked, replay}
+use Rattle.cstn_request.specs.Requests.{Asked, replay}
 use Rattle.cstn_reply.specs.Texts.{Said, say}
 use Rattle.cstn_top.specs.Plans.{says, IsOutput, MayTalk}
 use Rattle.cstn_top.specs.Answers.{of_lowered, by_text}
@@ -15,7 +15,7 @@ use Rattle.cstn_reply.specs.Sessions.{script}
 use Rattle.cstn_lift.specs.Labelled.{Labelled}
 use Rattle.cstn_lift.specs.Lowered.{lowered}
 use Rattle.cstn_lift.specs.Strategies.{IsEquivalent, IsLabelledConsistent}
-use Rattle.cstn_documents.specs.Documents.{HasLabelled}
+use Rattle.cstn_request.specs.Documents.{HasLabelled}
 use Rattle.cstn_top.proofs.ReadBack.{no_refutation}
 use Rattle.cstn_reply.specs.Statuses.{status_of}
 use Rattle.cstn_reply.specs.declared.output.Outcome.{Outcome}

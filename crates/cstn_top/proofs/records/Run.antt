@@ -16,7 +16,7 @@ use Rattle.cstn_exec.specs.Guides.{Guided, begun, named, advanced, see_refusal}
 use Rattle.cstn_check.specs.Growth.{log_of, load_of, live_bounds}
 use Rattle.cstn_check.specs.declared.verdicts.Verdict.{Verdict}
 use Rattle.cstn_check.specs.declared.verdicts.Verdict.TheVariants.{Yes, No, Full as IsFullVerdict}
-use Rattle.cstn_words.specs.Requests.{Asked, run}
+use Rattle.cstn_request.specs.Requests.{Asked, run}
 use Rattle.cstn_reply.specs.Texts.{Said, after_text, yes_line}
 use Rattle.cstn_top.specs.Plans.{IsOutput, MayTalk, session, Plan}
 use Rattle.cstn_top.specs.commands.Run.{carried_out, run_bounds, AnswersLeast, IfLabelled, WroteRun, RunEnds, IsDecidedRun}
@@ -30,7 +30,7 @@ use Rattle.cstn_lift.specs.Labelled.{Labelled}
 use Rattle.cstn_lift.specs.Lowered.{lowered}
 use Rattle.cstn_lift.specs.Strategies.{IsLabelledConsistent}
 use Rattle.cstn_check.specs.Decisions.{verdict}
-use Rattle.cstn_documents.specs.Documents.{parts_of, HasLabelled, IsNoDocument}
+use Rattle.cstn_request.specs.Documents.{parts_of, HasLabelled, IsNoDocument}
 use Rattle.cstn_reply.specs.Statuses.{status_of}
 use Rattle.cstn_reply.specs.declared.output.Outcome.{Outcome}
 use Rattle.cstn_reply.specs.declared.output.Outcome.TheVariants.{Good, Bad, Words, Document, Full, Unfinished, Script, Wide}

@@ -3,10 +3,10 @@ use Rattle.std.proofs.Common.{◌≡◌, ℕ, List, refl, ap, sym, subst, []}
 use Rattle.std.specs.Prelude.{get_or, Option, None, Some, IsSomeAnd}
 use Rattle.cstn_graphml.specs.Document.{Parts, document}
 use Rattle.cstn_graphml.specs.Networks.{IsFit}
-use Rattle.cstn_words.specs.Requests.{Asked, save}
+use Rattle.cstn_request.specs.Requests.{Asked, save}
 use Rattle.cstn_reply.specs.Texts.{Said}
 use Rattle.cstn_top.specs.commands.Save.{saved}
-use Rattle.cstn_documents.specs.Documents.{parts_of, HasLabelled}
+use Rattle.cstn_request.specs.Documents.{parts_of, HasLabelled}
 use Rattle.cstn_reply.specs.declared.output.Outcome.{Outcome}
 use Rattle.cstn_reply.specs.declared.output.Outcome.TheVariants.{Good}
 use Rattle.cstn_top.proofs.Labels.{on_labels, labels_silent}

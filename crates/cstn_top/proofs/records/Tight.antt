@@ -1,9 +1,9 @@
 -- What is proved of `tight`.
-use Rattle.std.proofs.Common.{◌≡◌, ℕ, true, List, refl, sym, subst, []}
+use Rattle.std.proofs.Common.{ℕ, ◌<◌, List, sym, subst, []}
 use Rattle.std.specs.Prelude.{get_or, Option}
 use Rattle.cstn_net.specs.Networks.{IsWellFormed}
-use Rattle.cstn_words.specs.Requests.{Asked, tight}
-use Rattle.cstn_reply.specs.Texts.{Said, full_line}
+use Rattle.cstn_request.specs.Requests.{Asked, tight}
+use Rattle.cstn_reply.specs.Texts.{Said}
 use Rattle.cstn_top.specs.Plans.{IsOutput}
 use Rattle.cstn_top.specs.Answers.{of_lowered}
 use Rattle.cstn_top.specs.Verdicts.{IsRefutedByLog}
@@ -11,36 +11,37 @@ use Rattle.cstn_top.specs.commands.Tight.{IsTight, tightened, IsTightText}
 use Rattle.cstn_lift.specs.Labelled.{Labelled}
 use Rattle.cstn_lift.specs.Lowered.{lowered}
 use Rattle.cstn_lift.specs.Strategies.{IsEquivalent, IsLabelledConsistent}
-use Rattle.cstn_documents.specs.Documents.{HasLabelled}
+use Rattle.cstn_request.specs.Documents.{HasLabelled}
 use Rattle.cstn_top.proofs.EvidenceLemmas.{refuted_well, tight_well}
 use Rattle.cstn_reply.specs.Statuses.{status_of}
 use Rattle.cstn_reply.specs.declared.output.Outcome.{Outcome}
 use Rattle.cstn_reply.specs.declared.output.Outcome.TheVariants.{Good, Bad, Words, Document, Full, Unfinished, Script, Wide}
 use Rattle.cstn_top.proofs.Labels.{IsOfLabelled, none_labelled, on_labels, labels_silent}
-use Rattle.cstn_check.specs.Verdicts.{is_consistent}
-use Rattle.cstn_tight.specs.Bisection.{least_deadline, is_tight_full}
-use Rattle.cstn_tight.specs.Texts.{refuted_text, tight_text}
+use Rattle.cstn_check.specs.Growth.{load_of}
+use Rattle.cstn_tight.specs.Deadlines.{least_deadline}
+use Rattle.cstn_tight.specs.Texts.{tight_text}
 use Rattle.cstn_top.specs.Accepted.{IsNoText}
-use Rattle.cstn_top.proofs.Standing.{Stands, StandsFor, tight_stands}
+use Rattle.cstn_top.proofs.Standing.{Stands, StandsFor, verdict_stands, tight_stands}
 use Rattle.cstn_top.proofs.Dispatched.{IsEvidence}
+use Rattle.cstn_graphml.specs.Networks.{labelled_of}
 use Rattle.cstn_top.proofs.Proved.{IsRight, IsProved}
-use Rattle.cstn_top.proofs.Meanings.{Finds, search_says}
-use Rattle.cstn_top.proofs.SomeOutput.{said_some, document_some}
+use Rattle.cstn_top.proofs.Meanings.{Verdicts, verdict_says, verdict_silent}
+use Rattle.cstn_top.proofs.SomeOutput.{checked_some, document_some}
 
 -- what the outcome of `tight` tells
 abbrev Tightens : ℕ → Labelled → Outcome → Type 0
 Tightens cap m Good = IsLabelledConsistent m × IsTight (lowered m) (least_deadline (lowered m))
 Tightens cap m Bad = (IsLabelledConsistent m → ⊥) × IsRefutedByLog (lowered m)
-Tightens cap m Full = is_tight_full cap (lowered m) ≡ true
+Tightens cap m Full = cap < load_of (lowered m)
 Tightens cap m Words = ⊥
 Tightens cap m Document = ⊥
 Tightens cap m Unfinished = ⊥
 Tightens cap m Script = ⊥
 Tightens cap m Wide = ⊥
 
-tightens : (cap : ℕ) (m : Labelled) (o : Outcome) → IsWellFormed (lowered m) → IsEquivalent m (lowered m) → Finds (is_tight_full cap (lowered m)) (lowered m) o → Tightens cap m o
-tightens cap m Good good same is = (same.consistent.1 is.0, tight_well cap (lowered m) good is.1 is.0)
-tightens cap m Bad good same is = (λ has. is (same.consistent.0 has), refuted_well (lowered m) good is)
+tightens : (cap : ℕ) (m : Labelled) (o : Outcome) → IsWellFormed (lowered m) → IsEquivalent m (lowered m) → Verdicts cap (lowered m) o → Tightens cap m o
+tightens cap m Good good same is = (same.consistent.1 is.0, tight_well (lowered m) good is.0)
+tightens cap m Bad good same is = (λ has. is.0 (same.consistent.0 has), refuted_well (lowered m) good is.0)
 tightens cap m Full good same is = is
 tightens cap m Words good same is = is
 tightens cap m Document good same is = is
@@ -61,7 +62,7 @@ tight_right live asked cap contents Wide has = none_labelled (get_or contents 0 
 tight_tells : (cap : ℕ) (live : List ℕ) (said : Said) (names : List (List ℕ)) (m : Labelled) → IsOfLabelled names m → IsOutput (tightened cap names (lowered m)) live said → Tightens cap m said.outcome
 tight_tells cap live said names m of is =
     tightens cap m said.outcome of.plain.good of.same
-    (search_says (is_tight_full cap (lowered m)) (is_consistent (lowered m)) (lowered m) (full_line cap) (tight_text names (lowered m) (least_deadline (lowered m))) (refuted_text names (lowered m)) live said of.plain.good refl is)
+    (verdict_says cap names (lowered m) (tight_text names (lowered m) (least_deadline (lowered m))) live said of.plain.good is)
 
 tight_shown : (asked : Asked) (cap : ℕ) (contents : List (List ℕ)) (o : Outcome) (text : List ℕ) → HasLabelled (get_or contents 0 []) asked.deadline (λ names m. Stands o (IsTightText names (lowered m) text) (IsNoText names (lowered m) text)) → IsEvidence (tight asked cap) (status_of o) text contents
 tight_shown asked cap contents Good text has = has
@@ -82,11 +83,12 @@ tight_proved asked cap = record {
   evidence = λ yes_text no_text contents live said capped output.
       on_labels (of_lowered (tightened cap)) (get_or contents 0 []) asked.deadline live said (λ names m. StandsFor (IsTightText names (lowered m)) (IsNoText names (lowered m)) said) (IsEvidence (tight asked cap) (status_of said.outcome) said.text contents)
       (λ is refused. subst (λ (o : Outcome). IsEvidence (tight asked cap) (status_of o) said.text contents) (sym is) tt)
-      (λ names m of out. tight_stands yes_text no_text cap names (lowered m) live said of.plain capped out)
+      (λ names m of out. verdict_stands yes_text no_text cap names (lowered m) (tight_text names (lowered m) (least_deadline (lowered m))) live said (IsTightText names (lowered m)) of.plain capped
+      (tight_stands yes_text no_text cap names (lowered m) of.plain capped) out)
       (tight_shown asked cap contents said.outcome said.text) output;
   talks = λ contents may.
       labels_silent (of_lowered (tightened cap)) (get_or contents 0 []) asked.deadline
-      (λ names m may'. may') may;
+      (λ names m. verdict_silent cap names (lowered m) (tight_text names (lowered m) (least_deadline (lowered m)))) may;
   wants = λ contents wants may. absurd wants;
   refused = λ told question prepared asks comes fits. tt;
   least = λ contents. tt;
@@ -95,5 +97,5 @@ tight_proved asked cap = record {
   unfinished = λ told old new contents ended. tt;
   some = λ laws contents live ranged held.
       document_some laws.made (of_lowered (tightened cap)) (get_or contents 0 []) asked.deadline live held
-      (λ parts is fit. said_some _ live);
+      (λ parts is fit. checked_some cap parts.names (lowered (labelled_of parts)) _ live);
 }

@@ -6,13 +6,13 @@ use Rattle.cstn_net.specs.Networks.{Network}
 use Rattle.cstn_graphml.specs.Document.{document}
 use Rattle.cstn_check.specs.Growth.{log_of, load_of, live_bounds}
 use Rattle.cstn_tree.specs.Limits.{most_observed}
-use Rattle.cstn_words.specs.Requests.{Asked, tree}
+use Rattle.cstn_request.specs.Requests.{Asked, tree}
 use Rattle.cstn_reply.specs.Texts.{Said, say}
 use Rattle.cstn_top.specs.Plans.{says, IsOutput, Plan, branches}
 use Rattle.cstn_top.specs.Answers.{on_verdict}
 use Rattle.cstn_top.specs.commands.Tree.{IsDecidedTree, unfolded, IsTreeProof}
 use Rattle.cstn_check.specs.Decisions.{verdict}
-use Rattle.cstn_documents.specs.Documents.{parts_of, HasNetwork}
+use Rattle.cstn_request.specs.Documents.{parts_of, HasNetwork}
 use Rattle.cstn_reply.specs.Statuses.{status_of}
 use Rattle.cstn_reply.specs.declared.output.Outcome.{Outcome}
 use Rattle.cstn_reply.specs.declared.output.Outcome.TheVariants.{Good, Bad, Words, Document, Full, Unfinished, Script, Wide}

@@ -2,10 +2,10 @@
 use Rattle.std.proofs.Common.{ℕ, List, []}
 use Rattle.std.specs.Prelude.{get_or, Option}
 use Rattle.cstn_graphml.specs.Document.{document}
-use Rattle.cstn_words.specs.Requests.{Asked, treecheck}
+use Rattle.cstn_request.specs.Requests.{Asked, treecheck}
 use Rattle.cstn_top.specs.Answers.{by_text}
 use Rattle.cstn_top.specs.commands.Treecheck.{tree_checked}
-use Rattle.cstn_documents.specs.Documents.{parts_of, HasNetwork}
+use Rattle.cstn_request.specs.Documents.{parts_of, HasNetwork}
 use Rattle.cstn_reply.specs.declared.output.Outcome.{Outcome}
 use Rattle.cstn_reply.specs.declared.output.Outcome.TheVariants.{Good, Bad, Words, Document, Full, Unfinished, Script, Wide}
 use Rattle.cstn_tree.specs.Texts.{told as told_tree}

@@ -1,12 +1,12 @@
 -- What is proved of `--version`.
 use Rattle.std.proofs.Common.{ℕ, List, [], refl, ap, sym, subst}
 use Rattle.std.specs.Prelude.{Option}
-use Rattle.cstn_words.specs.Requests.{version}
-use Rattle.cstn_words.specs.declared.words.Release.{Release}
+use Rattle.cstn_request.specs.Requests.{version}
+use Rattle.cstn_request.specs.declared.words.Release.{Release}
 use Rattle.cstn_reply.specs.Texts.{Said}
 use Rattle.cstn_reply.specs.Statuses.{status_of}
 use Rattle.cstn_reply.specs.declared.output.Outcome.{Outcome}
-use Rattle.cstn_documents.proofs.Contents.{none_there}
+use Rattle.cstn_request.proofs.Contents.{none_there}
 use Rattle.cstn_top.specs.Plans.{says}
 use Rattle.cstn_top.specs.Questions.{Asks}
 use Rattle.cstn_top.specs.commands.Version.{versioned}

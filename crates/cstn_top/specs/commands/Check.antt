@@ -5,12 +5,12 @@ use Rattle.cstn_lift.specs.Lowered.{lowered}
 use Rattle.cstn_check.specs.Growth.{load_of}
 use Rattle.cstn_check.specs.Decisions.{verdict}
 use Rattle.cstn_graphml.specs.Answers.{CanBeHeld}
-use Rattle.cstn_words.specs.Requests.{Asked}
+use Rattle.cstn_request.specs.Requests.{Asked}
 use Rattle.cstn_reply.specs.Texts.{yes_line}
 use Rattle.cstn_reply.specs.declared.output.Outcome.TheVariants.{Good}
 use Rattle.cstn_reply.specs.declared.status.Status.TheVariants.{Document}
-use Rattle.cstn_documents.specs.Files.{AreThere}
-use Rattle.cstn_documents.specs.Documents.{HasLabelled, IsNoDocument}
+use Rattle.cstn_request.specs.Files.{AreThere}
+use Rattle.cstn_request.specs.Documents.{HasLabelled, IsNoDocument}
 use Rattle.cstn_top.specs.Plans.{says}
 use Rattle.cstn_top.specs.Answers.{Answer, of_lowered, on_labelled, on_verdict}
 use Rattle.cstn_top.specs.Accepted.{IsNoText}

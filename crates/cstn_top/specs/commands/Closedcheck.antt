@@ -7,10 +7,10 @@ use Rattle.cstn_rules.specs.Closed.{IsClosed}
 use Rattle.cstn_closed.specs.Faults.{Fault, IsFirstFault, IsFaultless}
 use Rattle.cstn_closed.specs.Texts.{Told, tells, wrong, told as told_bounds}
 use Rattle.cstn_graphml.specs.Answers.{CanBeHeld}
-use Rattle.cstn_words.specs.Requests.{Asked}
+use Rattle.cstn_request.specs.Requests.{Asked}
 use Rattle.cstn_reply.specs.Sessions.{script}
-use Rattle.cstn_documents.specs.Files.{AreThere}
-use Rattle.cstn_documents.specs.Documents.{HasLabelled}
+use Rattle.cstn_request.specs.Files.{AreThere}
+use Rattle.cstn_request.specs.Documents.{HasLabelled}
 use Rattle.cstn_top.specs.Plans.{Plan, says, certifies}
 use Rattle.cstn_top.specs.Answers.{Answer, of_lowered, on_labelled, by_text}
 use Rattle.cstn_top.specs.Command.{Command, a_text, Nothing, file_in, proof_in, no_lines}

@@ -1,16 +1,16 @@
 -- `conflict FILE [--deadline N] [--cap CAP]`: constraints that can't be met together.
-use Rattle.std.specs.Prelude.{◌≡◌, ◌≤◌, ◌++◌, ℕ, true, List, [], ◌∷◌}
+use Rattle.std.specs.Prelude.{◌≡◌, ◌≤◌, ◌++◌, ℕ, Some, List, [], ◌∷◌}
 use Rattle.std.specs.List.{Contains}
 use Rattle.cstn_net.specs.Limits.{most_load}
 use Rattle.cstn_net.specs.Networks.{Network}
 use Rattle.cstn_net.specs.Strategies.{IsConsistent}
+use Rattle.cstn_check.specs.Givers.{with_ids, without}
 use Rattle.cstn_graphml.specs.Answers.{CanBeHeld}
 use Rattle.cstn_conflict.specs.Texts.{blamed as blamed_text, ids_line}
-use Rattle.cstn_conflict.specs.Sets.{less, with_ids}
-use Rattle.cstn_conflict.specs.Conflicts.{conflict_set, is_conflict_full as is_blame_full}
-use Rattle.cstn_words.specs.Requests.{Asked}
-use Rattle.cstn_documents.specs.Files.{AreThere}
-use Rattle.cstn_documents.specs.Documents.{HasNetwork}
+use Rattle.cstn_conflict.specs.Conflicts.{conflict_set, IsConflictFull}
+use Rattle.cstn_request.specs.Requests.{Asked}
+use Rattle.cstn_request.specs.Files.{AreThere}
+use Rattle.cstn_request.specs.Documents.{HasNetwork}
 use Rattle.cstn_top.specs.Plans.{says}
 use Rattle.cstn_top.specs.Answers.{Answer, on_document}
 use Rattle.cstn_top.specs.Accepted.{IsNoText}
@@ -25,7 +25,7 @@ blamed cap names net = says (blamed_text cap names net)
 pub record IsConflict (net : Network) (ids : List ℕ) : Type 0 where
   pub inconsistent : IsConsistent (with_ids net ids) → ⊥
   pub refuted : IsRefutedByLog (with_ids net ids)
-  pub needed : (id : ℕ) → Contains ids id → IsConsistent (with_ids net (less id ids))
+  pub needed : (id : ℕ) → Contains ids id → IsConsistent (without id (with_ids net ids))
 
 -- the ids of a conflict set, and a text that refutes the network with these constraints alone, which is consistent without any
 -- one of them
@@ -34,16 +34,17 @@ pub record IsConflictText (names : List (List ℕ)) (net : Network) (text : List
   pub steps : List ℕ
   pub parts : text ≡ ids_line ids ++ steps
   pub no_with : IsNoText names (with_ids net ids) steps
-  pub needed : (id : ℕ) → Contains ids id → IsConsistent (with_ids net (less id ids))
+  pub needed : (id : ℕ) → Contains ids id → IsConsistent (without id (with_ids net ids))
 
 abbrev pub conflict_command : Asked → ℕ → Command
 conflict_command asked cap = record {
   plan = λ contents. on_document (blamed cap) (file_in contents) asked.deadline;
   kind = a_text;
-  -- the network has a strategy; or it has none, and the constraints are such a set; or a log that was tried is too long
+  -- the network has a strategy; or it has none, and the constraints that are found are such a set; or a log is too long
   good = λ live contents. HasNetwork (file_in contents) asked.deadline (λ names net. IsConsistent net);
-  bad = λ live contents. HasNetwork (file_in contents) asked.deadline (λ names net. (IsConsistent net → ⊥) × IsConflict net (conflict_set net));
-  full = λ live contents. HasNetwork (file_in contents) asked.deadline (λ names net. is_blame_full cap net ≡ true);
+  bad = λ live contents. HasNetwork (file_in contents) asked.deadline (λ names net.
+      (IsConsistent net → ⊥) × (ids : List ℕ) × (conflict_set cap net ≡ Some ids) × IsConflict net ids);
+  full = λ live contents. HasNetwork (file_in contents) asked.deadline (λ names net. IsConflictFull cap net);
   wide = λ contents. ⊥;
   complete = λ status contents. Nothing;
   good_text = λ text contents. Nothing;

@@ -12,7 +12,7 @@ use Rattle.cstn_check.specs.Decisions.{verdict}
 use Rattle.cstn_reply.specs.Texts.{Said}
 use Rattle.cstn_reply.specs.declared.output.Outcome.TheVariants.{Good}
 use Rattle.cstn_reply.specs.declared.status.Status.TheVariants.{Good as IsGood}
-use Rattle.cstn_documents.specs.Files.{AreThere}
+use Rattle.cstn_request.specs.Files.{AreThere}
 use Rattle.cstn_top.specs.Plans.{says}
 use Rattle.cstn_top.specs.Command.{Command, a_text, Nothing, no_lines}
 

@@ -7,12 +7,12 @@ use Rattle.cstn_graphml.specs.Answers.{CanBeHeld}
 use Rattle.cstn_check.specs.Growth.{load_of}
 use Rattle.cstn_lines.specs.Pieces.{lines_of}
 use Rattle.cstn_lines.specs.EditLines.{edit_read}
-use Rattle.cstn_words.specs.Requests.{Asked}
+use Rattle.cstn_request.specs.Requests.{Asked}
 use Rattle.cstn_reply.specs.Sessions.{play}
 use Rattle.cstn_reply.specs.declared.status.Status.{Status}
 use Rattle.cstn_reply.specs.declared.status.Status.TheVariants.{Good, Bad, Document, Full, Script}
-use Rattle.cstn_documents.specs.Files.{AreThere}
-use Rattle.cstn_documents.specs.Documents.{HasNetwork, IsRefused}
+use Rattle.cstn_request.specs.Files.{AreThere}
+use Rattle.cstn_request.specs.Documents.{HasNetwork, IsRefused}
 use Rattle.cstn_edit.specs.Editing.{begun_editing, edit_turn, edit_wants, edit_ending, last_checked}
 use Rattle.cstn_top.specs.Plans.{session}
 use Rattle.cstn_top.specs.Answers.{Answer, on_document}

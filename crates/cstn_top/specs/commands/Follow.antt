@@ -7,23 +7,20 @@ use Rattle.cstn_lift.specs.Read.{the_labelled}
 use Rattle.cstn_graphml.specs.Answers.{CanBeHeld}
 use Rattle.cstn_save.specs.Canonical.{canonical}
 use Rattle.cstn_check.specs.Growth.{load_of}
-use Rattle.cstn_check.specs.declared.verdicts.Verdict.{Verdict}
-use Rattle.cstn_check.specs.declared.verdicts.Verdict.TheVariants.{Yes, No, Full as IsFullVerdict}
 use Rattle.cstn_history.specs.Continuations.{Can}
 use Rattle.cstn_lines.specs.Pieces.{heard_lines}
-use Rattle.cstn_lines.specs.FollowLines.{Follow, follow_read, done_at, came_at, now_at, awaited_at, edits, ends_by, asks_next, asks_by, asks_blame, asks_rest}
-use Rattle.cstn_follow.specs.Following.{Following, Heard, says, saves, begun, left_now, verdict_now, verdict_line, is_any_open, following_ending}
-use Rattle.cstn_follow.specs.Hearing.{hear}
+use Rattle.cstn_follow.specs.Following.{Following, Heard, begun, left_now, verdict_now, verdict_line, is_any_open, following_ending}
+use Rattle.cstn_follow.specs.Turns.{heard_by, turn_by}
 use Rattle.cstn_follow.specs.declared.sessions.Heard.{Heard as HeardText}
 use Rattle.cstn_follow.specs.declared.sessions.Heard.TheVariants.{Text, Rest}
-use Rattle.cstn_words.specs.Requests.{Asked}
+use Rattle.cstn_request.specs.Requests.{Asked}
 use Rattle.cstn_reply.specs.Texts.{Said, line}
-use Rattle.cstn_reply.specs.Sessions.{Turn, more, play}
+use Rattle.cstn_reply.specs.Sessions.{Turn, play}
 use Rattle.cstn_reply.specs.Reached.{state_after}
 use Rattle.cstn_reply.specs.declared.status.Status.{Status}
 use Rattle.cstn_reply.specs.declared.status.Status.TheVariants.{Good, Bad, Document, Full, Unfinished, Script}
-use Rattle.cstn_documents.specs.Files.{AreThere}
-use Rattle.cstn_documents.specs.Documents.{HasLabelled, IsNoDocument}
+use Rattle.cstn_request.specs.Files.{AreThere}
+use Rattle.cstn_request.specs.Documents.{HasLabelled, IsNoDocument}
 use Rattle.cstn_top.specs.Plans.{ended_session}
 use Rattle.cstn_top.specs.Answers.{LabelledAnswer, on_labelled}
 use Rattle.cstn_top.specs.Lines.{StopsAtLine}
@@ -31,8 +28,7 @@ use Rattle.cstn_top.specs.Command.{Command, a_follow, Nothing, file_in}
 
 -- what is said to a line is a text, or the canonical document of what is left
 abbrev pub heard_turn : Heard → Turn Following
-heard_turn (says text next) = more text next
-heard_turn (saves m names next) = more (canonical m names) next
+heard_turn = heard_by canonical
 
 -- the text of what the program says to a line
 abbrev pub heard_text : HeardText → List ℕ
@@ -41,7 +37,7 @@ heard_text (Rest network names) = canonical (the_labelled network) names
 
 -- the answer to a line, which may be none of the session
 abbrev pub follow_turn : Following → List ℕ → Turn Following
-follow_turn s text = heard_turn (hear s (follow_read text))
+follow_turn = turn_by canonical
 
 -- the version of the lines, and the first verdict
 abbrev pub follow_opening : Following → List ℕ
@@ -54,25 +50,6 @@ followed cap names m = ended_session follow_turn following_ending (follow_openin
 -- what is said to lines, after the opening
 abbrev pub said_to_lines : ℕ → List (List ℕ) → Labelled → List (List ℕ) → Said
 said_to_lines cap names m lines = play follow_turn following_ending (begun cap names m) 0 lines
-
--- the line tells what has happened, or what is expected
-abbrev pub IsFact : Follow → Type 0
-IsFact (done_at t names) = Unit {0}
-IsFact (came_at t p value) = Unit {0}
-IsFact (now_at t) = Unit {0}
-IsFact (awaited_at t p) = Unit {0}
-IsFact (edits edit) = ⊥
-IsFact (ends_by deadline) = ⊥
-IsFact asks_next = ⊥
-IsFact (asks_by name) = ⊥
-IsFact asks_blame = ⊥
-IsFact asks_rest = ⊥
-
--- what a verdict says of what has happened: some table continues it, or none does, or the log of what is left is too long
-abbrev pub IsTrueOf : Following → Verdict → Type 0
-IsTrueOf s (Yes load) = Can s.network s.history
-IsTrueOf s (No load) = Can s.network s.history → ⊥
-IsTrueOf s IsFullVerdict = s.cap < load_of (lowered (left_now s))
 
 -- the lines of the live source, which has these bytes, lead to a state in which nothing is left, and of which this holds
 pub record EndsWith (told : Option (List ℕ)) (cap : ℕ) (names : List (List ℕ)) (m : Labelled) (holds : Following → Type 0) : Type 0 where

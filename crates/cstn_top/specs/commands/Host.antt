@@ -6,10 +6,10 @@ use Rattle.cstn_net.specs.Networks.{Network}
 use Rattle.cstn_graphml.specs.Answers.{CanBeHeld}
 use Rattle.cstn_check.specs.Growth.{load_of}
 use Rattle.cstn_check.specs.Decisions.{verdict, IsYes, IsNo}
-use Rattle.cstn_host.specs.Sessions.{begun, host_turn, host_wants, host_ending}
-use Rattle.cstn_host.specs.Files.{Named, the_file, yes_lines}
-use Rattle.cstn_documents.specs.Files.{AreThere}
-use Rattle.cstn_documents.specs.Documents.{HasNetwork, IsRefused}
+use Rattle.cstn_run.specs.hosted.Sessions.{begun, host_turn, host_wants, host_ending}
+use Rattle.cstn_run.specs.hosted.Files.{Named, the_file, yes_lines}
+use Rattle.cstn_request.specs.Files.{AreThere}
+use Rattle.cstn_request.specs.Documents.{HasNetwork, IsRefused}
 use Rattle.cstn_top.specs.Plans.{Plan, session}
 use Rattle.cstn_top.specs.Answers.{on_document, on_verdict}
 use Rattle.cstn_top.specs.Accepted.{IsNoText}

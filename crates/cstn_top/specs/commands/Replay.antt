@@ -7,12 +7,12 @@ use Rattle.cstn_lift.specs.Strategies.{IsLabelledConsistent}
 use Rattle.cstn_rules.specs.Derivations.{IsRefutation}
 use Rattle.cstn_refute.specs.Texts.{Told, tells, wrong, told as told_by}
 use Rattle.cstn_graphml.specs.Answers.{CanBeHeld}
-use Rattle.cstn_words.specs.Requests.{Asked}
+use Rattle.cstn_request.specs.Requests.{Asked}
 use Rattle.cstn_reply.specs.Sessions.{script}
 use Rattle.cstn_reply.specs.declared.status.Status.{Status}
 use Rattle.cstn_reply.specs.declared.status.Status.TheVariants.{Good, Bad, Document, Script}
-use Rattle.cstn_documents.specs.Files.{AreThere}
-use Rattle.cstn_documents.specs.Documents.{HasLabelled, IsNoDocument}
+use Rattle.cstn_request.specs.Files.{AreThere}
+use Rattle.cstn_request.specs.Documents.{HasLabelled, IsNoDocument}
 use Rattle.cstn_top.specs.Plans.{Plan, says, replays}
 use Rattle.cstn_top.specs.Answers.{Answer, of_lowered, on_labelled, by_text}
 use Rattle.cstn_top.specs.Command.{Command, a_text, Nothing, file_in, proof_in, no_lines}

@@ -16,14 +16,14 @@ use Rattle.cstn_exec.specs.Moves.{moment_refusal}
 use Rattle.cstn_exec.specs.Guides.{Guided, begun}
 use Rattle.cstn_lines.specs.Pieces.{lines_of}
 use Rattle.cstn_lines.specs.LiveLines.{moment_at, seen, due_now, live_read}
-use Rattle.cstn_words.specs.Requests.{Asked}
+use Rattle.cstn_request.specs.Requests.{Asked}
 use Rattle.cstn_reply.specs.Texts.{yes_line}
 use Rattle.cstn_reply.specs.declared.status.Status.{Status}
 use Rattle.cstn_reply.specs.declared.status.Status.TheVariants.{Good, Bad, Document, Full, Unfinished, Script}
-use Rattle.cstn_documents.specs.Files.{AreThere}
-use Rattle.cstn_documents.specs.Documents.{parts_of, HasLabelled, IsNoDocument}
+use Rattle.cstn_request.specs.Files.{AreThere}
+use Rattle.cstn_request.specs.Documents.{parts_of, HasLabelled, IsNoDocument}
 use Rattle.cstn_run.specs.Sessions.{guide_turn, guide_ending}
-use Rattle.cstn_run.specs.Meanings.{GuidesTo, NamesLeast, TellsDue, AcceptsExactly, SeesExactly, IsTimely, said_to, IsCarriedThrough, EndsUnfinished}
+use Rattle.cstn_run.specs.Meanings.{GuidesTo, GuideNamesLeast, GuideTellsDue, AcceptsExactly, SeesExactly, IsTimely, said_to, IsCarriedThrough, EndsUnfinished}
 use Rattle.cstn_top.specs.Plans.{session}
 use Rattle.cstn_top.specs.Answers.{LabelledAnswer, on_labelled, on_verdict}
 use Rattle.cstn_top.specs.Accepted.{IsNoText}
@@ -49,11 +49,11 @@ run_bounds m = live_bounds (log_of (lowered m))
 -- exactly where its observer was named and no outcome of that proposition is kept. Over any lines, each time-point that an answer
 -- names is named at its least moment.
 pub record AnswersLeast (names : List (List ℕ)) (m : Labelled) (bounds : List Bound) : Type 0 where
-  pub moments : (before : List (List ℕ)) (next : List ℕ) (g : Guided) (t : ℕ) → GuidesTo names m bounds before next g → live_read next ≡ Some (moment_at t) → moment_refusal (lowered m) bounds g.run t ≡ None → NamesLeast names m bounds before next g t
+  pub moments : (before : List (List ℕ)) (next : List ℕ) (g : Guided) (t : ℕ) → GuidesTo names m bounds before next g → live_read next ≡ Some (moment_at t) → moment_refusal (lowered m) bounds g.run t ≡ None → GuideNamesLeast names m bounds before next g t
   pub accepted : (before : List (List ℕ)) (next : List ℕ) (g : Guided) (t : ℕ) → GuidesTo names m bounds before next g → live_read next ≡ Some (moment_at t) → AcceptsExactly names m bounds before next g t
   pub outcomes : (before : List (List ℕ)) (next : List ℕ) (g : Guided) (p : ℕ) (value : Bool) → GuidesTo names m bounds before next g → live_read next ≡ Some (seen p value) → SeesExactly names m bounds before next g p value
   pub timely : (lines : List (List ℕ)) → IsTimely names m bounds lines
-  pub due : (before : List (List ℕ)) (next : List ℕ) (g : Guided) → GuidesTo names m bounds before next g → live_read next ≡ Some due_now → TellsDue names m bounds before next g
+  pub due : (before : List (List ℕ)) (next : List ℕ) (g : Guided) → GuidesTo names m bounds before next g → live_read next ≡ Some due_now → GuideTellsDue names m bounds before next g
 
 -- where the document of the bytes has a labelled network, this holds of it under the names of its time-points
 abbrev pub IfLabelled : List ℕ → Option ℕ → (List (List ℕ) → Labelled → Type 0) → Type 0

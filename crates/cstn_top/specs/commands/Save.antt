@@ -2,10 +2,10 @@
 use Rattle.std.specs.Prelude.{[], ◌∷◌}
 use Rattle.cstn_graphml.specs.Answers.{CanBeHeld}
 use Rattle.cstn_save.specs.Canonical.{canonical}
-use Rattle.cstn_words.specs.Requests.{Asked}
+use Rattle.cstn_request.specs.Requests.{Asked}
 use Rattle.cstn_reply.specs.declared.output.Outcome.TheVariants.{Good}
-use Rattle.cstn_documents.specs.Files.{AreThere}
-use Rattle.cstn_documents.specs.Documents.{HasLabelled}
+use Rattle.cstn_request.specs.Files.{AreThere}
+use Rattle.cstn_request.specs.Documents.{HasLabelled}
 use Rattle.cstn_top.specs.Plans.{says}
 use Rattle.cstn_top.specs.Answers.{LabelledAnswer, on_labelled}
 use Rattle.cstn_top.specs.Command.{Command, a_text, Nothing, file_in, no_lines}

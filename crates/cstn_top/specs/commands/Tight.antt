@@ -1,26 +1,27 @@
 -- `tight FILE [--deadline N] [--cap CAP]`: the least deadline.
-use Rattle.std.specs.Prelude.{◌≡◌, ◌⊎◌, ◌≤◌, ◌-◌, ◌++◌, ℕ, true, List, [], ◌∷◌, codes, decimal}
+use Rattle.std.specs.Prelude.{◌≡◌, ◌⊎◌, ◌<◌, ◌≤◌, ◌-◌, ◌++◌, ℕ, List, [], ◌∷◌, codes, decimal}
 use Rattle.cstn_net.specs.Limits.{most_load}
 use Rattle.cstn_net.specs.Networks.{Network}
 use Rattle.cstn_lift.specs.Lowered.{lowered}
 use Rattle.cstn_lift.specs.Strategies.{IsLabelledConsistent}
 use Rattle.cstn_graphml.specs.Answers.{CanBeHeld}
-use Rattle.cstn_tight.specs.Texts.{tightened as tightened_text}
-use Rattle.cstn_tight.specs.Deadlines.{at_deadline, IsLeastDeadline}
-use Rattle.cstn_tight.specs.Bisection.{least_deadline, is_tight_full}
-use Rattle.cstn_words.specs.Requests.{Asked}
+use Rattle.cstn_check.specs.Decisions.{verdict}
+use Rattle.cstn_check.specs.Growth.{load_of}
+use Rattle.cstn_tight.specs.Texts.{tight_said}
+use Rattle.cstn_tight.specs.Deadlines.{at_deadline, IsLeastDeadline, least_deadline}
+use Rattle.cstn_request.specs.Requests.{Asked}
 use Rattle.cstn_reply.specs.Texts.{line}
-use Rattle.cstn_documents.specs.Files.{AreThere}
-use Rattle.cstn_documents.specs.Documents.{HasLabelled}
+use Rattle.cstn_request.specs.Files.{AreThere}
+use Rattle.cstn_request.specs.Documents.{HasLabelled}
 use Rattle.cstn_top.specs.Plans.{says}
-use Rattle.cstn_top.specs.Answers.{Answer, of_lowered, on_labelled}
+use Rattle.cstn_top.specs.Answers.{Answer, of_lowered, on_labelled, on_verdict}
 use Rattle.cstn_top.specs.Accepted.{IsYesText, IsNoText}
 use Rattle.cstn_top.specs.Verdicts.{IsListed, IsRefutedByLog}
 use Rattle.cstn_top.specs.Command.{Command, a_text, Nothing, file_in, no_lines}
 
--- what `tight` says of a network
+-- what `tight` says of a network: this after yes
 abbrev pub tightened : ℕ → Answer
-tightened cap names net = says (tightened_text cap names net)
+tightened cap names net = on_verdict cap names net (says (tight_said names net)) (verdict cap net)
 
 -- h is the least deadline of the network: the bounds at h have no fault, and unless h is 0, the log one tick below has a
 -- refutation
@@ -44,11 +45,11 @@ abbrev pub tight_command : Asked → ℕ → Command
 tight_command asked cap = record {
   plan = λ contents. on_labelled (of_lowered (tightened cap)) (file_in contents) asked.deadline;
   kind = a_text;
-  -- the deadline is the least; or the network has no strategy; or a log that was tried has more than `cap` entries
+  -- the deadline is the least; or the network has no strategy; or its log has more than `cap` entries
   good = λ live contents.
       HasLabelled (file_in contents) asked.deadline (λ names m. IsLabelledConsistent m × IsTight (lowered m) (least_deadline (lowered m)));
   bad = λ live contents. HasLabelled (file_in contents) asked.deadline (λ names m. (IsLabelledConsistent m → ⊥) × IsRefutedByLog (lowered m));
-  full = λ live contents. HasLabelled (file_in contents) asked.deadline (λ names m. is_tight_full cap (lowered m) ≡ true);
+  full = λ live contents. HasLabelled (file_in contents) asked.deadline (λ names m. cap < load_of (lowered m));
   wide = λ contents. ⊥;
   complete = λ status contents. Nothing;
   good_text = λ text contents. HasLabelled (file_in contents) asked.deadline (λ names m. IsTightText names (lowered m) text);

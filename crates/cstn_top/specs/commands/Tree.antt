@@ -8,13 +8,13 @@ use Rattle.cstn_check.specs.Decisions.{verdict, IsYes, IsNo}
 use Rattle.cstn_graphml.specs.Answers.{CanBeHeld}
 use Rattle.cstn_tree.specs.Limits.{most_observed}
 use Rattle.cstn_tree.specs.Unfolded.{observed, wide as wide_line, IsTreeText}
-use Rattle.cstn_words.specs.Requests.{Asked}
+use Rattle.cstn_request.specs.Requests.{Asked}
 use Rattle.cstn_reply.specs.Texts.{Said, say}
 use Rattle.cstn_reply.specs.declared.output.Outcome.TheVariants.{Good}
 use Rattle.cstn_reply.specs.declared.status.Status.{Status}
 use Rattle.cstn_reply.specs.declared.status.Status.TheVariants.{Document, Wide}
-use Rattle.cstn_documents.specs.Files.{AreThere}
-use Rattle.cstn_documents.specs.Documents.{HasNetwork, IsRefused}
+use Rattle.cstn_request.specs.Files.{AreThere}
+use Rattle.cstn_request.specs.Documents.{HasNetwork, IsRefused}
 use Rattle.cstn_top.specs.Plans.{says, branches}
 use Rattle.cstn_top.specs.Answers.{Answer, on_document, on_verdict, by_text}
 use Rattle.cstn_top.specs.Accepted.{IsAccepted, IsNoText}

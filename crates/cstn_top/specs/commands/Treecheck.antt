@@ -8,9 +8,9 @@ use Rattle.cstn_tree.specs.Good.{first_broken, IsUnbroken}
 use Rattle.cstn_tree.specs.Read.{the_tree}
 use Rattle.cstn_tree.specs.Texts.{Told, tells, wrong, told as told_tree}
 use Rattle.cstn_tree.specs.Trees.{table_of}
-use Rattle.cstn_words.specs.Requests.{Asked}
-use Rattle.cstn_documents.specs.Files.{AreThere}
-use Rattle.cstn_documents.specs.Documents.{HasNetwork}
+use Rattle.cstn_request.specs.Requests.{Asked}
+use Rattle.cstn_request.specs.Files.{AreThere}
+use Rattle.cstn_request.specs.Documents.{HasNetwork}
 use Rattle.cstn_top.specs.Plans.{Plan, says}
 use Rattle.cstn_top.specs.Answers.{Answer, on_document, by_text}
 use Rattle.cstn_top.specs.Command.{Command, a_text, Nothing, file_in, proof_in, no_lines}

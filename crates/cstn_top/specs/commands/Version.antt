@@ -1,10 +1,10 @@
 -- `--version`: the number of the program's release, and the version of its lines.
 use Rattle.std.specs.Prelude.{◌≡◌, ℕ, List, [], ◌++◌, codes, decimal}
-use Rattle.cstn_words.specs.declared.words.Release.{Release}
+use Rattle.cstn_request.specs.declared.words.Release.{Release}
 use Rattle.cstn_reply.specs.Texts.{Said, line}
 use Rattle.cstn_reply.specs.declared.output.Outcome.TheVariants.{Good}
 use Rattle.cstn_reply.specs.declared.status.Status.TheVariants.{Good as IsGood}
-use Rattle.cstn_documents.specs.Files.{AreThere}
+use Rattle.cstn_request.specs.Files.{AreThere}
 use Rattle.cstn_top.specs.Plans.{says}
 use Rattle.cstn_top.specs.Command.{Command, a_text, Nothing, no_lines}
 

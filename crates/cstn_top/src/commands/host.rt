@@ -7,8 +7,8 @@ ghost use Rattle.cstn_net.specs.Read.{the_network};
 ghost use Rattle.cstn_text.specs.PrintedNames.{printed_name};
 ghost use Rattle.cstn_reply.specs.Texts.{yes_line};
 ghost use Rattle.cstn_exec.specs.Running.{AreShort};
-ghost use Rattle.cstn_host.specs.SessionRead.{the_names, IsHostSession};
-ghost use Rattle.cstn_words.specs.Limits.{most_files};
+ghost use Rattle.cstn_run.specs.hosted.SessionRead.{the_names, IsHostSession};
+ghost use Rattle.cstn_request.specs.Limits.{most_files};
 ghost use Rattle.cstn_top.specs.Begun.{the_named, IsSound, IsBegin};
 ghost use Rattle.cstn_top.specs.commands.Host.{attended};
 ghost use Rattle.cstn_top.specs.Plans.{ComesTo};
@@ -17,11 +17,11 @@ ghost use Rattle.cstn_top.specs.Command.{a_host};
 
 use super::Prepared;
 use cstn_check::{Judged, judge, yes_line};
-use cstn_documents::NamedNetwork;
 use cstn_exec::print_names;
-use cstn_host::HostSession;
 use cstn_log::Cap;
 use cstn_plan::SoundPlan;
+use cstn_request::NamedNetwork;
+use cstn_run::HostSession;
 use cstn_text::Names;
 use std::alloc::{AllocError, Global};
 

@@ -3,17 +3,17 @@ ghost use Rattle.std.specs.Prelude.{◌≡◌, ◌≤◌, [], IfOk, IsTrue, IsEr
 ghost use Rattle.std.specs.List.{list_all};
 ghost use Rattle.cstn_io.specs.Causes.{Rose};
 ghost use Rattle.cstn_reply.specs.declared.output.Said.{Said as SaidText};
-ghost use Rattle.cstn_words.specs.Requests.{files_of};
-ghost use Rattle.cstn_words.specs.Read.{the_request};
+ghost use Rattle.cstn_request.specs.Requests.{files_of};
+ghost use Rattle.cstn_request.specs.Read.{the_request};
 ghost use Rattle.cstn_top.specs.Questions.{Asks, TellsInstead, IsSoundQuestion, kind_of, kind_at};
 
 use super::several::open_all;
-use cstn_documents::{
-    NamedLabelled, NamedNetwork, Unread, open, open_labelled, open_lowered, read_text,
-};
 use cstn_io::Shelf;
 use cstn_log::Cap;
-use cstn_words::{Release, Request};
+use cstn_request::{
+    NamedLabelled, NamedNetwork, Release, Request, Unread, open, open_labelled, open_lowered,
+    read_text,
+};
 use std::alloc::Global;
 
 /// A request with what was read of its files. A network is that of a document without labels on its time-points, or the one that

@@ -5,9 +5,8 @@ ghost use Rattle.cstn_io.specs.Causes.{Rose};
 ghost use Rattle.cstn_reply.specs.declared.output.Said.{Said as SaidText};
 ghost use Rattle.cstn_top.specs.Begun.{HasRead, IsRefusedAt, IsSound};
 
-use cstn_documents::{NamedNetwork, Unread, open};
 use cstn_io::Shelf;
-use cstn_words::Asked;
+use cstn_request::{Asked, NamedNetwork, Unread, open};
 use std::alloc::Global;
 
 /// Reads the documents of the files, one after another. Fails at the first that is refused, where a file can't be read, and for

@@ -4,7 +4,7 @@ ghost use Rattle.cstn_reply.specs.Read.{the_said};
 ghost use Rattle.cstn_top.specs.commands.Version.{release_lines, versioned};
 
 use cstn_reply::{Outcome, Said};
-use cstn_words::Release;
+use cstn_request::Release;
 use std::alloc::{AllocError, Global};
 
 /// What is said of a release: its number, and the version of its lines. Fails for want of memory alone.

@@ -1,6 +1,6 @@
 use Rattle.std.proofs.Common.{arith}
 use Rattle.cstn_net.specs.Read.{the_network}
-use Rattle.cstn_check.proofs.Answering.{has_bases, has_room, start_derived, start_last, no_room, verdict_from}
+use Rattle.cstn_check.proofs.Answering.{has_bases, has_room, start_growable, no_room, verdict_from}
 use Rattle.cstn_check.proofs.checks.answer.Goals as goal
 
 pub returns-then-len-eq0-clause-verdict : goal.returns-then-len-eq0-clause-verdict
@@ -8,15 +8,12 @@ returns-then-len-eq0-clause-verdict c =
     no_room (the_network c.args.net.now) c.args.log.now c.network_is_well_formed.ensures c.requires.started
     (omega (arith, c.if-len-eq0.true, c.len.ensures.len))
 
-pub grow-grown-requires-clause-derivation : goal.grow-grown-requires-clause-derivation
-grow-grown-requires-clause-derivation c =
-    start_derived (the_network c.args.net.now) c.args.log.now c.network_is_well_formed.ensures c.requires.started
-    (λ none. omega (arith, none, c.if-len-eq0.false, c.len.ensures.len))
-
-pub grow-grown-requires-clause-last : goal.grow-grown-requires-clause-last
-grow-grown-requires-clause-last c =
-    start_last (the_network c.args.net.now) c.args.log.now c.network_is_well_formed.ensures c.requires.started
-    (λ none. omega (arith, none, c.if-len-eq0.false, c.len.ensures.len))
+pub grow-grown-requires : goal.grow-grown-requires
+grow-grown-requires c =
+    record {
+      growable = start_growable (the_network c.args.net.now) c.args.log.now c.network_is_well_formed.ensures c.requires.started
+          (λ none. omega (arith, none, c.if-len-eq0.false, c.len.ensures.len));
+    }
 
 pub returns-clause-verdict : goal.returns-clause-verdict
 returns-clause-verdict c =

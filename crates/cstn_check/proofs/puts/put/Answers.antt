@@ -1,6 +1,7 @@
 use Rattle.std.proofs.Common.{refl, sym, ◌∙◌}
 use Rattle.std.proofs.lemmas.Bool.{false≢true}
 use Rattle.cstn_check.proofs.TurnLemmas.{put_nothing, put_last, put_cut}
+use Rattle.cstn_check.specs.Steps.{is_refutation}
 use Rattle.cstn_check.proofs.puts.put.Goals as goal
 
 pub returns-then-covers-clause-taken : goal.returns-then-covers-clause-taken
@@ -16,6 +17,6 @@ returns-in_err-push-clause-cut c = λ is.
 pub returns-clause-taken : goal.returns-clause-taken
 returns-clause-taken c =
     let p = c.in_ok-push.ensures.pushed refl in
-    put_last _ c.args.log.now c.push.new.self c.args.e p.0 c.refutes.result c.requires.ready
+    put_last _ c.args.log.now c.push.new.self c.args.e p.0 (is_refutation c.step_to.result) c.requires.ready
     (λ k. false≢true (sym c.if-covers.false ∙ c.covers.ensures.covered.1 k))
-    (λ f. false≢true (c.in_ok-push.ensures.full.1 f)) p.1 c.refutes.ensures.refutes
+    (λ f. false≢true (c.in_ok-push.ensures.full.1 f)) p.1 c.step_to.ensures.refutes

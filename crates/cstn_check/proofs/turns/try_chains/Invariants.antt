@@ -7,6 +7,7 @@ use Rattle.cstn_log.specs.Entries.{the_entries}
 use Rattle.cstn_check.specs.Growth.{tried, chains_at}
 use Rattle.cstn_check.specs.Spent.{AreSpent, fresh_count}
 use Rattle.cstn_check.specs.Turns.{IsOpen, IsTaken}
+use Rattle.cstn_check.specs.Steps.{IsCounted}
 use Rattle.cstn_check.proofs.turns.try_chains.Given as goal
 
 abbrev pub invariant-loop-place : goal.invariant-loop-place
@@ -15,8 +16,7 @@ invariant-loop-place l = record {
   ready : IsOpen (the_network l.fn.net) l.log;
   upto : l.place ≤ length l.fn.net.constraints;
   here : (e : Entry) → slice_get l.fn.log.entries l.fn.j ≡ Some e → l.place < length l.fn.net.constraints → get_or (ends l.fn.net.constraints) l.place 0 ≡ e.bound.node.0;
-  tries : l.fn.tries.count ≤ l.tries.count;
-  most : l.tries.count ≤ l.fn.tries.count + l.place;
+  counted : IsCounted l.fn.tries.count l.tries.count l.place;
   most_fresh : l.fn.j < l.fn.old → l.tries.count ≤ l.fn.tries.count + fresh_count l.fn.fresh (map the_constraint (take l.place l.fn.net.constraints));
   spent : AreSpent (the_network l.fn.net) (the_entries l.log.entries) l.fn.fresh l.fn.old;
 }

@@ -1,9 +1,9 @@
-use Rattle.std.proofs.Common.{[], ◌∷◌, arith}
+use Rattle.std.proofs.Common.{rules, [], ◌∷◌, arith, refl}
 use Rattle.cstn_label.specs.Read.{the_bound}
 use Rattle.cstn_net.specs.Read.{the_network}
 use Rattle.cstn_log.specs.Entries.{the_entries}
 use Rattle.cstn_check.specs.Growth.Instance.{wait_at}
-use Rattle.cstn_check.proofs.Sequences.{taken_as, refuted_then, cut_first}
+use Rattle.cstn_check.proofs.Sequences.{refuted_step, step_open, step_refuted, step_then, refuted_then, cut_first}
 use Rattle.cstn_check.proofs.TryLemmas.{taken_on, size_is, concludes_kept}
 use Rattle.cstn_check.proofs.TurnLemmas.{has_bound, bound_had, bound_on}
 use Rattle.cstn_check.proofs.FloorLemmas.{floor_at_ground, floors_after}
@@ -15,23 +15,23 @@ try_seen-requires-clause-seen_bound c = has_bound c.args.log.now.entries c.args.
 pub try_wait-requires-clause-seen_bound : goal.try_wait-requires-clause-seen_bound
 try_wait-requires-clause-seen_bound c =
     bound_on c.args.log.now.entries c.try_seen.new.log.entries c.args.own.place (the_bound c.args.own.bound)
-    (taken_on (the_network c.args.net.now) c.args.log.now c.try_seen.new.log (wait_at c.args.i c.args.own.place ∷ []) _ c.in-Ok-false.ensures.taken)
+    (taken_on (the_network c.args.net.now) c.args.log.now c.try_seen.new.log (wait_at c.args.i c.args.own.place ∷ []) _ c.in_ok-try_seen.ensures.outcome.taken)
     (omega (arith, size_is c.args.log.now, c.requires.place)) c.requires.bound
 
 pub try_wait-requires-clause-bound : goal.try_wait-requires-clause-bound
 try_wait-requires-clause-bound c =
     bound_on c.args.log.now.entries c.try_seen.new.log.entries c.args.i (the_bound c.bound.result)
-    (taken_on (the_network c.args.net.now) c.args.log.now c.try_seen.new.log (wait_at c.args.i c.args.own.place ∷ []) _ c.in-Ok-false.ensures.taken)
+    (taken_on (the_network c.args.net.now) c.args.log.now c.try_seen.new.log (wait_at c.args.i c.args.own.place ∷ []) _ c.in_ok-try_seen.ensures.outcome.taken)
     (omega (arith, size_is c.args.log.now, c.requires.first)) (has_bound c.args.log.now.entries c.args.i c.bound.result c.bound.ensures.bound)
 
 pub try_wait-requires-clause-ready : goal.try_wait-requires-clause-ready
-try_wait-requires-clause-ready c = c.in-Ok-false.ensures.ready c.in-Ok-false.field-0-test
+try_wait-requires-clause-ready c = c.in_ok-try_seen.ensures.outcome.ready c.in-Open.is
 
 pub try_wait-requires-clause-seen : goal.try_wait-requires-clause-seen
-try_wait-requires-clause-seen c = omega (arith, c.requires.place, c.in-Ok-false.ensures.taken.longer.longer)
+try_wait-requires-clause-seen c = omega (arith, c.requires.place, c.in_ok-try_seen.ensures.outcome.taken.longer.longer)
 
 pub try_wait-requires-clause-place : goal.try_wait-requires-clause-place
-try_wait-requires-clause-place c = omega (arith, c.requires.first, c.in-Ok-false.ensures.taken.longer.longer)
+try_wait-requires-clause-place c = omega (arith, c.requires.first, c.in_ok-try_seen.ensures.outcome.taken.longer.longer)
 
 pub try_wait-requires-clause-node : goal.try_wait-requires-clause-node
 try_wait-requires-clause-node c =
@@ -39,29 +39,57 @@ try_wait-requires-clause-node c =
 
 pub try_wait-requires-clause-floor : goal.try_wait-requires-clause-floor
 try_wait-requires-clause-floor c = λ p own.
-    floor_at_ground (the_network c.args.net.now) c.try_seen.new.log (the_bound c.bound.result) p (c.in-Ok-false.ensures.ready c.in-Ok-false.field-0-test)
+    floor_at_ground (the_network c.args.net.now) c.try_seen.new.log (the_bound c.bound.result) p (c.in_ok-try_seen.ensures.outcome.ready c.in-Open.is)
     (omega (arith, c.bound.ensures.node, c.requires.ready.nodes))
 
-pub returns-in-Ok-true-clause-taken : goal.returns-in-Ok-true-clause-taken
-returns-in-Ok-true-clause-taken c =
-    refuted_then (the_network c.args.net.now) c.args.log.now (wait_at c.args.i c.args.own.place ∷ []) (wait_at c.args.own.place c.args.i ∷ [])
-    c.try_seen.new.log
-    (taken_as c.in-Ok-true.field-0-test c.in-Ok-true.ensures.taken)
+pub returns-in-Refuted-clause-outcome : goal.returns-in-Refuted-clause-outcome
+returns-in-Refuted-clause-outcome c =
+    refuted_step _ _ _ _
+    (refuted_then (the_network c.args.net.now) c.args.log.now (wait_at c.args.i c.args.own.place ∷ []) (wait_at c.args.own.place c.args.i ∷ [])
+    c.try_seen.new.log (step_refuted _ _ _ _ _ c.in-Refuted.is c.in_ok-try_seen.ensures.outcome))
 
-pub returns-in-Err-clause-cut : goal.returns-in-Err-clause-cut
-returns-in-Err-clause-cut c = λ is.
-    cut_first (the_network c.args.net.now) c.args.log.now (wait_at c.args.i c.args.own.place ∷ []) (wait_at c.args.own.place c.args.i ∷ [])
-    c.try_seen.new.log (c.in-Err.ensures.cut is)
+pub returns-in_err-try_seen-clause-outcome : goal.returns-in_err-try_seen-clause-outcome
+returns-in_err-try_seen-clause-outcome c = record {
+  taken = search rules;
+  cut = λ is. cut_first (the_network c.args.net.now) c.args.log.now (wait_at c.args.i c.args.own.place ∷ []) (wait_at c.args.own.place c.args.i ∷ [])
+      c.try_seen.new.log (c.in_err-try_seen.ensures.outcome.cut refl);
+  ready = search rules;
+}
 
-pub returns-in-Ok-false-clause-concluding : goal.returns-in-Ok-false-clause-concluding
-returns-in-Ok-false-clause-concluding c =
-    let more = taken_on (the_network c.args.net.now) c.args.log.now c.try_seen.new.log (wait_at c.args.i c.args.own.place ∷ []) _ c.in-Ok-false.ensures.taken in
+pub returns-in-Open-clause-outcome : goal.returns-in-Open-clause-outcome
+returns-in-Open-clause-outcome c =
+    step_then (the_network c.args.net.now) c.args.log.now c.try_seen.new.log c.try_wait.new.log
+    (wait_at c.args.i c.args.own.place ∷ []) (wait_at c.args.own.place c.args.i ∷ [])
+    (wait_at c.args.i c.args.own.place ∷ (wait_at c.args.own.place c.args.i ∷ [])) c.try_wait.result refl
+    (step_open _ _ _ _ _ c.in-Open.is c.in_ok-try_seen.ensures.outcome) c.try_wait.ensures.outcome
+
+pub returns-in-Open-clause-counted : goal.returns-in-Open-clause-counted
+returns-in-Open-clause-counted c =
+    let more = taken_on (the_network c.args.net.now) c.args.log.now c.try_seen.new.log (wait_at c.args.i c.args.own.place ∷ []) _ c.in_ok-try_seen.ensures.outcome.taken in
     let size = size_is c.args.log.now in
     let kept = concludes_kept (the_network c.args.net.now) (the_entries c.args.log.now.entries) (the_entries c.try_seen.new.log.entries) c.args.own.place c.args.i more
     (omega (arith, size, c.requires.place)) (omega (arith, size, c.requires.first)) in
-    omega (arith, kept, c.in-Ok-false.ensures.concluding, c.try_wait.ensures.concluding)
+    record {
+      low = omega (arith, c.in_ok-try_seen.ensures.counted.low, c.try_wait.ensures.counted.low);
+      most = omega (arith, kept, c.in_ok-try_seen.ensures.counted.most, c.try_wait.ensures.counted.most);
+    }
 
-pub returns-in-Ok-false-clause-floors : goal.returns-in-Ok-false-clause-floors
-returns-in-Ok-false-clause-floors c =
+pub returns-in-Open-clause-floors : goal.returns-in-Open-clause-floors
+returns-in-Open-clause-floors c =
     floors_after (the_network c.args.net.now) c.try_seen.new.log c.try_wait.new.log (wait_at c.args.own.place c.args.i) (the_bound c.args.own.bound) c.try_seen.new.floors
-    c.try_wait.result c.try_wait.ensures.taken c.in-Ok-false.ensures.floors
+    c.try_wait.result c.try_wait.ensures.outcome.taken c.in_ok-try_seen.ensures.floors
+
+pub returns-in-Refuted-clause-floors : goal.returns-in-Refuted-clause-floors
+returns-in-Refuted-clause-floors c = λ other. cc
+
+pub returns-in-Refuted-clause-counted : goal.returns-in-Refuted-clause-counted
+returns-in-Refuted-clause-counted c = record {
+  low = c.in_ok-try_seen.ensures.counted.low;
+  most = omega (arith, c.in_ok-try_seen.ensures.counted.most);
+}
+
+pub returns-in_err-try_seen-clause-counted : goal.returns-in_err-try_seen-clause-counted
+returns-in_err-try_seen-clause-counted c = record {
+  low = c.in_err-try_seen.ensures.counted.low;
+  most = omega (arith, c.in_err-try_seen.ensures.counted.most);
+}

@@ -18,4 +18,4 @@ pub returns-clause-floors : goal.returns-clause-floors
 returns-clause-floors c =
     floors_then (the_network c.args.net.now) c.args.log.now c.try_wait-done.new.log (wait_at c.args.seen.place c.args.own.place) (the_bound c.args.own.bound)
     c.args.seen.bound.node.0 c.args.floors.now c.set_floor.new.floors c.try_wait-done.new.floor c.try_wait-done.result
-    c.try_wait-done.ensures.taken c.try_wait-done.ensures.floor c.requires.floors c.set_floor.ensures.size c.set_floor.ensures.each
+    c.try_wait-done.ensures.outcome.taken c.try_wait-done.ensures.floor c.requires.floors c.set_floor.ensures.size c.set_floor.ensures.each

@@ -1,9 +1,11 @@
-use Rattle.std.proofs.Common.{suc, ◌+◌, [], ◌∷◌, false, arith, refl, sym}
+use Rattle.std.proofs.Common.{rules, ℕ, suc, ◌≡◌, ◌+◌, [], ◌∷◌, false, arith, refl, sym, ap, subst}
 use Rattle.cstn_net.specs.Read.{the_network}
-use Rattle.cstn_check.specs.Growth.{waits_below}
+use Rattle.cstn_check.specs.Growth.{tried, waits_below}
+use Rattle.cstn_check.specs.Turns.{IsTaken}
+use Rattle.cstn_check.specs.Steps.{is_refutation}
 use Rattle.cstn_check.specs.Growth.Instance.{wait_at}
 use Rattle.cstn_check.proofs.TurnLemmas.{idle, has_bound, bound_on}
-use Rattle.cstn_check.proofs.Sequences.{taken_as, go_on, go_true, go_cut, waits_next, waits_whole}
+use Rattle.cstn_check.proofs.Sequences.{open_step, refuted_step, step_open, go_on, go_true, go_cut, waits_next, waits_whole}
 use Rattle.cstn_check.proofs.Skips.{waits_to}
 use Rattle.cstn_log.specs.Entries.{the_entries}
 use Rattle.cstn_check.specs.Tries.{concludes_with}
@@ -20,9 +22,7 @@ loop-i-init c = record {
       c.next_waiting-i.ensures.none (idle (the_network c.args.net.now) c.args.log.now _ c.requires.ready refl);
   ready = c.requires.ready;
   upto = c.next_waiting-i.ensures.upto.1;
-  tries = omega arith;
-  most = omega arith;
-  concluding = omega arith;
+  counted = record { low = omega arith; most = omega arith };
   bound = has_bound c.args.log.now.entries c.args.j c.bound.result c.bound.ensures.bound;
   floors = floors_at_ground (the_network c.args.net.now) c.args.log.now (the_bound c.bound.result) c.requires.ready
       (omega (arith, c.bound.ensures.node, c.requires.ready.nodes));
@@ -35,74 +35,97 @@ try_both-requires-clause-first c = omega (arith, c.requires.place, c.loop-i.inva
 pub try_both-requires-clause-place : goal.try_both-requires-clause-place
 try_both-requires-clause-place c = omega (arith, c.requires.place, c.loop-i.invariant.taken.longer.longer)
 
-pub returns-in-Ok-true-clause-taken : goal.returns-in-Ok-true-clause-taken
-returns-in-Ok-true-clause-taken c =
-    let w = waits_whole (c.args.j + 1) c.loop-i.i c.args.j (omega (arith, c.loop-i-test.true)) in
-    go_true (the_network c.args.net.now) c.args.log.now c.loop-i.log c.try_both.new.log (waits_below c.loop-i.i c.args.j)
-    (wait_at c.loop-i.i c.args.j ∷ (wait_at c.args.j c.loop-i.i ∷ [])) c.loop-i.invariant.taken
-    (waits_below (c.args.j + 1) c.args.j) w.0 c.in-Ok-true.field-0 w.1 c.in-Ok-true.ensures.taken c.in-Ok-true.field-0-test
-
-pub returns-in-Err-clause-cut : goal.returns-in-Err-clause-cut
-returns-in-Err-clause-cut c = λ is.
-    let w = waits_whole (c.args.j + 1) c.loop-i.i c.args.j (omega (arith, c.loop-i-test.true)) in
-    go_cut (the_network c.args.net.now) c.args.log.now c.loop-i.log c.try_both.new.log (waits_below c.loop-i.i c.args.j)
-    (wait_at c.loop-i.i c.args.j ∷ (wait_at c.args.j c.loop-i.i ∷ [])) c.loop-i.invariant.taken
-    (waits_below (c.args.j + 1) c.args.j) w.0 w.1 (c.in-Err.ensures.cut is)
-
 pub overflow_add-i : goal.overflow_add-i
-overflow_add-i c = omega (arith, c.requires.place, c.loop-i-test.true, c.len-room.ensures.len, c.len-room.ensures.at_most, c.len-room.ensures.largest)
+overflow_add-i c = omega (arith, c.requires.place, c.loop-i-test.true, c.log_is_well_formed.ensures.at_most, c.log_is_well_formed.ensures.largest)
 
 pub loop-i-preserved : goal.loop-i-preserved
 loop-i-preserved c =
-    let ready = c.in-Ok-false.ensures.ready c.in-Ok-false.field-0-test in
-    let next = c.next_waiting-i-in-Ok-false in
+    let ready = c.in_ok-try_both.ensures.outcome.ready c.in-Open.is in
+    let next = c.next_waiting-i-in-Open in
     record {
       taken = waits_to (the_network c.args.net.now) c.args.log.now c.try_both.new.log c.args.j (c.loop-i.i + 1) next.result
           c.network_is_well_formed.ensures ready
-          (omega (arith, c.requires.place, c.loop-i.invariant.taken.longer.longer, c.in-Ok-false.ensures.taken.longer.longer))
+          (omega (arith, c.requires.place, c.loop-i.invariant.taken.longer.longer, c.in_ok-try_both.ensures.outcome.taken.longer.longer))
           next.ensures.upto.1 next.ensures.upto.0 next.ensures.none
           (go_on (the_network c.args.net.now) c.args.log.now c.loop-i.log c.try_both.new.log (waits_below c.loop-i.i c.args.j)
           (wait_at c.loop-i.i c.args.j ∷ (wait_at c.args.j c.loop-i.i ∷ [])) c.loop-i.invariant.taken
           (waits_below (c.loop-i.i + 1) c.args.j) false (sym (waits_next c.loop-i.i c.args.j))
-          (taken_as c.in-Ok-false.field-0-test c.in-Ok-false.ensures.taken));
+          (step_open _ _ _ _ _ c.in-Open.is c.in_ok-try_both.ensures.outcome));
       ready = ready;
       upto = next.ensures.upto.1;
-      tries = omega (arith, c.loop-i.invariant.tries, c.in-Ok-false.ensures.tries);
-      most = omega (arith, c.loop-i.invariant.most, c.in-Ok-false.ensures.most, next.ensures.upto.0);
       bound = bound_on c.loop-i.log.entries c.try_both.new.log.entries c.args.j (the_bound c.bound.result)
-          (taken_on (the_network c.args.net.now) c.loop-i.log c.try_both.new.log (wait_at c.loop-i.i c.args.j ∷ (wait_at c.args.j c.loop-i.i ∷ [])) _ c.in-Ok-false.ensures.taken)
+          (taken_on (the_network c.args.net.now) c.loop-i.log c.try_both.new.log (wait_at c.loop-i.i c.args.j ∷ (wait_at c.args.j c.loop-i.i ∷ [])) _ c.in_ok-try_both.ensures.outcome.taken)
           (omega (arith, size_is c.loop-i.log, c.requires.place, c.loop-i.invariant.taken.longer.longer)) c.loop-i.invariant.bound;
-      floors = c.in-Ok-false.ensures.floors c.in-Ok-false.field-0-test;
+      floors = c.in_ok-try_both.ensures.floors c.in-Open.is;
       ahead = next.ensures.ahead;
-      concluding = pairs_step (the_network c.args.net.now) c.args.log.now c.loop-i.log c.args.j c.loop-i.i next.result (waits_below c.loop-i.i c.args.j) c.args.tries.now.count c.loop-i.tries.count c.try_both.new.tries.count c.loop-i.invariant.taken c.requires.place
-          (omega (arith, c.requires.place, c.loop-i-test.true)) c.loop-i.invariant.concluding c.in-Ok-false.ensures.concluding next.ensures.upto.0;
+      counted = record {
+        low = omega (arith, c.loop-i.invariant.counted.low, c.in_ok-try_both.ensures.counted.low);
+        most = pairs_step (the_network c.args.net.now) c.args.log.now c.loop-i.log c.args.j c.loop-i.i next.result (waits_below c.loop-i.i c.args.j) c.args.tries.now.count c.loop-i.tries.count c.try_both.new.tries.count c.loop-i.invariant.taken c.requires.place
+            (omega (arith, c.requires.place, c.loop-i-test.true)) c.loop-i.invariant.counted.most c.in_ok-try_both.ensures.counted.most next.ensures.upto.0;
+      };
     }
-
-pub returns-in-Ok-true-clause-concluding : goal.returns-in-Ok-true-clause-concluding
-returns-in-Ok-true-clause-concluding c =
-    pairs_step (the_network c.args.net.now) c.args.log.now c.loop-i.log c.args.j c.loop-i.i (suc c.args.j) (waits_below c.loop-i.i c.args.j) c.args.tries.now.count c.loop-i.tries.count c.try_both.new.tries.count c.loop-i.invariant.taken c.requires.place
-    (omega (arith, c.requires.place, c.loop-i-test.true)) c.loop-i.invariant.concluding c.in-Ok-true.ensures.concluding (omega (arith, c.loop-i-test.true))
-
-pub returns-in-Err-clause-concluding : goal.returns-in-Err-clause-concluding
-returns-in-Err-clause-concluding c =
-    pairs_step (the_network c.args.net.now) c.args.log.now c.loop-i.log c.args.j c.loop-i.i (suc c.args.j) (waits_below c.loop-i.i c.args.j) c.args.tries.now.count c.loop-i.tries.count c.try_both.new.tries.count c.loop-i.invariant.taken c.requires.place
-    (omega (arith, c.requires.place, c.loop-i-test.true)) c.loop-i.invariant.concluding c.in-Err.ensures.concluding (omega (arith, c.loop-i-test.true))
-
-pub returns-clause-concluding : goal.returns-clause-concluding
-returns-clause-concluding c =
-    omega (arith, c.loop-i.invariant.concluding, total_upto (concludes_with (the_network c.args.net.now) (the_entries c.args.log.now.entries) c.args.j) c.loop-i.i (suc c.args.j) (omega (arith, c.loop-i.invariant.upto)))
 
 pub next_waiting-i-requires-clause-ahead : goal.next_waiting-i-requires-clause-ahead
 next_waiting-i-requires-clause-ahead c = c.start-walk.ensures.ahead (the_network c.args.net.now) c.args.log.now.entries c.args.j
 
-pub next_waiting-i-requires-in-Ok-false-clause-ahead : goal.next_waiting-i-requires-in-Ok-false-clause-ahead
-next_waiting-i-requires-in-Ok-false-clause-ahead c =
+pub next_waiting-i-requires-in-Open-clause-ahead : goal.next_waiting-i-requires-in-Open-clause-ahead
+next_waiting-i-requires-in-Open-clause-ahead c =
     ahead_on (the_network c.args.net.now) c.loop-i.log.entries c.try_both.new.log.entries c.args.j (c.loop-i.i + 1) _ _ _
-    (taken_on (the_network c.args.net.now) c.loop-i.log c.try_both.new.log (wait_at c.loop-i.i c.args.j ∷ (wait_at c.args.j c.loop-i.i ∷ [])) _ c.in-Ok-false.ensures.taken)
+    (taken_on (the_network c.args.net.now) c.loop-i.log c.try_both.new.log (wait_at c.loop-i.i c.args.j ∷ (wait_at c.args.j c.loop-i.i ∷ [])) _ c.in_ok-try_both.ensures.outcome.taken)
     (omega (arith, c.requires.place, c.loop-i.invariant.taken.longer.longer)) (c.loop-i.invariant.ahead c.loop-i-test.true)
 
-pub returns-then-not-may_wait-clause-taken : goal.returns-then-not-may_wait-clause-taken
-returns-then-not-may_wait-clause-taken c =
-    waits_to (the_network c.args.net.now) c.args.log.now c.args.log.now c.args.j 0 (c.args.j + 1) c.network_is_well_formed.ensures
+pub returns-then-not-may_wait-clause-outcome : goal.returns-then-not-may_wait-clause-outcome
+returns-then-not-may_wait-clause-outcome c =
+    open_step _ _ _ _
+    (waits_to (the_network c.args.net.now) c.args.log.now c.args.log.now c.args.j 0 (c.args.j + 1) c.network_is_well_formed.ensures
     c.requires.ready c.requires.place (omega arith) (omega arith)
-    (λ k low high. c.may_wait.ensures.none c.if-not-may_wait.true k) (idle (the_network c.args.net.now) c.args.log.now _ c.requires.ready refl)
+    (λ k low high. c.may_wait.ensures.none c.if-not-may_wait.true k) (idle (the_network c.args.net.now) c.args.log.now _ c.requires.ready refl))
+    c.requires.ready
+
+pub returns-in-Refuted-clause-outcome : goal.returns-in-Refuted-clause-outcome
+returns-in-Refuted-clause-outcome c =
+    let w = waits_whole (c.args.j + 1) c.loop-i.i c.args.j (omega (arith, c.loop-i-test.true)) in
+    refuted_step _ _ _ _
+    (go_true (the_network c.args.net.now) c.args.log.now c.loop-i.log c.try_both.new.log (waits_below c.loop-i.i c.args.j)
+    (wait_at c.loop-i.i c.args.j ∷ (wait_at c.args.j c.loop-i.i ∷ [])) c.loop-i.invariant.taken
+    (waits_below (c.args.j + 1) c.args.j) w.0 (is_refutation c.in_ok-try_both.field-0) w.1 c.in_ok-try_both.ensures.outcome.taken
+    (ap is_refutation c.in-Refuted.is))
+
+pub returns-in_err-try_both-clause-outcome : goal.returns-in_err-try_both-clause-outcome
+returns-in_err-try_both-clause-outcome c = record {
+  taken = search rules;
+  cut = λ is.
+      let w = waits_whole (c.args.j + 1) c.loop-i.i c.args.j (omega (arith, c.loop-i-test.true)) in
+      go_cut (the_network c.args.net.now) c.args.log.now c.loop-i.log c.try_both.new.log (waits_below c.loop-i.i c.args.j)
+      (wait_at c.loop-i.i c.args.j ∷ (wait_at c.args.j c.loop-i.i ∷ [])) c.loop-i.invariant.taken
+      (waits_below (c.args.j + 1) c.args.j) w.0 w.1 (c.in_err-try_both.ensures.outcome.cut refl);
+  ready = search rules;
+}
+
+pub returns-clause-outcome : goal.returns-clause-outcome
+returns-clause-outcome c =
+    let done : c.loop-i.i ≡ c.args.j + 1 = omega (arith, c.loop-i.invariant.upto, c.loop-i-test.false) in
+    open_step _ _ _ _
+    (subst (λ (n : ℕ). IsTaken (the_network c.args.net.now) c.args.log.now c.loop-i.log (tried (the_network c.args.net.now) (the_entries c.args.log.now.entries) (waits_below n c.args.j)) false)
+    done c.loop-i.invariant.taken)
+    c.loop-i.invariant.ready
+
+pub returns-in-Refuted-clause-counted : goal.returns-in-Refuted-clause-counted
+returns-in-Refuted-clause-counted c = record {
+  low = omega (arith, c.loop-i.invariant.counted.low, c.in_ok-try_both.ensures.counted.low);
+  most = pairs_step (the_network c.args.net.now) c.args.log.now c.loop-i.log c.args.j c.loop-i.i (suc c.args.j) (waits_below c.loop-i.i c.args.j) c.args.tries.now.count c.loop-i.tries.count c.try_both.new.tries.count c.loop-i.invariant.taken c.requires.place
+      (omega (arith, c.requires.place, c.loop-i-test.true)) c.loop-i.invariant.counted.most c.in_ok-try_both.ensures.counted.most (omega (arith, c.loop-i-test.true));
+}
+
+pub returns-in_err-try_both-clause-counted : goal.returns-in_err-try_both-clause-counted
+returns-in_err-try_both-clause-counted c = record {
+  low = omega (arith, c.loop-i.invariant.counted.low, c.in_err-try_both.ensures.counted.low);
+  most = pairs_step (the_network c.args.net.now) c.args.log.now c.loop-i.log c.args.j c.loop-i.i (suc c.args.j) (waits_below c.loop-i.i c.args.j) c.args.tries.now.count c.loop-i.tries.count c.try_both.new.tries.count c.loop-i.invariant.taken c.requires.place
+      (omega (arith, c.requires.place, c.loop-i-test.true)) c.loop-i.invariant.counted.most c.in_err-try_both.ensures.counted.most (omega (arith, c.loop-i-test.true));
+}
+
+pub returns-clause-counted : goal.returns-clause-counted
+returns-clause-counted c = record {
+  low = c.loop-i.invariant.counted.low;
+  most = omega (arith, c.loop-i.invariant.counted.most, total_upto (concludes_with (the_network c.args.net.now) (the_entries c.args.log.now.entries) c.args.j) c.loop-i.i (suc c.args.j) (omega (arith, c.loop-i.invariant.upto)));
+}

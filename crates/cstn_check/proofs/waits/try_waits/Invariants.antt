@@ -1,4 +1,4 @@
-use Rattle.std.proofs.Common.{◌≤◌, ◌+◌, ◌*◌, ◌-◌, false}
+use Rattle.std.proofs.Common.{◌≤◌, ◌+◌, ◌-◌, false}
 use Rattle.cstn_net.specs.Read.{the_network}
 use Rattle.cstn_log.specs.Entries.{the_entries}
 use Rattle.cstn_check.specs.Growth.{tried, waits_below}
@@ -7,6 +7,7 @@ use Rattle.cstn_label.specs.Read.{the_bound}
 use Rattle.cstn_check.specs.Floors.{AreFloors}
 use Rattle.cstn_check.specs.Waits.{HasBound, IsAhead}
 use Rattle.cstn_check.specs.Turns.{IsOpen, IsTaken}
+use Rattle.cstn_check.specs.Steps.{IsCounted}
 use Rattle.cstn_check.proofs.waits.try_waits.Given as goal
 
 abbrev pub invariant-loop-i : goal.invariant-loop-i
@@ -14,12 +15,10 @@ invariant-loop-i l = record {
   taken : IsTaken (the_network l.fn.net) l.fn.log l.log (tried (the_network l.fn.net) (the_entries l.fn.log.entries) (waits_below l.i l.fn.j)) false;
   ready : IsOpen (the_network l.fn.net) l.log;
   upto : l.i ≤ l.fn.j + 1;
-  tries : l.fn.tries.count ≤ l.tries.count;
-  most : l.tries.count ≤ l.fn.tries.count + 2 * l.i;
+  counted : IsCounted l.fn.tries.count l.tries.count (total (concludes_with (the_network l.fn.net) (the_entries l.fn.log.entries) l.fn.j) l.i);
   bound : HasBound l.log.entries l.fn.j (the_bound l.own.bound);
   floors : AreFloors (the_network l.fn.net) (the_entries l.log.entries) (the_bound l.own.bound) l.floors;
   ahead : l.i ≤ l.fn.j → IsAhead (the_network l.fn.net) l.log.entries l.fn.j (l.i + 1) l.walk.block l.walk.start l.walk.end;
-  concluding : l.tries.count ≤ l.fn.tries.count + total (concludes_with (the_network l.fn.net) (the_entries l.fn.log.entries) l.fn.j) l.i;
 }
 
 abbrev pub decreases-loop-i : goal.decreases-loop-i

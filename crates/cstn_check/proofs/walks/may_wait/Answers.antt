@@ -5,7 +5,7 @@ use Rattle.cstn_label.specs.Read.{marks}
 use Rattle.cstn_net.specs.Networks.{Observes}
 use Rattle.cstn_net.specs.Read.{the_network}
 use Rattle.cstn_rules.specs.declared.entries.Entry.{Entry}
-use Rattle.cstn_check.proofs.TurnLemmas.{entry_with}
+use Rattle.cstn_log.proofs.KeptLemmas.{entry_with}
 use Rattle.cstn_check.proofs.walks.may_wait.Goals as goal
 
 pub returns-in-None-first_marked_from : goal.returns-in-None-first_marked_from

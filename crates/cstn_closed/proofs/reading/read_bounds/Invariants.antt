@@ -2,7 +2,7 @@ use Rattle.std.proofs.Common.{◌≡◌, ◌≤◌, [], length, map}
 use Rattle.cstn_label.specs.Read.{the_bound}
 use Rattle.cstn_net.specs.Limits.{most_load}
 use Rattle.cstn_text.specs.Parts.{parts_at}
-use Rattle.cstn_listing.specs.Listings.{told_after}
+use Rattle.cstn_text.specs.Listings.{told_after}
 use Rattle.cstn_closed.specs.Texts.{bound_lines}
 use Rattle.cstn_closed.proofs.reading.read_bounds.Given as goal
 

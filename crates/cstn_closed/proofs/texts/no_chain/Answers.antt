@@ -1,14 +1,9 @@
-use Rattle.std.proofs.Common.{ℕ, List, ap, ◌∙◌, Vec, Global, codes}
-use Rattle.cstn_reply.specs.Texts.{Said}
-use Rattle.cstn_reply.specs.declared.output.Outcome.TheVariants.{Bad}
-use Rattle.cstn_closed.proofs.Certifying.{two_numbers}
+use Rattle.std.proofs.Common.{ℕ, ap, ◌∙◌, Vec, Global, codes}
+use Rattle.cstn_closed.proofs.Certifying.{two_numbers, refusal_text}
 use Rattle.cstn_closed.proofs.texts.no_chain.Goals as goal
-
-abbrev said_text : List ℕ → Said
-said_text text = record { outcome = Bad; text = text }
 
 pub returns : goal.returns
 returns c = record {
   said =
-      ap said_text (ap (λ (v : Vec ℕ Global). v.items) c.into_bytes.ensures.value ∙ (c.in_ok-text.ensures.ok ∙ two_numbers (codes "rejected chain ") c.args.constraint c.args.at));
+      ap refusal_text (ap (λ (v : Vec ℕ Global). v.items) c.into_bytes.ensures.value ∙ (c.in_ok-text.ensures.ok ∙ two_numbers (codes "rejected chain ") c.args.constraint c.args.at));
 }

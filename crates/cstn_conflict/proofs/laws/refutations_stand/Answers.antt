@@ -1,7 +1,7 @@
 use Rattle.std.proofs.Common.{not, eqb}
 use Rattle.cstn_check.proofs.Idle.{none_but}
 use Rattle.cstn_check.proofs.Standing.{refutation_stands}
-use Rattle.cstn_conflict.proofs.StandLemmas.{stands_within}
+use Rattle.cstn_conflict.proofs.ConflictLemmas.{stands_within}
 use Rattle.cstn_conflict.proofs.laws.refutations_stand.Goals as goal
 
 pub returns-clause-fewer : goal.returns-clause-fewer

@@ -11,6 +11,17 @@ use Rattle.cstn_edit.specs.Sessions.{verdict_by}
 use Rattle.cstn_edit.proofs.VerdictLemmas.{log_on, small_where_empty, room_where_not, small_outcome, small_after, grown_outcome, grown_log, verdict_is, yes_by, yes_spent, spent_entries}
 use Rattle.cstn_edit.proofs.answers.answer.Goals as goal
 
+pub grow_further-grown-requires-clause-growable : goal.grow_further-grown-requires-clause-growable
+grow_further-grown-requires-clause-growable c =
+    record {
+      nodes = c.requires.kept.nodes;
+      derivation = c.requires.kept.derivation;
+      front = c.requires.kept.based (room_where_not (the_network c.args.net.now) c.args.log.now c.requires.kept
+          (λ none. omega (arith, none, c.len.ensures.len, c.if-len-eq0.false)));
+      last = c.requires.kept.refuted;
+      births = omega (arith, c.requires.births);
+    }
+
 pub returns-then-len-eq0-clause-outcome : goal.returns-then-len-eq0-clause-outcome
 returns-then-len-eq0-clause-outcome c =
     let net = the_network c.args.net.now in

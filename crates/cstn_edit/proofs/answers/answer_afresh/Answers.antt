@@ -1,5 +1,5 @@
 use Rattle.std.proofs.Common.{rules, [], ◌≡◌, ◌∙◌, length, arith, sym, subst, ap}
-use Rattle.std.proofs.lemmas.List.{length-map}
+use Rattle.std.proofs.lemmas.List.{length-map, append-nil}
 use Rattle.cstn_net.specs.Networks.{count}
 use Rattle.cstn_net.specs.Read.{the_network}
 use Rattle.cstn_rules.specs.Read.{the_entry}
@@ -17,10 +17,19 @@ use Rattle.cstn_edit.proofs.VerdictLemmas.{first_bases, grown_log, bases_log, af
 use Rattle.cstn_edit.proofs.answers.answer_afresh.Goals.{then-eq, else-eq}
 use Rattle.cstn_edit.proofs.answers.answer_afresh.Goals as goal
 
-pub grow-grown-requires-clause-last : goal.grow-grown-requires-clause-last
-grow-grown-requires-clause-last c =
+pub grow-grown-requires : goal.grow-grown-requires
+grow-grown-requires c =
     let net = the_network c.args.net.now in
-    subst (λ l. IsRefutedLast net l) (sym (c.restart.ensures.restart ∙ first_bases net c.args.log.now.cap c.requires.room)) (bases_stand net)
+    let same = c.restart.ensures.restart ∙ first_bases net c.args.log.now.cap c.requires.room in
+    record {
+      growable = record {
+        nodes = c.restart.ensures.size.1 ∙ c.requires.nodes;
+        derivation = c.restart.ensures.derivation;
+        front = ([], append-nil (bases (count net)) ∙ sym same);
+        last = subst (λ l. IsRefutedLast net l) (sym same) (bases_stand net);
+        births = omega (arith, c.requires.births, c.restart.ensures.births.1, c.network_is_well_formed.ensures.few_points);
+      };
+    }
 
 pub returns-clause-verdict : goal.returns-clause-verdict
 returns-clause-verdict c =

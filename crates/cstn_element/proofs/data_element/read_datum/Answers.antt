@@ -2,13 +2,14 @@ use Rattle.std.proofs.Common.{ℕ, List, refl, ap, sym, ◌∙◌, None, Bool, t
 use Rattle.std.specs.Prelude.{option_map}
 use Rattle.std.specs.List.{list_any}
 use Rattle.std.proofs.lemmas.Result.{err_from_is_err_and}
+use Rattle.cstn_facts.proofs.Filters.{any_map}
 use Rattle.cstn_markup.specs.Bytes.{is_same}
 use Rattle.cstn_element.specs.Children.{tag_seen}
 use Rattle.cstn_element.specs.DataElementSeen.{maybe_datum, datum_seen}
 use Rattle.cstn_element.specs.Elements.{Datum}
 use Rattle.cstn_element.specs.Contents.{Tag}
 use Rattle.cstn_element.specs.declared.data_element.Datum.{Datum as Lent}
-use Rattle.cstn_element.proofs.DatumRead.{any_map, keyed, unused_ok, unused_fails, taken_twice, value_ok, value_fails}
+use Rattle.cstn_element.proofs.DatumRead.{keyed, unused_ok, unused_fails, taken_twice, value_ok, value_fails}
 use Rattle.cstn_element.proofs.data_element.read_datum.Goals as goal
 
 pub returns-in_err-pass_element-clause-reads : goal.returns-in_err-pass_element-clause-reads

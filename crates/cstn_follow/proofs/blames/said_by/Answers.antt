@@ -10,7 +10,8 @@ use Rattle.cstn_lift.specs.WellFormed.{IsLabelled}
 use Rattle.cstn_history.specs.Rest.{rest}
 use Rattle.cstn_history.specs.Read.{the_history, IsKeptFor}
 use Rattle.cstn_history.specs.Handed.{HasRoom}
-use Rattle.cstn_follow.specs.Tries.{said, with_base}
+use Rattle.cstn_check.specs.Needs.{said}
+use Rattle.cstn_follow.specs.Tries.{with_base}
 use Rattle.cstn_follow.specs.Needs.{sources}
 use Rattle.cstn_follow.proofs.Fewer.{stands_by}
 use Rattle.cstn_follow.specs.Blame.{alone}

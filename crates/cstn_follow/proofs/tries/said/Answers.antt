@@ -3,7 +3,7 @@ use Rattle.cstn_net.specs.Strategies.{IsConsistent}
 use Rattle.cstn_net.specs.Read.{the_network}
 use Rattle.cstn_check.specs.Growth.{load_of}
 use Rattle.cstn_check.specs.Checks.{CheckParts}
-use Rattle.cstn_follow.proofs.Trial.{said_no}
+use Rattle.cstn_check.proofs.Said.{said_no}
 use Rattle.cstn_follow.proofs.tries.said.Goals as goal
 
 pub returns-in-No : goal.returns-in-No

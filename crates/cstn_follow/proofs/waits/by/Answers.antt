@@ -30,8 +30,8 @@ index-requires-2 c =
     let place = c.index.ensures.index in
     omega arith
 
-pub halve-requires-clause-takes : goal.halve-requires-clause-takes
-halve-requires-clause-takes c =
+pub halve-requires-clause-may : goal.halve-requires-clause-may
+halve-requires-clause-may c =
     let m = the_labelled c.args.network.now in
     let h = the_history c.args.history.now in
     let x = c.args.x.0 in
@@ -53,7 +53,7 @@ halve-requires-clause-takes c =
       base = room.base;
       lowered = room.lowered;
     } in
-    subst (λ (l : Labelled). TakesWaiting l fresh d) (sym rest_is) (subst (TakesWaiting (rest m h fresh) fresh) (sym number_is) takes)
+    (c.requires.room, subst (λ (l : Labelled). TakesWaiting l fresh d) (sym rest_is) (subst (TakesWaiting (rest m h fresh) fresh) (sym number_is) takes))
 
 pub returns-in-Ok-Some : goal.returns-in-Ok-Some
 returns-in-Ok-Some c =

@@ -7,7 +7,8 @@ use Rattle.cstn_lift.specs.Lowered.{lowered}
 use Rattle.cstn_lift.specs.Read.{the_labelled}
 use Rattle.cstn_lift.specs.WellFormed.{IsLabelled}
 use Rattle.cstn_history.specs.Rest.{with_constraint}
-use Rattle.cstn_follow.specs.Tries.{said, with_base}
+use Rattle.cstn_check.specs.Needs.{said}
+use Rattle.cstn_follow.specs.Tries.{with_base}
 use Rattle.cstn_follow.specs.Waiting.{waiting_one}
 use Rattle.cstn_follow.proofs.waits.said_until.Goals as goal
 

@@ -1,5 +1,5 @@
 use Rattle.std.proofs.Common.{◌≡◌, length}
-use Rattle.cstn_data.specs.PairsLeft.{pairs_left}
+use Rattle.cstn_element.specs.PairsLeft.{pairs_left}
 use Rattle.cstn_graphml.specs.DrawnGraphSeen.{graph_seen}
 use Rattle.cstn_graphml.specs.Judged.{with_pairs}
 use Rattle.cstn_graphml.specs.Kept.{kept, kept_by}

@@ -1,4 +1,6 @@
 use Rattle.std.proofs.Common.{◌≡◌, length, take, arith}
+use Rattle.cstn_rules.specs.declared.entries.Entry.{Entry}
+use Rattle.cstn_log.proofs.KeptLemmas.{entry_with}
 use Rattle.cstn_log.proofs.ListLemmas.{take_step, length_taken}
 use Rattle.cstn_log.proofs.PlaceSetLemmas.{marked_more, standing_more}
 use Rattle.cstn_log.proofs.watched.put_all.Goals as goal
@@ -8,8 +10,8 @@ loop-k-preserved c =
     let L = c.args.list.now.entries in
     let k = c.loop-k.k in
     let was = c.loop-k.invariant in
-    let e = c.entry.result in
-    let more = take_step L k e c.entry.ensures.entry in
+    let e : Entry = record { bound = c.bound-b.result; why = c.bound-b.ensures.entry.why } in
+    let more = take_step L k e (entry_with L k c.bound-b.result c.bound-b.ensures) in
     let taken : length (take k L) ≡ k = length_taken L k (omega (arith, c.loop-k-test.true, was.end)) in
     record {
       end = was.end;

@@ -1,6 +1,6 @@
 use Rattle.std.proofs.Common.{length}
-use Rattle.cstn_rows.specs.Pages.{numbered}
-use Rattle.cstn_rows.proofs.NumberLemmas.{left}
+use Rattle.cstn_minset.specs.Pages.{numbered}
+use Rattle.cstn_minset.proofs.NumberLemmas.{left}
 use Rattle.cstn_minset.specs.Sets.{IsRecordUnder}
 use Rattle.cstn_minset.proofs.ScanLemmas.{IsScanned}
 use Rattle.cstn_minset.proofs.scan.place_under.Given as goal

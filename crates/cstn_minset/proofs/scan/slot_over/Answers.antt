@@ -1,8 +1,8 @@
 use Rattle.std.proofs.Common.{refl, sym, ◌∙◌, ap}
 use Rattle.std.proofs.lemmas.Option.{slice_get_within, same_Some}
-use Rattle.cstn_rows.specs.Pages.{most_pages}
-use Rattle.cstn_rows.proofs.HomeLemmas.{page_of_in, pages_are_numbers}
-use Rattle.cstn_rows.proofs.NumberLemmas.{nearer}
+use Rattle.cstn_minset.specs.Pages.{most_pages}
+use Rattle.cstn_minset.proofs.HomeLemmas.{page_of_in, pages_are_numbers}
+use Rattle.cstn_minset.proofs.NumberLemmas.{nearer}
 use Rattle.cstn_minset.specs.Sets.{IsRecordOver}
 use Rattle.cstn_minset.proofs.ScanLemmas.{scanned_page, scanned_more, scanned_end}
 use Rattle.cstn_minset.proofs.scan.slot_over.Goals as goal

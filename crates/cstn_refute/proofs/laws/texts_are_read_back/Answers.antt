@@ -1,5 +1,5 @@
 use Rattle.cstn_refute.proofs.BackLemmas.{shown_back}
-use Rattle.cstn_refute.proofs.SaidLemmas.{text_said}
+use Rattle.cstn_refute.proofs.OrderLemmas.{text_said}
 use Rattle.cstn_refute.proofs.laws.texts_are_read_back.Goals as goal
 
 pub returns-clause-back : goal.returns-clause-back

@@ -1,19 +1,18 @@
-use Rattle.std.proofs.Common.{◌≡◌, ◌∙◌, ◌≤◌, ◌+◌, ◌++◌, ◌∷◌, [], length, map, sym, subst, arith, IfOk, IfErr}
-use Rattle.std.specs.Prelude.{Some}
+use Rattle.std.proofs.Common.{ℕ, ◌≡◌, ◌∙◌, ◌≤◌, ◌+◌, [], length, map, ap, sym, subst, arith, IfOk, IfErr}
+use Rattle.std.specs.Prelude.{None, Some}
 use Rattle.std.specs.List.{All}
 use Rattle.std.proofs.lemmas.Grind.{common_steps}
 use Rattle.std.proofs.lemmas.List.{length-map}
 use Rattle.std.proofs.lemmas.List.Elements.{All-push}
 use Rattle.cstn_net.specs.Limits.{most_load}
-use Rattle.cstn_rules.specs.Derivations.{Entry as TheEntry}
 use Rattle.cstn_rules.specs.Read.{the_entry}
 use Rattle.cstn_text.specs.Parts.{parts_at}
-use Rattle.cstn_listing.specs.Listings.{told_after, or_wrong}
-use Rattle.cstn_listing.proofs.ListingLemmas.{told_next, told_viewed, told_last}
+use Rattle.cstn_text.specs.Listings.{told_after}
 use Rattle.cstn_refute.specs.Refutations.{IsStep, the_steps}
 use Rattle.cstn_refute.specs.Read.{IsWrong}
 use Rattle.cstn_refute.specs.Steps.{step_read}
-use Rattle.cstn_refute.specs.Texts.{tells, step_lines}
+use Rattle.cstn_refute.specs.Texts.{Told, tells, wrong, step_lines}
+use Rattle.cstn_refute.proofs.OrderLemmas.{told_viewed, wrong_viewed, told_last}
 use Rattle.cstn_refute.proofs.reading.read_steps.Goals as goal
 
 pub returns-clause-accepted : goal.returns-clause-accepted
@@ -30,22 +29,22 @@ pub loop-line-preserved : goal.loop-line-preserved
 loop-line-preserved c =
     let kind = step_lines c.args.names.now in
     let steps = c.loop-line.steps.items in
-    let step = c.in-Ok.step in
+    let step = c.in-Some-read_step.step in
     let count = c.len-k.ensures ∙ c.loop-line.steps.ok.0 in
-    let read = subst (λ k. step_read c.args.names.now k c.in-Some.line.now ≡ Some (the_entry step)) (count ∙ sym (length-map steps the_entry)) c.in-Ok.ensures.step in
-    let few = c.in-Ok.ensures.few in
+    let read = subst (λ k. step_read c.args.names.now k c.in-Some.line.now ≡ Some (the_entry step)) (count ∙ sym (length-map steps the_entry)) (sym c.in-Some-read_step.ensures.step) in
+    let few = c.in-Some-read_step.ensures.few in
     let on = told_viewed kind the_entry c.args.load steps c.loop-line.left.now c.in-Some.line.now c.in-Some.rest.now step _
     (sym c.in-Some.ensures.cut) read c.loop-line.invariant.told in
     subst (λ xs. record { told : told_after kind c.args.load (map the_entry xs) (parts_at 10 c.in-Some.rest.now).0 (parts_at 10 c.in-Some.rest.now).1 ≡ told_after kind c.args.load [] (parts_at 10 c.args.bytes.now).0 (parts_at 10 c.args.bytes.now).1; few : length xs ≤ most_load; each : All IsStep xs })
-    (sym c.in-Ok-push.ensures.items)
-    (record { told = on; few = grind (arith, common_steps); each = All-push IsStep steps step c.loop-line.invariant.each c.in-Ok.ensures.form })
+    (sym c.in-Ok.ensures.items)
+    (record { told = on; few = grind (arith, common_steps); each = All-push IsStep steps step c.loop-line.invariant.each c.in-Some-read_step.ensures.form })
 
-pub returns-in-Err-clause-line : goal.returns-in-Err-clause-line
-returns-in-Err-clause-line c =
-    let kind = step_lines c.args.names.now in
-    let steps = map the_entry c.loop-line.steps.items in
-    let next = told_next kind c.args.load steps c.loop-line.left.now c.in-Some.line.now c.in-Some.rest.now (sym c.in-Some.ensures.cut) in
-    let on = λ (e : TheEntry). told_after kind c.args.load (steps ++ e ∷ []) (parts_at 10 c.in-Some.rest.now).0 (parts_at 10 c.in-Some.rest.now).1 in
-    let count = c.len-k.ensures ∙ c.loop-line.steps.ok.0 ∙ sym (length-map c.loop-line.steps.items the_entry) in
-    let here = subst (λ k. IsWrong (or_wrong (step_read c.args.names.now k c.in-Some.line.now) (k + 2) on) c.in-Err.e) count (c.in-Err.ensures.line on) in
-    subst (λ t. IsWrong t c.in-Err.e) (sym next ∙ c.loop-line.invariant.told) here
+pub returns-in_default-read_step-clause-line : goal.returns-in_default-read_step-clause-line
+returns-in_default-read_step-clause-line c =
+    let steps = c.loop-line.steps.items in
+    let count = c.len-k.ensures ∙ c.loop-line.steps.ok.0 in
+    let line_wrong : ℕ → Told = λ n. wrong (n + 2) in
+    let read = subst (λ k. step_read c.args.names.now k c.in-Some.line.now ≡ None) (count ∙ sym (length-map steps the_entry)) (sym c.in_default-read_step.ensures.step) in
+    wrong_viewed (step_lines c.args.names.now) the_entry c.args.load steps c.loop-line.left.now c.in-Some.line.now c.in-Some.rest.now _
+    (sym c.in-Some.ensures.cut) read c.loop-line.invariant.told
+    ∙ ap line_wrong (sym count)

@@ -4,7 +4,7 @@ use Rattle.cstn_net.specs.Limits.{most_load}
 use Rattle.cstn_rules.specs.Read.{the_entry}
 use Rattle.cstn_refute.specs.Refutations.{IsStep}
 use Rattle.cstn_text.specs.Parts.{parts_at}
-use Rattle.cstn_listing.specs.Listings.{told_after}
+use Rattle.cstn_text.specs.Listings.{told_after}
 use Rattle.cstn_refute.specs.Texts.{step_lines}
 use Rattle.cstn_refute.proofs.reading.read_steps.Given as goal
 

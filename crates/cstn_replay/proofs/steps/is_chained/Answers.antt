@@ -5,10 +5,10 @@ use Rattle.cstn_net.specs.Networks.{Constraint}
 use Rattle.cstn_net.specs.Read.{the_network, the_constraint}
 use Rattle.cstn_rules.specs.Rules.{IsChain}
 use Rattle.cstn_rules.specs.Read.{the_entry}
-use Rattle.cstn_replay.proofs.IdLemmas.{contains_image}
 use Rattle.cstn_replay.proofs.SameLemmas.{concluded}
 use Rattle.cstn_replay.proofs.StepLemmas.{chain_follows}
 use Rattle.std.specs.Prelude.{◌≢◌}
+use Rattle.cstn_facts.proofs.Members.{contains_map}
 use Rattle.cstn_replay.proofs.steps.is_chained.Goals as goal
 
 pub returns-in_default : goal.returns-in_default
@@ -29,7 +29,7 @@ returns c =
     c.chain-given.ensures.none (c.rules_have_one_conclusion.ensures.chain net (the_constraint constraint) b) in
     let follows = chain_follows net (map the_entry c.args.steps.now) c.args.k c.args.id c.args.i (the_constraint constraint) b (the_bound c.args.bound)
     c.network_is_well_formed.ensures.ascending
-    (contains_image the_constraint c.args.net.now.constraints constraint c.in-Some.ensures.there) c.in-Some.ensures.id c.in-Some-premise.ensures.earlier in
+    (contains_map the_constraint c.args.net.now.constraints constraint c.in-Some.ensures.there) c.in-Some.ensures.id c.in-Some-premise.ensures.earlier in
     record {
       chained = (
         λ t. follows.0 (given.0 (c.is_exactly.ensures.exactly.0 t)),

@@ -1,10 +1,12 @@
 use Rattle.std.proofs.Common.{arith, rules, [], ◌++◌, inl, ap, sym, ◌∙◌}
+use Rattle.std.proofs.lemmas.List.{append-nil}
+use Rattle.std.proofs.lemmas.Bool.{both_ways}
 use Rattle.cstn_reply.specs.Written.{LiveState}
 use Rattle.cstn_reply.specs.Sessions.{session_says}
 use Rattle.cstn_reply.specs.Reached.{session_heard}
 use Rattle.cstn_io.specs.Contents.{with_bytes}
 use Rattle.cstn_lines.specs.Steps.{LinesState}
-use Rattle.cstn_reply.proofs.Talking.{nothing_more, not_both, starts}
+use Rattle.cstn_reply.proofs.Talking.{starts}
 use Rattle.cstn_reply.proofs.SessionEnds.{was_memory, no_memory, cut_opening, cut_short, finishes, regroup, regroup_cut, shown}
 use Rattle.cstn_reply.proofs.session.converse.Goals as goal
 
@@ -61,8 +63,8 @@ pub session-init : goal.session-init
 session-init g c =
     let lines_are = c.in-Ok.ensures in
     record {
-      progress = ([], [], starts g.T.Talk.ends g.T.Talk.turn (g.T.Talk.state c.args.talk) _ _ (ap (λ (s : LinesState). s.kept) lines_are) (ap (λ (s : LinesState). s.count) lines_are), c.in-Ok-send.ensures.whole ∙ ap (with_bytes _) (sym (nothing_more c.args.opening.now)));
-      at_end = λ e. absurd (not_both _ (ap (λ (s : LinesState). s.ended) lines_are) e);
+      progress = ([], [], starts g.T.Talk.ends g.T.Talk.turn (g.T.Talk.state c.args.talk) _ _ (ap (λ (s : LinesState). s.kept) lines_are) (ap (λ (s : LinesState). s.count) lines_are), c.in-Ok-send.ensures.whole ∙ ap (with_bytes _) (sym (append-nil c.args.opening.now)));
+      at_end = λ e. absurd (both_ways _ (ap (λ (s : LinesState). s.ended) lines_are) e);
       count = search rules;
       live = search rules;
       out = search rules;

@@ -1,8 +1,7 @@
-use Rattle.std.proofs.Common.{◌≡◌, ◌+◌, ◌-◌, List, ℕ, [], length, take, drop, sym, ap, subst, ◌∙◌}
-use Rattle.std.specs.Prelude.{Some, None, Option}
+use Rattle.std.proofs.Common.{◌≡◌, ◌+◌, ◌-◌, List, ℕ, length, take, drop, sym, ap, ◌∙◌}
+use Rattle.std.specs.Prelude.{Some, Option}
 use Rattle.std.specs.Option.{option_map}
 use Rattle.std.proofs.lemmas.List.{take_rest}
-use Rattle.cstn_text.specs.Cuts.{cut_at}
 use Rattle.cstn_text.proofs.SplitLemmas.{parts_cut, cut_shorter}
 use Rattle.cstn_text.proofs.cuts.cut_at.Goals as goal
 

@@ -1,5 +1,6 @@
 use Rattle.std.proofs.Common.{◌<◌, ◌≤◌, length, arith}
-use Rattle.cstn_text.proofs.PrintedNameLemmas.{none_first, too_long, in_any_case}
+use Rattle.cstn_facts.proofs.Options.{in_any_case}
+use Rattle.cstn_text.proofs.PrintedNameLemmas.{none_first, too_long}
 use Rattle.cstn_text.proofs.printed_names.unprinted.Goals as goal
 
 pub returns-in_err-b-clause-none : goal.returns-in_err-b-clause-none

@@ -1,30 +1,38 @@
-use Rattle.std.proofs.Common.{refl, ap, sym, subst, ◌-◌, ◌<◌, ℕ}
-use Rattle.std.specs.Prelude.{Err}
-use Rattle.std.specs.List.{All}
-use Rattle.cstn_rules.specs.declared.entries.Entry.{Entry}
-use Rattle.cstn_net.specs.Read.{the_network}
+use Rattle.std.proofs.Common.{◌-◌, ap, sym, subst, ◌∙◌}
+use Rattle.cstn_net.specs.Networks.{count}
+use Rattle.cstn_net.specs.Read.{NetworkParts, the_network}
+use Rattle.cstn_check.specs.Decisions.{TellsVerdict}
+use Rattle.cstn_check.specs.declared.decisions.Judged.{Judged}
+use Rattle.cstn_check.specs.declared.decisions.Judged.TheVariants.{Yes}
 use Rattle.cstn_tight.specs.Deadlines.{at_deadline}
-use Rattle.cstn_tight.specs.Bisection.{least_deadline}
-use Rattle.cstn_tight.proofs.Saying.{no_tightened, yes_tightened, steps_named}
+use Rattle.cstn_tight.proofs.Saying.{yes_consistent, yes_tightened, steps_named}
 use Rattle.cstn_tight.proofs.texts.tight_text.Goals as goal
 
-pub returns-in-Ok : goal.returns-in-Ok
-returns-in-Ok c = record {
-  said =
-      yes_tightened c.args.cap.entries c.args.names.now (the_network c.args.network) c.in-Ok.tight.deadline c.in-Ok.tight.closed c.in-Ok.tight.refutation c.tight_said.result
-      c.requires.well_formed c.growth_decides.ensures.decides (c.in-Ok.ensures.refused refl) c.in-Ok.ensures.deadline c.in-Ok.ensures.bounds c.in-Ok.ensures.load c.in-Ok.ensures.none c.in-Ok.ensures.refutation c.tight_said.ensures.said;
-}
+pub tight_of-requires-clause-consistent : goal.tight_of-requires-clause-consistent
+tight_of-requires-clause-consistent c =
+    let told : TellsVerdict c.args.cap.entries c.args.names.now c.args.network (Yes c.in-Yes.load c.in-Yes.check) =
+    subst (λ (d : Judged). TellsVerdict c.args.cap.entries c.args.names.now c.args.network d) c.in-Yes.is c.in_ok-check.ensures.judged in
+    yes_consistent c.args.cap.entries c.args.names.now c.args.network c.in-Yes.load c.in-Yes.check c.requires.well_formed told
 
 pub tight_said-requires-clause-named : goal.tight_said-requires-clause-named
-tight_said-requires-clause-named c = c.in-Ok.ensures.named c.args.names.now c.requires.named
+tight_said-requires-clause-named c =
+    let told : TellsVerdict c.args.cap.entries c.args.names.now c.args.network (Yes c.in-Yes.load c.in-Yes.check) =
+    subst (λ (d : Judged). TellsVerdict c.args.cap.entries c.args.names.now c.args.network d) c.in-Yes.is c.in_ok-check.ensures.judged in
+    c.in_ok-tight-in-Yes.ensures.tight.closed.named c.args.names.now (c.requires.named ∙ ap (λ (n : NetworkParts). count (the_network n)) (sym told.2))
 
 pub tight_said-requires-clause-steps : goal.tight_said-requires-clause-steps
 tight_said-requires-clause-steps c =
-    steps_named c.args.names.now (at_deadline (the_network c.args.network) (least_deadline (the_network c.args.network) - 1)) c.in-Ok.tight.refutation c.requires.named c.in-Ok.ensures.refutation
+    let told : TellsVerdict c.args.cap.entries c.args.names.now c.args.network (Yes c.in-Yes.load c.in-Yes.check) =
+    subst (λ (d : Judged). TellsVerdict c.args.cap.entries c.args.names.now c.args.network d) c.in-Yes.is c.in_ok-check.ensures.judged in
+    let tight = c.in_ok-tight-in-Yes.tight in
+    steps_named c.args.names.now (at_deadline (the_network c.in-Yes.check.net) (tight.deadline - 1)) tight.refutation
+    (c.requires.named ∙ ap (λ (n : NetworkParts). count (the_network n)) (sym told.2)) c.in_ok-tight-in-Yes.ensures.tight.refutation
 
-pub returns-in-Err-No : goal.returns-in-Err-No
-returns-in-Err-No c = record {
-  said =
-      no_tightened c.args.cap.entries c.args.names.now (the_network c.args.network) c.in-Err-No.refutation c.refuted.result
-      c.requires.well_formed c.growth_decides.ensures.decides (c.in-Err-No.ensures.no c.in-Err-No.refutation (ap Err c.in-Err-No.field-0-is)) c.refuted.ensures.said;
-}
+pub returns-in_ok-tight-in-Yes : goal.returns-in_ok-tight-in-Yes
+returns-in_ok-tight-in-Yes c =
+    let told : TellsVerdict c.args.cap.entries c.args.names.now c.args.network (Yes c.in-Yes.load c.in-Yes.check) =
+    subst (λ (d : Judged). TellsVerdict c.args.cap.entries c.args.names.now c.args.network d) c.in-Yes.is c.in_ok-check.ensures.judged in
+    record {
+      said = yes_tightened c.args.cap.entries c.args.names.now c.args.network c.in-Yes.load c.in-Yes.check c.in_ok-tight-in-Yes.tight c.tight_said.result
+          c.requires.well_formed told c.in_ok-tight-in-Yes.ensures.tight c.tight_said.ensures.said;
+    }

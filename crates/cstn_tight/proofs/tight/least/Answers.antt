@@ -3,8 +3,8 @@ use Rattle.cstn_net.specs.Read.{NetworkParts, the_network}
 use Rattle.cstn_net.specs.Strategies.{IsConsistent}
 use Rattle.cstn_check.specs.Verdicts.{IsRefutationOf}
 use Rattle.cstn_tight.specs.Evidence.{IsTightOf}
-use Rattle.cstn_tight.proofs.AnswerLemmas.{full_tells, yes_tells, no_tells, same_net, deadline_is, deadline_upto, bounds_are, load_is, refutation_is, not_ok}
-use Rattle.cstn_tight.proofs.BracketLemmas.{whole_full, not_full}
+use Rattle.cstn_tight.proofs.AnswerLemmas.{full_tells, yes_tells, no_tells, same_net, not_ok}
+use Rattle.cstn_tight.proofs.LeastLemmas.{least_upto}
 use Rattle.cstn_tight.proofs.tight.least.Goals as goal
 
 pub tight_of-requires-clause-consistent : goal.tight_of-requires-clause-consistent
@@ -17,57 +17,20 @@ pub returns-in_err-refutation-in-No-clause-refused : goal.returns-in_err-refutat
 returns-in_err-refutation-in-No-clause-refused c ok =
     absurd (not_ok c.from_residual-in_err-refutation-in-No.result c.from_residual-in_err-refutation-in-No.ensures.0 ok)
 
-pub returns-in_ok-tight_of-in-Yes-clause-refused : goal.returns-in_ok-tight_of-in-Yes-clause-refused
-returns-in_ok-tight_of-in-Yes-clause-refused c ok =
+pub returns-in_ok-tight_of-in-Yes : goal.returns-in_ok-tight_of-in-Yes
+returns-in_ok-tight_of-in-Yes c =
     let yes_is = yes_tells c.args.cap.entries c.args.net c.in_ok-check.check c.in_ok-check.ensures.start c.in-Yes.load ((c.run.ensures.exactly_yes c.in-Yes.load).0 c.in-Yes.is) in
-    (yes_is.1, not_full (the_network c.args.net) c.network_is_well_formed.ensures c.args.cap.entries yes_is.0)
-
-pub returns-in_ok-tight_of-in-Yes-clause-deadline : goal.returns-in_ok-tight_of-in-Yes-clause-deadline
-returns-in_ok-tight_of-in-Yes-clause-deadline c =
-    let yes_is = yes_tells c.args.cap.entries c.args.net c.in_ok-check.check c.in_ok-check.ensures.start c.in-Yes.load ((c.run.ensures.exactly_yes c.in-Yes.load).0 c.in-Yes.is) in
+    let net = the_network c.args.net in
     let tight = subst (λ (n : NetworkParts). IsTightOf (the_network n) c.in_ok-tight_of-in-Yes.field-0)
     (same_net c.args.cap.entries c.args.net c.in_ok-check.check c.in_ok-check.ensures.start c.run.new.self c.run.result c.run.ensures.answered) c.in_ok-tight_of-in-Yes.ensures.tight in
-    deadline_is (the_network c.args.net) c.network_is_well_formed.ensures yes_is.1 c.in_ok-tight_of-in-Yes.field-0 tight
-
-pub returns-in_ok-tight_of-in-Yes-clause-upto : goal.returns-in_ok-tight_of-in-Yes-clause-upto
-returns-in_ok-tight_of-in-Yes-clause-upto c =
-    let yes_is = yes_tells c.args.cap.entries c.args.net c.in_ok-check.check c.in_ok-check.ensures.start c.in-Yes.load ((c.run.ensures.exactly_yes c.in-Yes.load).0 c.in-Yes.is) in
-    let tight = subst (λ (n : NetworkParts). IsTightOf (the_network n) c.in_ok-tight_of-in-Yes.field-0)
-    (same_net c.args.cap.entries c.args.net c.in_ok-check.check c.in_ok-check.ensures.start c.run.new.self c.run.result c.run.ensures.answered) c.in_ok-tight_of-in-Yes.ensures.tight in
-    deadline_upto (the_network c.args.net) c.network_is_well_formed.ensures yes_is.1 c.in_ok-tight_of-in-Yes.field-0 tight
-
-pub returns-in_ok-tight_of-in-Yes-clause-bounds : goal.returns-in_ok-tight_of-in-Yes-clause-bounds
-returns-in_ok-tight_of-in-Yes-clause-bounds c =
-    let yes_is = yes_tells c.args.cap.entries c.args.net c.in_ok-check.check c.in_ok-check.ensures.start c.in-Yes.load ((c.run.ensures.exactly_yes c.in-Yes.load).0 c.in-Yes.is) in
-    let tight = subst (λ (n : NetworkParts). IsTightOf (the_network n) c.in_ok-tight_of-in-Yes.field-0)
-    (same_net c.args.cap.entries c.args.net c.in_ok-check.check c.in_ok-check.ensures.start c.run.new.self c.run.result c.run.ensures.answered) c.in_ok-tight_of-in-Yes.ensures.tight in
-    bounds_are (the_network c.args.net) c.network_is_well_formed.ensures yes_is.1 c.in_ok-tight_of-in-Yes.field-0 tight
-
-pub returns-in_ok-tight_of-in-Yes-clause-load : goal.returns-in_ok-tight_of-in-Yes-clause-load
-returns-in_ok-tight_of-in-Yes-clause-load c =
-    let yes_is = yes_tells c.args.cap.entries c.args.net c.in_ok-check.check c.in_ok-check.ensures.start c.in-Yes.load ((c.run.ensures.exactly_yes c.in-Yes.load).0 c.in-Yes.is) in
-    let tight = subst (λ (n : NetworkParts). IsTightOf (the_network n) c.in_ok-tight_of-in-Yes.field-0)
-    (same_net c.args.cap.entries c.args.net c.in_ok-check.check c.in_ok-check.ensures.start c.run.new.self c.run.result c.run.ensures.answered) c.in_ok-tight_of-in-Yes.ensures.tight in
-    load_is (the_network c.args.net) c.network_is_well_formed.ensures yes_is.1 c.in_ok-tight_of-in-Yes.field-0 tight
-
-pub returns-in_ok-tight_of-in-Yes-clause-refutation : goal.returns-in_ok-tight_of-in-Yes-clause-refutation
-returns-in_ok-tight_of-in-Yes-clause-refutation c =
-    let yes_is = yes_tells c.args.cap.entries c.args.net c.in_ok-check.check c.in_ok-check.ensures.start c.in-Yes.load ((c.run.ensures.exactly_yes c.in-Yes.load).0 c.in-Yes.is) in
-    let tight = subst (λ (n : NetworkParts). IsTightOf (the_network n) c.in_ok-tight_of-in-Yes.field-0)
-    (same_net c.args.cap.entries c.args.net c.in_ok-check.check c.in_ok-check.ensures.start c.run.new.self c.run.result c.run.ensures.answered) c.in_ok-tight_of-in-Yes.ensures.tight in
-    refutation_is (the_network c.args.net) c.network_is_well_formed.ensures yes_is.1 c.in_ok-tight_of-in-Yes.field-0 tight
-
-pub returns-in_ok-tight_of-in-Yes-clause-named : goal.returns-in_ok-tight_of-in-Yes-clause-named
-returns-in_ok-tight_of-in-Yes-clause-named c =
-    let tight = subst (λ (n : NetworkParts). IsTightOf (the_network n) c.in_ok-tight_of-in-Yes.field-0)
-    (same_net c.args.cap.entries c.args.net c.in_ok-check.check c.in_ok-check.ensures.start c.run.new.self c.run.result c.run.ensures.answered) c.in_ok-tight_of-in-Yes.ensures.tight in
-    tight.closed.named
-
-pub returns-in_ok-tight_of-in-Yes-clause-accepted : goal.returns-in_ok-tight_of-in-Yes-clause-accepted
-returns-in_ok-tight_of-in-Yes-clause-accepted c =
-    let tight = subst (λ (n : NetworkParts). IsTightOf (the_network n) c.in_ok-tight_of-in-Yes.field-0)
-    (same_net c.args.cap.entries c.args.net c.in_ok-check.check c.in_ok-check.ensures.start c.run.new.self c.run.result c.run.ensures.answered) c.in_ok-tight_of-in-Yes.ensures.tight in
-    tight.closed.accepted
+    record {
+      no = λ r is. absurd (cc);
+      full = λ is. absurd (cc);
+      bounded = λ is. absurd (cc);
+      refused = λ ok. (yes_is.1, yes_is.0);
+      tight = tight;
+      upto = least_upto net c.in_ok-tight_of-in-Yes.field-0.deadline net.deadline tight.least yes_is.1;
+    }
 
 pub returns-in_ok-refutation-in-No-clause-no : goal.returns-in_ok-refutation-in-No-clause-no
 returns-in_ok-refutation-in-No-clause-no c r told =
@@ -84,6 +47,4 @@ returns-in_ok-refutation-in-No-clause-no c r told =
     )
 
 pub returns-in-Full-clause-full : goal.returns-in-Full-clause-full
-returns-in-Full-clause-full c full =
-    whole_full (the_network c.args.net) c.network_is_well_formed.ensures c.args.cap.entries
-    (full_tells c.args.cap.entries c.args.net c.in_ok-check.check c.in_ok-check.ensures.start (c.run.ensures.full.0 c.in-Full.is))
+returns-in-Full-clause-full c full = full_tells c.args.cap.entries c.args.net c.in_ok-check.check c.in_ok-check.ensures.start (c.run.ensures.full.0 c.in-Full.is)

@@ -1,5 +1,5 @@
 use Rattle.std.proofs.Common.{subst}
-use Rattle.cstn_words.specs.Read.{the_request}
+use Rattle.cstn_request.specs.Read.{the_request}
 use Rattle.cstn_top.specs.Command.{Kind}
 use Rattle.cstn_top.specs.Prepared.{FitsKind}
 use Rattle.cstn_top.proofs.Preparing.{planned_by}

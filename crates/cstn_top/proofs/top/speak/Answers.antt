@@ -1,7 +1,7 @@
 use Rattle.cstn_reply.specs.Written.{LiveState}
 use Rattle.cstn_reply.specs.Read.{the_said}
-use Rattle.cstn_host.specs.Sessions.{host_turn, host_ending}
-use Rattle.cstn_host.specs.SessionRead.{the_host_session}
+use Rattle.cstn_run.specs.hosted.Sessions.{host_turn, host_ending}
+use Rattle.cstn_run.specs.hosted.SessionRead.{the_host_session}
 use Rattle.cstn_follow.specs.Following.{following_ending}
 use Rattle.cstn_follow.specs.Read.{the_following}
 use Rattle.cstn_run.specs.Sessions.{guided_turn, guided_ending}

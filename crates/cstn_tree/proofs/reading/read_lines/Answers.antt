@@ -1,12 +1,12 @@
 use Rattle.std.proofs.Common.{ℕ, List, ◌≡◌, length, arith, sym, subst, ap, ◌∙◌}
 use Rattle.std.proofs.lemmas.Result.{IfOk-weaker, IfErr-weaker}
 use Rattle.cstn_text.specs.Parts.{parts_at}
-use Rattle.cstn_listing.specs.Listings.{at_end, told_after}
-use Rattle.cstn_listing.proofs.ListingLemmas.{told_last}
+use Rattle.cstn_text.specs.Listings.{at_end, told_after}
 use Rattle.cstn_tree.specs.Trees.{Line}
 use Rattle.cstn_tree.specs.Texts.{Told, tells, without_load, tree_lines, is_whole}
 use Rattle.cstn_tree.specs.Reading.{the_lines, IsWrong}
 use Rattle.cstn_tree.proofs.ReadLemmas.{told_cut}
+use Rattle.cstn_tree.proofs.SaidLemmas.{told_last}
 use Rattle.cstn_tree.proofs.reading.read_lines.Goals as goal
 
 pub loop-line-init : goal.loop-line-init

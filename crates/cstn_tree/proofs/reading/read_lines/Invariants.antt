@@ -1,6 +1,6 @@
 use Rattle.std.proofs.Common.{ℕ, ◌≡◌, ◌≤◌, ◌+◌, [], length}
 use Rattle.cstn_text.specs.Parts.{parts_at}
-use Rattle.cstn_listing.specs.Listings.{told_after}
+use Rattle.cstn_text.specs.Listings.{told_after}
 use Rattle.cstn_tree.specs.Texts.{tree_lines}
 use Rattle.cstn_tree.specs.Reading.{the_lines, IsReader}
 use Rattle.cstn_tree.proofs.reading.read_lines.Given as goal

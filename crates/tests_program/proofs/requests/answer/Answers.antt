@@ -1,7 +1,7 @@
 use Rattle.std.proofs.Common.{◌≡◌, ℕ, Bool, true, List, [], ◌∷◌, refl, ap, ◌∙◌}
 use Rattle.std.specs.Prelude.{IsTrue, ◌&&◌, map, string_bytes}
 use Rattle.std.specs.List.{list_all}
-use Rattle.cstn_words.specs.Requests.{request_of, names_of}
+use Rattle.cstn_request.specs.Requests.{request_of, names_of}
 use Rattle.tests_program.specs.declared.requests.TheConstants.{RELEASE}
 use Rattle.tests_program.proofs.requests.answer.Goals as goal
 

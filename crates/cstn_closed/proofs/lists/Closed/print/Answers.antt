@@ -1,14 +1,14 @@
 use Rattle.std.proofs.Common.{◌≡◌, ◌∙◌, [], take, map, get_or, ap, sym, subst}
-use Rattle.std.specs.Prelude.{string_bytes}
+use Rattle.std.specs.Prelude.{string_bytes, codes}
 use Rattle.std.specs.List.{All}
 use Rattle.std.proofs.Math.Seq.{take_all}
 use Rattle.std.proofs.lemmas.List.Elements.{All-get_or}
 use Rattle.cstn_label.specs.Read.{the_bound}
 use Rattle.cstn_text.specs.PrintedNames.{printed_name}
-use Rattle.cstn_closed.specs.Texts.{shown}
+use Rattle.cstn_closed.specs.Texts.{printed_line, shown}
 use Rattle.cstn_closed.specs.Written.{IsNamed}
-use Rattle.cstn_listing.proofs.NameLemmas.{name_at}
-use Rattle.cstn_closed.proofs.PrintLemmas.{one_more, line_of, closed_back}
+use Rattle.cstn_closed.proofs.BackLemmas.{listing_grows}
+use Rattle.cstn_closed.proofs.PrintLemmas.{line_of, closed_back}
 use Rattle.cstn_closed.proofs.lists.Closed.print.Goals as goal
 
 pub loop-bound-preserved : goal.loop-bound-preserved
@@ -23,9 +23,9 @@ loop-bound-preserved c =
     let name : c.deref.result.now ≡ printed_name (get_or names bound.node.0 []) =
     c.deref.ensures
     ∙ ap string_bytes (c.index-in-loop-bound.ensures ∙ ap (λ i. get_or texts i other) c.index.ensures.index)
-    ∙ name_at texts names bound.node.0 other c.in_ok-printed.ensures.printed its.node in
+    ∙ c.in_ok-printed.ensures.each bound.node.0 other its.node in
     line_of names bound c.deref.result.now (string_bytes c.loop-bound.text) (string_bytes c.push_bound.new.text) name c.in_ok-push_bound.ensures.pushed
-    ∙ one_more names c.args.self.now.load bounds c.loop-bound.bound-index bound _ c.loop-bound-test.true c.bound-item.is c.loop-bound.invariant
+    ∙ listing_grows the_bound (codes "yes") (printed_line names) c.args.self.now.load bounds c.loop-bound.bound-index bound _ c.loop-bound-test.true c.bound-item.is c.loop-bound.invariant
 
 pub returns-clause-back : goal.returns-clause-back
 returns-clause-back c fits =

@@ -1,31 +1,23 @@
 use Rattle.std.proofs.Common.{◌≡◌, sym, subst, IfOk, IfErr}
 use Rattle.std.proofs.lemmas.Result.{IfOk-weaker}
-use Rattle.cstn_listing.proofs.ListingLemmas.{told_first, first_wrong, none_wrong}
 use Rattle.cstn_closed.specs.Closed.{the_bounds}
 use Rattle.cstn_closed.specs.Read.{IsWrong}
 use Rattle.cstn_closed.specs.Texts.{told, tells, bound_lines}
 use Rattle.cstn_closed.proofs.PrintLemmas.{are_named, fits_text}
-use Rattle.cstn_closed.proofs.SaidLemmas.{text_said}
+use Rattle.cstn_closed.proofs.SaidLemmas.{told_first, first_wrong, text_said}
 use Rattle.cstn_closed.proofs.lists.Closed.read.Goals as goal
 
 pub returns-in_default-clause-line : goal.returns-in_default-clause-line
-returns-in_default-clause-line c = none_wrong (bound_lines c.args.names.now) c.args.bytes.now (sym c.in_default.ensures.cut)
-
-pub returns-in_default-read_load-clause-line : goal.returns-in_default-read_load-clause-line
-returns-in_default-read_load-clause-line c =
-    first_wrong (bound_lines c.args.names.now) c.args.bytes.now c.in-Some.line.now c.in-Some.rest.now (sym c.in-Some.ensures.cut)
-    (sym c.in_default-read_load.ensures.load)
+returns-in_default-clause-line c = first_wrong (bound_lines c.args.names.now) c.args.bytes.now (sym c.in_default.ensures.start)
 
 pub returns-clause-accepted : goal.returns-clause-accepted
 returns-clause-accepted c =
-    let first = told_first (bound_lines c.args.names.now) c.args.bytes.now c.in-Some.line.now c.in-Some.rest.now c.in-Some-read_load.load
-    (sym c.in-Some.ensures.cut) (sym c.in-Some-read_load.ensures.load) in
+    let first = told_first (bound_lines c.args.names.now) c.args.bytes.now c.in-Some.load c.in-Some.rest.now (sym c.in-Some.ensures.start) in
     subst (λ t. IfOk c.read_bounds.result (λ r. t ≡ tells r.load (the_bounds r))) (sym first) c.read_bounds.ensures.accepted
 
 pub returns-clause-line : goal.returns-clause-line
 returns-clause-line c =
-    let first = told_first (bound_lines c.args.names.now) c.args.bytes.now c.in-Some.line.now c.in-Some.rest.now c.in-Some-read_load.load
-    (sym c.in-Some.ensures.cut) (sym c.in-Some-read_load.ensures.load) in
+    let first = told_first (bound_lines c.args.names.now) c.args.bytes.now c.in-Some.load c.in-Some.rest.now (sym c.in-Some.ensures.start) in
     subst (λ t. IfErr c.read_bounds.result (IsWrong t)) (sym first) c.read_bounds.ensures.line
 
 pub returns-clause-named : goal.returns-clause-named

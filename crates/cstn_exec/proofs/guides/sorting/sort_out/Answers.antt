@@ -2,6 +2,7 @@ use Rattle.std.proofs.Common.{ℕ, ◌≡◌, ◌<◌, Bool, true, false, not, N
 use Rattle.std.specs.Prelude.{slice_index_or, slice_set}
 use Rattle.std.specs.List.{filter}
 use Rattle.std.proofs.lemmas.List.{length-map, map-append, take_all}
+use Rattle.cstn_facts.proofs.Filters.{filter_with, filter_without}
 use Rattle.cstn_label.specs.Read.{known_value}
 use Rattle.cstn_net.specs.Networks.{Observes, count}
 use Rattle.cstn_net.specs.Read.{the_network}
@@ -12,7 +13,7 @@ use Rattle.cstn_exec.specs.Moves.{outcome_refusal}
 use Rattle.cstn_exec.specs.Read.{ExecParts}
 use Rattle.cstn_exec.specs.Guides.{holds_by, denied, all_denied, with_left}
 use Rattle.cstn_exec.proofs.Denying.{next_open, all_push, left_push, left_size}
-use Rattle.cstn_exec.proofs.Sorting.{name_at, place_below, filter_with, filter_without}
+use Rattle.cstn_exec.proofs.Sorting.{name_at, place_below}
 use Rattle.cstn_exec.proofs.guides.sorting.sort_out.Goals as goal
 use Rattle.cstn_exec.proofs.guides.sorting.sort_out.Goals.{then-holds_by, else-holds_by}
 

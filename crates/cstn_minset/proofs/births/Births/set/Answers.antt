@@ -1,6 +1,6 @@
 use Rattle.std.proofs.Common.{◌≡◌, ◌<◌, ℕ, List, length, set, sym, subst, arith}
 use Rattle.cstn_pool.specs.Slots.{padded}
-use Rattle.cstn_rows.proofs.WrittenLemmas.{resized_at}
+use Rattle.cstn_minset.proofs.WrittenLemmas.{resized_at}
 use Rattle.cstn_minset.specs.Sets.{no_birth}
 use Rattle.cstn_minset.proofs.births.Births.set.Goals as goal
 

@@ -1,15 +1,16 @@
 use Rattle.std.proofs.Common.{◌≡◌, ◌<◌, ◌∙◌, [], take, map, length, get_or, ap, sym, subst}
-use Rattle.std.specs.Prelude.{string_bytes}
+use Rattle.std.specs.Prelude.{string_bytes, codes}
 use Rattle.std.specs.List.{All}
 use Rattle.std.proofs.Math.Seq.{take_all}
 use Rattle.cstn_rules.specs.Read.{the_entry}
 use Rattle.cstn_text.specs.PrintedNames.{printed_name}
 use Rattle.cstn_refute.specs.Refutations.{AreSteps}
+use Rattle.cstn_refute.specs.Steps.{printed_step}
 use Rattle.cstn_refute.specs.Texts.{shown}
 use Rattle.std.proofs.lemmas.List.Elements.{All-more, All-get_or}
 use Rattle.cstn_refute.specs.Written.{ArePlaces}
-use Rattle.cstn_listing.proofs.NameLemmas.{name_at}
-use Rattle.cstn_refute.proofs.PrintLemmas.{one_more, line_of}
+use Rattle.cstn_refute.proofs.BackLemmas.{listing_grows}
+use Rattle.cstn_refute.proofs.PrintLemmas.{line_of}
 use Rattle.cstn_refute.proofs.WrittenLemmas.{refutation_back}
 use Rattle.cstn_refute.proofs.refutations.Refutation.print.Goals as goal
 
@@ -25,11 +26,11 @@ loop-k-preserved c =
     let name : c.deref.result.now ≡ printed_name (get_or names step.bound.node.0 []) =
     c.deref.ensures
     ∙ ap string_bytes (c.index-in-loop-k.ensures ∙ ap (λ i. get_or texts i other) c.index.ensures.index)
-    ∙ name_at texts names step.bound.node.0 other c.in_ok-printed.ensures.printed inside in
+    ∙ c.in_ok-printed.ensures.each step.bound.node.0 other inside in
     record {
       text =
           line_of names c.loop-k.k step c.deref.result.now (string_bytes c.loop-k.text) (string_bytes c.push_step.new.text) name c.in_ok-push_step.ensures.pushed
-          ∙ one_more names c.args.self.now.load steps c.loop-k.k step _ c.loop-k-test.true c.index-steps-k.is c.loop-k.invariant.text;
+          ∙ listing_grows the_entry (codes "no") (printed_step names) c.args.self.now.load steps c.loop-k.k step _ c.loop-k-test.true c.index-steps-k.is c.loop-k.invariant.text;
       places =
           All-more (λ e. ArePlaces e.why) steps c.loop-k.k step c.loop-k-test.true c.loop-k.invariant.places
           (subst (λ e. ArePlaces e.why) c.index-steps-k.is c.in_ok-push_step.ensures.places);

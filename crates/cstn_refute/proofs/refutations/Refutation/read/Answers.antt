@@ -2,31 +2,23 @@ use Rattle.std.proofs.Common.{◌≡◌, sym, subst, IfOk, IfErr}
 use Rattle.cstn_refute.specs.Refutations.{the_steps}
 use Rattle.cstn_refute.specs.Read.{IsWrong}
 use Rattle.std.proofs.lemmas.Result.{IfOk-weaker}
-use Rattle.cstn_listing.proofs.ListingLemmas.{told_first, first_wrong, none_wrong}
 use Rattle.cstn_refute.specs.Texts.{told, tells, step_lines}
 use Rattle.cstn_refute.specs.Written.{AreWritten}
-use Rattle.cstn_refute.proofs.SaidLemmas.{text_said}
+use Rattle.cstn_refute.proofs.OrderLemmas.{told_first, first_wrong, text_said}
 use Rattle.cstn_refute.proofs.WrittenLemmas.{are_named}
 use Rattle.cstn_refute.proofs.refutations.Refutation.read.Goals as goal
 
 pub returns-in_default-clause-line : goal.returns-in_default-clause-line
-returns-in_default-clause-line c = none_wrong (step_lines c.args.names.now) c.args.bytes.now (sym c.in_default.ensures.cut)
-
-pub returns-in_default-read_load-clause-line : goal.returns-in_default-read_load-clause-line
-returns-in_default-read_load-clause-line c =
-    first_wrong (step_lines c.args.names.now) c.args.bytes.now c.in-Some.line.now c.in-Some.rest.now (sym c.in-Some.ensures.cut)
-    (sym c.in_default-read_load.ensures.load)
+returns-in_default-clause-line c = first_wrong (step_lines c.args.names.now) c.args.bytes.now (sym c.in_default.ensures.start)
 
 pub returns-clause-accepted : goal.returns-clause-accepted
 returns-clause-accepted c =
-    let first = told_first (step_lines c.args.names.now) c.args.bytes.now c.in-Some.line.now c.in-Some.rest.now c.in-Some-read_load.load
-    (sym c.in-Some.ensures.cut) (sym c.in-Some-read_load.ensures.load) in
+    let first = told_first (step_lines c.args.names.now) c.args.bytes.now c.in-Some.load c.in-Some.rest.now (sym c.in-Some.ensures.start) in
     subst (λ t. IfOk c.read_steps.result (λ r. t ≡ tells r.load (the_steps r))) (sym first) c.read_steps.ensures.accepted
 
 pub returns-clause-line : goal.returns-clause-line
 returns-clause-line c =
-    let first = told_first (step_lines c.args.names.now) c.args.bytes.now c.in-Some.line.now c.in-Some.rest.now c.in-Some-read_load.load
-    (sym c.in-Some.ensures.cut) (sym c.in-Some-read_load.ensures.load) in
+    let first = told_first (step_lines c.args.names.now) c.args.bytes.now c.in-Some.load c.in-Some.rest.now (sym c.in-Some.ensures.start) in
     subst (λ t. IfErr c.read_steps.result (IsWrong t)) (sym first) c.read_steps.ensures.line
 
 pub returns-clause-ranges : goal.returns-clause-ranges

@@ -30,8 +30,8 @@ returns-clause-turn c =
 pub returns-clause-lines : goal.returns-clause-lines
 returns-clause-lines c = λ is. line_ends c.put_moment.new.text (codes "at " ++ decimal c.args.t ++ spaced (map string_bytes c.deref.result.now) (the_nodes c.named.result.now)) (from_empty _ _ _ c.put_moment.ensures.items c.requires.empty)
 
-pub put_word-requires : goal.put_word-requires
-put_word-requires c =
+pub put_due-requires : goal.put_due-requires
+put_due-requires c =
     let e = c.self.inside.guide in
     let few = named_few (the_labelled e.labelled) (the_bounds e.bounds) e.state.run c.args.t c.named.result.now (c.named.ensures.named ∙ ap (λ (x : GuideParts). x.named) c.in_default.ensures.advanced) in
     record { room = omega (arith, few, c.self.invariant.few, c.put_moment.ensures.short, ap length c.requires.empty) }
@@ -39,9 +39,9 @@ put_word-requires c =
 pub returns-in_default-due-clause-turn : goal.returns-in_default-due-clause-turn
 returns-in_default-due-clause-turn c =
     let e = c.self.inside.guide in
-    moment_ends c.args.self.now e c.moment.new.self (map string_bytes c.self.inside.names.items) c.args.t c.put_moment.new.text c.put_word.new.self c.self.view_is c.in_default.ensures.refused c.in_default.ensures.advanced c.in_default-due.ensures.due
+    moment_ends c.args.self.now e c.moment.new.self (map string_bytes c.self.inside.names.items) c.args.t c.put_moment.new.text c.put_due.new.text c.self.view_is c.in_default.ensures.refused c.in_default.ensures.advanced c.in_default-due.ensures.due
     (moment_text c.self.inside.names.items c.deref.result.now c.args.t c.named.result.now _ _ (from_empty _ _ _ c.put_moment.ensures.items c.requires.empty) c.deref.ensures.value (c.named.ensures.named ∙ ap (λ (x : GuideParts). x.named) c.in_default.ensures.advanced))
-    c.put_word.ensures
+    c.put_due.ensures
 
 pub returns-in-Err-clause-turn : goal.returns-in-Err-clause-turn
 returns-in-Err-clause-turn c =

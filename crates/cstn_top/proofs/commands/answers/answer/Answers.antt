@@ -26,7 +26,7 @@ use Rattle.cstn_tree.specs.Checked.{tree_checked as checked_text}
 use Rattle.cstn_top.specs.declared.commands.Prepared.TheVariants.{Edits}
 use Rattle.cstn_top.specs.declared.commands.questions.Question.{Question}
 use Rattle.cstn_top.proofs.Comes.{comes_same, comes_to_text}
-use Rattle.cstn_top.proofs.Sayings.{check_says, tree_says, replay_says, closedcheck_says, text_says}
+use Rattle.cstn_top.proofs.Sayings.{check_says, tight_says, tree_says, replay_says, closedcheck_says, text_says}
 use Rattle.cstn_top.proofs.commands.answers.answer.Goals as goal
 
 pub returns-in_ok-said-in-Check-clause-comes : goal.returns-in_ok-said-in-Check-clause-comes
@@ -42,7 +42,7 @@ returns-in_ok-said-in-Closed-clause-comes c =
 pub returns-in_ok-said-in-Tight-clause-comes : goal.returns-in_ok-said-in-Tight-clause-comes
 returns-in_ok-said-in-Tight-clause-comes c =
     subst (λ (q : Question). ComesTo (the_question q) (says (the_said c.in_ok-said-in-Tight.said))) (sym c.in-Tight.is)
-    (comes_same (tightened c.in-Tight.cap.entries c.in-Tight.document.names (the_network c.in-Tight.document.network)) (says (the_said c.in_ok-said-in-Tight.said)) (ap says c.in_ok-said-in-Tight.ensures.said))
+    (comes_same (tightened c.in-Tight.cap.entries c.in-Tight.document.names (the_network c.in-Tight.document.network)) (says (the_said c.in_ok-said-in-Tight.said)) (ap says c.in_ok-said-in-Tight.ensures.said ∙ tight_says c.in-Tight.cap.entries c.in-Tight.document.names (the_network c.in-Tight.document.network)))
 
 pub returns-in_ok-said-in-Conflict-clause-comes : goal.returns-in_ok-said-in-Conflict-clause-comes
 returns-in_ok-said-in-Conflict-clause-comes c =

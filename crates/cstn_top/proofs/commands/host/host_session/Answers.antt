@@ -4,9 +4,9 @@ use Rattle.std.specs.Vec.Iter.{into_iter_items}
 use Rattle.cstn_check.specs.Decisions.{TellsVerdict}
 use Rattle.cstn_check.specs.declared.decisions.Judged.{Judged}
 use Rattle.cstn_check.specs.declared.decisions.Judged.TheVariants.{Yes}
-use Rattle.cstn_host.specs.Files.{Named}
+use Rattle.cstn_run.specs.hosted.Files.{Named}
 use Rattle.cstn_top.specs.Begun.{the_named, HasBegun}
-use Rattle.cstn_documents.specs.declared.reading.NamedNetwork.{NamedNetwork}
+use Rattle.cstn_request.specs.declared.reading.NamedNetwork.{NamedNetwork}
 use Rattle.cstn_top.proofs.BegunHosts.{begun_none, begun_more, all_taken, told_at, all_begun, opening_ends}
 use Rattle.cstn_top.proofs.commands.host.host_session.Goals as goal
 

@@ -1,13 +1,13 @@
 use Rattle.std.proofs.Common.{◌≡◌, ◌≤◌, ℕ, List, length, map, string_bytes, refl, ap, sym, subst}
 use Rattle.std.specs.Prelude.{Option, Err, IsErrAnd}
 use Rattle.cstn_text.specs.Limits.{most_text}
-use Rattle.cstn_words.specs.Limits.{most_files}
-use Rattle.cstn_words.specs.Requests.{check, run, edit, follow, closed, tight, conflict, tree, save, replay, closedcheck, treecheck}
-use Rattle.cstn_words.specs.Read.{the_asked, the_request}
-use Rattle.cstn_words.specs.declared.words.Request.{Request}
-use Rattle.cstn_documents.specs.Opened.{IsFile, IsTextOf, IsLongText}
-use Rattle.cstn_documents.specs.declared.reading.Unread.TheVariants.{Told}
-use Rattle.cstn_documents.proofs.Opening.{handed_on}
+use Rattle.cstn_request.specs.Limits.{most_files}
+use Rattle.cstn_request.specs.Requests.{check, run, edit, follow, closed, tight, conflict, tree, save, replay, closedcheck, treecheck}
+use Rattle.cstn_request.specs.Read.{the_asked, the_request}
+use Rattle.cstn_request.specs.declared.words.Request.{Request}
+use Rattle.cstn_request.specs.Opened.{IsFile, IsTextOf, IsLongText}
+use Rattle.cstn_request.specs.declared.reading.Unread.TheVariants.{Told}
+use Rattle.cstn_request.proofs.Opening.{handed_on}
 use Rattle.cstn_top.specs.Answers.{of_lowered, by_text}
 use Rattle.cstn_top.specs.commands.Check.{checked}
 use Rattle.cstn_top.specs.commands.Closed.{listed}

@@ -1,10 +1,10 @@
 use Rattle.std.proofs.Common.{◌≡◌, ◌∙◌, ℕ, List, length, map, take, ap, sym, subst, arith, String, Global, string_bytes, suc, ◌∷◌, [], ◌++◌}
 use Rattle.std.specs.Prelude.{Option, Err, IsErrAnd, drop}
 use Rattle.std.proofs.lemmas.List.{take_all, length-append}
-use Rattle.cstn_documents.specs.Opened.{IsAsked, IsPlainOf, IsPlainRefusal}
-use Rattle.cstn_documents.specs.declared.reading.NamedNetwork.{NamedNetwork}
-use Rattle.cstn_documents.specs.declared.reading.Unread.TheVariants.{Told}
-use Rattle.cstn_documents.proofs.Opening.{handed_on}
+use Rattle.cstn_request.specs.Opened.{IsAsked, IsPlainOf, IsPlainRefusal}
+use Rattle.cstn_request.specs.declared.reading.NamedNetwork.{NamedNetwork}
+use Rattle.cstn_request.specs.declared.reading.Unread.TheVariants.{Told}
+use Rattle.cstn_request.proofs.Opening.{handed_on}
 use Rattle.cstn_top.specs.Begun.{HasRead}
 use Rattle.cstn_top.proofs.ReadFiles.{ask_at, files_at, next_file}
 use Rattle.cstn_top.proofs.ReadAll.{asked_for, read_more, read_refused, sound_more}

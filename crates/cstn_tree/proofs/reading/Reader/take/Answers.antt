@@ -1,17 +1,17 @@
 use Rattle.std.proofs.Common.{ℕ, Option, [], ◌≡◌, ◌<◌, ◌+◌, length, reverse, sym, subst, ap, ◌∙◌}
 use Rattle.std.specs.List.{All}
 use Rattle.std.specs.Option.{option_map, IfSome}
+use Rattle.std.proofs.lemmas.List.{nil_from_length}
 use Rattle.cstn_tree.specs.declared.trees.Line.{Line as ProgramLine}
 use Rattle.cstn_tree.specs.Trees.{names_on}
 use Rattle.cstn_tree.specs.Read.{the_line}
 use Rattle.cstn_tree.specs.Texts.{wrong}
-use Rattle.cstn_tree.proofs.TreeLemmas.{no_items}
 use Rattle.cstn_tree.proofs.ReadLemmas.{popped, reader_next, take_end, take_wrong, take_next}
 use Rattle.cstn_tree.proofs.reading.Reader.take.Goals as goal
 
 pub returns-in_default-clause-wrong : goal.returns-in_default-clause-wrong
 returns-in_default-clause-wrong c = λ load texts tail.
-    let none : reverse c.args.self.now.ahead.items ≡ [] = ap reverse (no_items c.args.self.now.ahead.items (sym c.args.self.now.ahead.ok.0 ∙ c.in_default.ensures.cases.0)) in
+    let none : reverse c.args.self.now.ahead.items ≡ [] = ap reverse (nil_from_length c.args.self.now.ahead.items (sym c.args.self.now.ahead.ok.0 ∙ c.in_default.ensures.cases.0)) in
     take_end c.args.names.now c.args.self.now c.requires.reader.ahead load c.args.text.now texts tail none ∙ ap (λ (n : ℕ). wrong (n + 2)) (sym (c.len.ensures ∙ c.args.self.now.lines.ok.0))
 
 pub returns-in_default-read-clause-wrong : goal.returns-in_default-read-clause-wrong

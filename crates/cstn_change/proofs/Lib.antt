@@ -1,0 +1,6 @@
+-- Ids, and why changes are refused.
+pub mod IdLemmas
+pub mod RefusalLemmas
+-- Labelled networks as edited.
+pub mod TimePointLabels
+pub mod PlanLemmas

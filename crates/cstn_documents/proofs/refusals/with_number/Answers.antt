@@ -1,6 +1,0 @@
-use Rattle.std.proofs.Common.{ℕ, ap, ◌∙◌, Vec, Global, codes, decimal}
-use Rattle.cstn_documents.proofs.Joining.{line_of_four}
-use Rattle.cstn_documents.proofs.refusals.with_number.Goals as goal
-
-pub returns : goal.returns
-returns c = record { line = ap (λ (v : Vec ℕ Global). v.items) c.into_bytes.ensures.value ∙ (c.in_ok-text.ensures.ok ∙ line_of_four (codes "document X10 N") (decimal c.args.kind) (codes " ") (decimal c.args.n)) }

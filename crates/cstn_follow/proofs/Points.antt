@@ -1,0 +1,111 @@
+-- A session that follows keeps its time-points, their names and its cap.
+use Rattle.std.proofs.Common.{ℕ, ℤ, ◌≡◌, ◌+◌, Bool, true, false, List, [], ◌∷◌, ◌++◌, Option, Some, None, refl, sym, subst, ◌∙◌}
+use Rattle.std.specs.Prelude.{nat_lt, if◌then◌else◌, codes, decimal}
+use Rattle.std.proofs.lemmas.Option.{same_Some}
+use Rattle.cstn_label.specs.Labels.{Label}
+use Rattle.cstn_net.specs.Limits.{most_deadline}
+use Rattle.cstn_text.specs.Names.{number_of}
+use Rattle.cstn_check.specs.declared.verdicts.Verdict.{Verdict}
+use Rattle.cstn_history.specs.Histories.{History}
+use Rattle.cstn_lines.specs.EditLines.{Edit, added, removed, changed, asked}
+use Rattle.cstn_lines.specs.FollowLines.{Follow, follow_read, IsFollow, done_at, came_at, now_at, awaited_at, edits, ends_by, asks_next, asks_by, asks_blame, asks_rest}
+use Rattle.cstn_lines.proofs.FollowLemmas.{follow_is}
+use Rattle.cstn_reply.specs.Sessions.{Turn, more, last, wrong}
+use Rattle.cstn_reply.specs.Reached.{state_after}
+use Rattle.cstn_reply.proofs.Sessions.{first_leads}
+use Rattle.cstn_follow.specs.Following.{Following, Heard, says, saves, verdict_now, verdict_within, on_verdict, follows, verdict_line}
+use Rattle.cstn_follow.specs.FactLines.{records}
+use Rattle.cstn_follow.specs.PlanLines.{add_refusal, remove_refusal, change_refusal, on_edit, on_ends, on_deadline, with_added, with_removed, with_changed, replanned}
+use Rattle.cstn_follow.specs.Hearing.{on_plan, on_other, on_line, counted, hear}
+use Rattle.cstn_follow.specs.Recorded.{IsFact}
+use Rattle.cstn_follow.specs.Turns.{Writing, heard_by, turn_by}
+use Rattle.cstn_follow.proofs.States.{IsSound, next_of, fact_is, next_keeps, check_keeps, blame_keeps, by_keeps, counted_sound, next_sound}
+
+-- the time-points, their names and the cap are as they were
+pub record KeepsPoints (s next : Following) : Type 0 where
+  pub names : next.names ≡ s.names
+  pub observes : next.network.base.observes ≡ s.network.base.observes
+  pub reaction : next.network.base.reaction ≡ s.network.base.reaction
+  pub cap : next.cap ≡ s.cap
+
+same : (s : Following) → KeepsPoints s s
+same s = record { names = refl; observes = refl; reaction = refl; cap = refl }
+
+through : (s t u : Following) → KeepsPoints s t → KeepsPoints t u → KeepsPoints s u
+through s t u a b = record { names = b.names ∙ a.names; observes = b.observes ∙ a.observes; reaction = b.reaction ∙ a.reaction; cap = b.cap ∙ a.cap }
+
+follows_keeps : (s next : Following) (text : Verdict → List ℕ) → KeepsPoints s next → KeepsPoints s (next_of (follows s next text))
+follows_keeps s next text keeps = by_verdict (verdict_within next)
+  where
+    by_verdict : (o : Option Verdict) → KeepsPoints s (next_of (on_verdict s next text o))
+    by_verdict None = same s
+    by_verdict (Some v) = keeps
+
+records_keeps : (s : Following) (h : History) → KeepsPoints s (next_of (records s h))
+records_keeps s h = follows_keeps s (record s { history = h }) (verdict_line s.cap) (record { names = refl; observes = refl; reaction = refl; cap = refl })
+
+edit_keeps : (s next : Following) (o : Option (List ℕ)) (text : List ℕ) → KeepsPoints s next → KeepsPoints s (next_of (on_edit s o text next))
+edit_keeps s next (Some refusal) text keeps = same s
+edit_keeps s next None text keeps = follows_keeps s next (λ v. _) keeps
+
+ends_keeps : (s : Following) (from to : List ℕ) (most : ℤ) (a : Label) (one other : Option ℕ) → KeepsPoints s (next_of (on_ends s from to most a one other))
+ends_keeps s from to most a None other = same s
+ends_keeps s from to most a (Some x) None = same s
+ends_keeps s from to most a (Some x) (Some y) =
+    edit_keeps s (with_added s x y most a) (add_refusal s.network.base s.edits most a) (codes "added " ++ decimal s.fresh) (record { names = refl; observes = refl; reaction = refl; cap = refl })
+
+plan_keeps : (s : Following) (edit : Edit) → KeepsPoints s (next_of (on_plan s edit))
+plan_keeps s (added from to most a) = ends_keeps s from to most a (number_of s.names from) (number_of s.names to)
+plan_keeps s (removed id) = edit_keeps s (with_removed s id) (remove_refusal s.network.base s.edits id) (codes "removed " ++ decimal id) (record { names = refl; observes = refl; reaction = refl; cap = refl })
+plan_keeps s (changed id most) = edit_keeps s (with_changed s id most) (change_refusal s.network.base s.edits id most) (codes "changed " ++ decimal id) (record { names = refl; observes = refl; reaction = refl; cap = refl })
+plan_keeps s asked = subst (KeepsPoints s) (sym (check_keeps s (verdict_now s))) (same s)
+
+deadline_keeps : (s : Following) (deadline : ℕ) (b : Bool) → KeepsPoints s (next_of (if b then on_other s else on_deadline s deadline))
+deadline_keeps s deadline true = same s
+deadline_keeps s deadline false =
+    edit_keeps s (replanned s deadline s.network.base.constraints s.edits s.fresh) None (codes "deadline " ++ decimal deadline) (record { names = refl; observes = refl; reaction = refl; cap = refl })
+
+fact_keeps : (s : Following) (fact : Follow) → IsSound s → IsFact fact → IsFollow fact → KeepsPoints s (next_of (on_line s (Some fact)))
+fact_keeps s fact sound = fact_is s sound (λ fact heard. KeepsPoints s (next_of heard)) (λ fact text why. same s) (λ fact h timely is. records_keeps s h) fact
+
+line_keeps : (s : Following) (o : Option Follow) → IsSound s → ((l : Follow) → o ≡ Some l → IsFollow l) → KeepsPoints s (next_of (on_line s o))
+line_keeps s None sound is = same s
+line_keeps s (Some (done_at t names)) sound is = fact_keeps s (done_at t names) sound tt (is (done_at t names) refl)
+line_keeps s (Some (came_at t p v)) sound is = fact_keeps s (came_at t p v) sound tt (is (came_at t p v) refl)
+line_keeps s (Some (now_at t)) sound is = fact_keeps s (now_at t) sound tt (is (now_at t) refl)
+line_keeps s (Some (awaited_at t p)) sound is = fact_keeps s (awaited_at t p) sound tt (is (awaited_at t p) refl)
+line_keeps s (Some (edits edit)) sound is = plan_keeps s edit
+line_keeps s (Some (ends_by deadline)) sound is = deadline_keeps s deadline (nat_lt most_deadline deadline)
+line_keeps s (Some asks_next) sound is = subst (KeepsPoints s) (sym (next_keeps s (verdict_now s))) (same s)
+line_keeps s (Some (asks_by name)) sound is = subst (KeepsPoints s) (sym (by_keeps s name (number_of s.names name))) (same s)
+line_keeps s (Some asks_blame) sound is = subst (KeepsPoints s) (sym (blame_keeps s (verdict_now s))) (same s)
+line_keeps s (Some asks_rest) sound is = same s
+
+hear_keeps : (s : Following) (text : List ℕ) → IsSound s → KeepsPoints s (next_of (hear s (follow_read text)))
+hear_keeps s text sound =
+    through s (counted s) (next_of (hear s (follow_read text))) (record { names = refl; observes = refl; reaction = refl; cap = refl })
+    (line_keeps (counted s) (follow_read text) (counted_sound s sound) (follow_is text))
+
+-- the session after an answer to a line
+abbrev KeepsAfter : Following → Turn Following → Type 0
+KeepsAfter s (more text next) = KeepsPoints s next
+KeepsAfter s (last said) = Unit {0}
+KeepsAfter s wrong = Unit {0}
+
+module _ (write : Writing) where
+  heard_keeps : (s : Following) (heard : Heard) → KeepsPoints s (next_of heard) → KeepsAfter s (heard_by write heard)
+  heard_keeps s (says text next) keeps = keeps
+  heard_keeps s (saves m names next) keeps = keeps
+
+  pub turn_keeps : (s next : Following) (bytes text : List ℕ) → IsSound s → turn_by write s bytes ≡ more text next → KeepsPoints s next
+  turn_keeps s next bytes text sound answered =
+      subst (KeepsAfter s) answered (heard_keeps s (hear s (follow_read bytes)) (hear_keeps s bytes sound))
+
+  -- after any lines the time-points, their names and the cap are as they were
+  pub lines_keep : (s g : Following) (k : ℕ) (lines : List (List ℕ)) → IsSound s → state_after (turn_by write) s k lines ≡ Some g → KeepsPoints s g
+  lines_keep s g k [] sound is = subst (KeepsPoints s) (same_Some s g is) (same s)
+  lines_keep s g k (first ∷ lines) sound is =
+      let l = first_leads (turn_by write) s g k first lines is in
+      let one = turn_keeps s l.next first l.text sound l.answer in
+      let after : IsSound l.next = next_sound write s l.next first l.text sound l.answer in
+      through s l.next g one (lines_keep l.next g (k + 1) lines after l.rest)

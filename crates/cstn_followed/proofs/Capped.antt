@@ -1,0 +1,399 @@
+-- With a larger cap the same is said, but where a log had more entries than the smaller one.
+use Rattle.std.proofs.Common.{ℕ, zero, suc, ℤ, ◌≡◌, ◌+◌, ◌-◌, ◌≤◌, Bool, true, false, List, [], ◌∷◌, ◌++◌, Option, Some, None, arith, refl, sym, subst, ap, ◌∙◌, inl, inr}
+use Rattle.std.specs.Prelude.{◌⊎◌, Result, Ok, Err, nat_lt, if◌then◌else◌, option_and_then, codes, decimal}
+use Rattle.std.specs.Option.{option_map}
+use Rattle.std.proofs.lemmas.Option.{same_Some}
+use Rattle.cstn_label.specs.Labels.{Label}
+use Rattle.cstn_net.specs.Limits.{most_deadline}
+use Rattle.cstn_net.specs.Networks.{Network}
+use Rattle.cstn_text.specs.Names.{number_of}
+use Rattle.cstn_lift.specs.Labelled.{Labelled}
+use Rattle.cstn_lift.specs.Lowered.{lowered}
+use Rattle.cstn_check.specs.Growth.{load_of, is_refuted, log_of}
+use Rattle.cstn_check.specs.Decisions.{verdict}
+use Rattle.cstn_check.specs.Verdicts.{is_consistent}
+use Rattle.cstn_check.specs.declared.verdicts.Verdict.{Verdict}
+use Rattle.cstn_check.specs.declared.verdicts.Verdict.TheVariants.{Yes, No, Full}
+use Rattle.cstn_history.specs.declared.errors.FactError.{FactError}
+use Rattle.cstn_history.specs.declared.errors.FactError.TheVariants.{OutOfRange}
+use Rattle.cstn_history.specs.Histories.{History}
+use Rattle.cstn_history.specs.Facts.{is_beyond, now_refusal, at_now, with_told, with_expected}
+use Rattle.cstn_history.specs.Rest.{rest}
+use Rattle.cstn_lines.specs.EditLines.{Edit, added, removed, changed, asked}
+use Rattle.cstn_lines.specs.FollowLines.{Follow, follow_read, done_at, came_at, now_at, awaited_at, edits, ends_by, asks_next, asks_by, asks_blame, asks_rest}
+use Rattle.cstn_reply.specs.Texts.{full_line}
+use Rattle.cstn_reply.specs.Sessions.{Turn, more}
+use Rattle.cstn_reply.specs.Reached.{state_after}
+use Rattle.cstn_reply.proofs.Sessions.{first_leads, state_more}
+use Rattle.cstn_save.specs.Canonical.{canonical}
+use Rattle.cstn_follow.specs.Following.{Following, Heard, says, saves, left_now, verdict_now, fits, on_verdict, follows, verdict_line}
+use Rattle.cstn_follow.specs.FactLines.{on_result, records, refuses, all_done, on_known, on_did, nodes_of, unknown_of, on_fact, on_now, on_outcome, saw_refusal, await_refusal}
+use Rattle.cstn_follow.specs.PlanLines.{add_refusal, remove_refusal, change_refusal, on_edit, on_ends, on_deadline, with_added, with_removed, with_changed, replanned}
+use Rattle.cstn_follow.specs.Questions.{next_after, check_after}
+use Rattle.cstn_follow.specs.Searches.{by_number, by_unless, by_after, by_text, by_refusal, blame_text, blame_after}
+use Rattle.cstn_check.specs.Givers.{ids_of, without}
+use Rattle.cstn_check.specs.Needs.{said}
+use Rattle.cstn_check.specs.Search.{narrowed, left_by, middle, halved, halving}
+use Rattle.cstn_follow.specs.Tries.{with_base}
+use Rattle.cstn_follow.specs.Waiting.{rest_until, tried, waits_until}
+use Rattle.cstn_follow.specs.Blame.{said_by, blamed}
+use Rattle.cstn_follow.specs.Hearing.{counted, on_plan, on_other, on_line, hear}
+use Rattle.cstn_follow.specs.Turns.{heard_by}
+use Rattle.cstn_follow.proofs.States.{IsSound, next_sound}
+use Rattle.cstn_follow.proofs.Points.{turn_keeps}
+use Rattle.cstn_followed.specs.Sessions.{follow_turn}
+use Rattle.cstn_followed.specs.Journal.{texts_of, with_cap, AreSameUnlessFull}
+use Rattle.cstn_followed.proofs.Journals.{texts_more}
+
+-- the second is the first, unless the first is none
+abbrev SameIfSome : {X : Type 0} → Option X → Option X → Type 0
+SameIfSome one other = (one ≡ None) ⊎ (other ≡ one)
+
+-- the same text in the state with another cap, or the first text says that a log has more entries than `cap`
+abbrev pub IsAlike : ℕ → ℕ → Heard → Heard → Type 0
+IsAlike cap larger (says text next) (says other later) = (later ≡ with_cap next larger) × ((other ≡ text) ⊎ (text ≡ full_line cap))
+IsAlike cap larger (says text next) (saves m names later) = ⊥
+IsAlike cap larger (saves l names next) (says other later) = ⊥
+IsAlike cap larger (saves l names next) (saves m others later) = (later ≡ with_cap next larger) × ((m ≡ l) × (others ≡ names))
+
+-- what a check tells of a network where its log has no more entries than it may
+abbrev verdict_known : Network → Verdict
+verdict_known net = if is_refuted net (log_of net) then No (load_of net) else Yes (load_of net)
+
+abbrev said_known : Network → Option Bool
+said_known net = Some (is_consistent net)
+
+module _ (cap larger : ℕ) (upto : cap ≤ larger) where
+  no_fuller : (n : ℕ) → nat_lt cap n ≡ false → nat_lt larger n ≡ false
+  no_fuller n e = grind arith
+
+  -- ---- checks
+
+  verdict_alike : (net : Network) → (verdict cap net ≡ Full) ⊎ (verdict larger net ≡ verdict cap net)
+  verdict_alike net = by_load (nat_lt cap (load_of net)) refl
+    where
+      by_load : (full : Bool) → nat_lt cap (load_of net) ≡ full → (verdict cap net ≡ Full) ⊎ (verdict larger net ≡ verdict cap net)
+      by_load true is = inl (ap (λ b. if b then Full else verdict_known net) is)
+      by_load false is =
+          inr (ap (λ b. if b then Full else verdict_known net) (no_fuller (load_of net) is) ∙ sym (ap (λ b. if b then Full else verdict_known net) is))
+
+  said_alike : (net : Network) → SameIfSome (said cap net) (said larger net)
+  said_alike net = by_load (nat_lt cap (load_of net)) refl
+    where
+      by_load : (full : Bool) → nat_lt cap (load_of net) ≡ full → SameIfSome (said cap net) (said larger net)
+      by_load true is = inl (ap (λ b. if b then None else said_known net) is)
+      by_load false is =
+          inr (ap (λ b. if b then None else said_known net) (no_fuller (load_of net) is) ∙ sym (ap (λ b. if b then None else said_known net) is))
+
+-- ---- searches
+
+abbrev and_then : {X Y : Type 0} → Option X → (X → Option Y) → Option Y
+and_then o go = option_and_then go o
+
+-- halving finds the same in each span, unless it finds nothing by the first
+abbrev AreAlikeFrom : (ℕ → Option Bool) → (ℕ → Option Bool) → ℕ → Type 0
+AreAlikeFrom test other n = (l k : ℕ) → SameIfSome (halving test n (record { low = l; high = k })) (halving other n (record { low = l; high = k }))
+
+halving_alike : (test other : ℕ → Option Bool) → ((t : ℕ) → SameIfSome (test t) (other t)) → (n low high : ℕ)
+    → SameIfSome (halving test n (record { low = low; high = high })) (halving other n (record { low = low; high = high }))
+unfolding halving
+halving_alike test other alike zero low high = inr refl
+halving_alike test other alike (suc n) low high = by_more (nat_lt low high) (alike half) (halving_alike test other alike n)
+  where
+    half : ℕ
+    half = middle (record { low = low; high = high })
+
+    by_test : (o : Option Bool) → AreAlikeFrom test other n → SameIfSome (and_then (halved (record { low = low; high = high }) o) (halving test n))
+        (and_then (halved (record { low = low; high = high }) o) (halving other n))
+    by_test None later = inl refl
+    by_test (Some true) later = later half high
+    by_test (Some false) later = later low (half - 1)
+
+    by_same : (test half ≡ None) ⊎ (other half ≡ test half) → AreAlikeFrom test other n
+        → SameIfSome (and_then (halved (record { low = low; high = high }) (test half)) (halving test n))
+        (and_then (halved (record { low = low; high = high }) (other half)) (halving other n))
+    by_same (inl none) later = inl (ap (λ o. and_then (halved (record { low = low; high = high }) o) (halving test n)) none)
+    by_same (inr same) later =
+        subst (λ o. SameIfSome (and_then (halved (record { low = low; high = high }) (test half)) (halving test n))
+        (and_then (halved (record { low = low; high = high }) o) (halving other n))) (sym same) (by_test (test half) later)
+
+    by_more : (b : Bool) → SameIfSome (test half) (other half) → AreAlikeFrom test other n
+        → SameIfSome (if b then and_then (halved (record { low = low; high = high }) (test half)) (halving test n) else Some low)
+        (if b then and_then (halved (record { low = low; high = high }) (other half)) (halving other n) else Some low)
+    by_more true same later = by_same same later
+    by_more false same later = inr refl
+
+left_alike : (test other : Network → Option Bool) → ((net : Network) → SameIfSome (test net) (other net)) → (ids : List ℕ) (net : Network)
+    → SameIfSome (left_by test ids net) (left_by other ids net)
+left_alike test other alike [] net = inr refl
+left_alike test other alike (id ∷ ids) net = by_same (alike (without id net)) (left_alike test other alike ids)
+  where
+    by_test : (o : Option Bool) → ((r : Network) → SameIfSome (left_by test ids r) (left_by other ids r))
+        → SameIfSome (and_then (narrowed o id net) (left_by test ids)) (and_then (narrowed o id net) (left_by other ids))
+    by_test None later = inl refl
+    by_test (Some true) later = later net
+    by_test (Some false) later = later (without id net)
+
+    by_same : SameIfSome (test (without id net)) (other (without id net)) → ((r : Network) → SameIfSome (left_by test ids r) (left_by other ids r))
+        → SameIfSome (and_then (narrowed (test (without id net)) id net) (left_by test ids)) (and_then (narrowed (other (without id net)) id net) (left_by other ids))
+    by_same (inl none) later = inl (ap (λ o. and_then (narrowed o id net) (left_by test ids)) none)
+    by_same (inr same) later =
+        subst (λ o. SameIfSome (and_then (narrowed (test (without id net)) id net) (left_by test ids)) (and_then (narrowed o id net) (left_by other ids)))
+        (sym same) (by_test (test (without id net)) later)
+
+mapped_alike : {X Y : Type 0} (f : X → Y) (one other : Option X) → SameIfSome one other → SameIfSome (option_map f one) (option_map f other)
+mapped_alike f one other (inl none) = inl (ap (option_map f) none)
+mapped_alike f one other (inr same) = inr (ap (option_map f) same)
+
+-- ---- lines
+
+module _ (s : Following) (larger : ℕ) (upto : s.cap ≤ larger) where
+  abbrev Other : Following
+  Other = with_cap s larger
+
+  abbrev Alike : Heard → Heard → Type 0
+  Alike = IsAlike s.cap larger
+
+  -- the verdicts on what is left then
+  abbrev one : Labelled → History → ℕ → Verdict
+  one m h f = verdict s.cap (lowered (rest m h f))
+
+  abbrev two : Labelled → History → ℕ → Verdict
+  two m h f = verdict larger (lowered (rest m h f))
+
+  -- a session that follows, of which a text is said by its verdict
+  follows_alike : (m : Labelled) (h : History) (e f : ℕ) (text other : Verdict → List ℕ)
+      → ((v : Verdict) → (other v ≡ text v) ⊎ (text v ≡ full_line s.cap)) → (text Full ≡ full_line s.cap) ⊎ ((v w : Verdict) → other v ≡ text w)
+      → Alike (follows s (record s { network = m; history = h; edits = e; fresh = f }) text)
+      (follows Other (record Other { network = m; history = h; edits = e; fresh = f }) other)
+  follows_alike m h e f text other same full = by_fits (fits m h f) (verdict_alike s.cap larger upto (lowered (rest m h f))) full
+    where
+      texts : ((one m h f) ≡ Full) ⊎ ((two m h f) ≡ (one m h f)) → (text Full ≡ full_line s.cap) ⊎ ((v w : Verdict) → other v ≡ text w)
+          → (other (two m h f) ≡ text (one m h f)) ⊎ (text (one m h f) ≡ full_line s.cap)
+      texts (inl is) (inl says_full) = inr (ap text is ∙ says_full)
+      texts (inl is) (inr constant) = inl (constant (two m h f) (one m h f))
+      texts (inr is) says_full = subst (λ v. (other v ≡ text (one m h f)) ⊎ (text (one m h f) ≡ full_line s.cap)) (sym is) (same (one m h f))
+
+      by_fits : (b : Bool) → ((one m h f) ≡ Full) ⊎ ((two m h f) ≡ (one m h f)) → (text Full ≡ full_line s.cap) ⊎ ((v w : Verdict) → other v ≡ text w)
+          → Alike (on_verdict s (record s { network = m; history = h; edits = e; fresh = f }) text (if b then Some (one m h f) else None))
+          (on_verdict Other (record Other { network = m; history = h; edits = e; fresh = f }) other (if b then Some (two m h f) else None))
+      by_fits true alike says_full = (refl, texts alike says_full)
+      by_fits false alike says_full = (refl, inl refl)
+
+  line_told : (v : Verdict) → (verdict_line larger v ≡ verdict_line s.cap v) ⊎ (verdict_line s.cap v ≡ full_line s.cap)
+  line_told (Yes load) = inl refl
+  line_told (No load) = inl refl
+  line_told Full = inr refl
+
+  records_alike : (h : History) → Alike (records s h) (records Other h)
+  records_alike h = follows_alike s.network h s.edits s.fresh (verdict_line s.cap) (verdict_line larger) line_told (inl refl)
+
+  result_alike : (r : Result History FactError) → Alike (on_result s r) (on_result Other r)
+  result_alike (Ok h) = records_alike h
+  result_alike (Err e) = (refl, inl refl)
+
+  did_alike : (t : ℕ) (given : List (List ℕ)) → Alike (on_did s t given) (on_did Other t given)
+  did_alike t given = by_moment (is_beyond t) (unknown_of s.names given)
+    where
+      by_moment : (late : Bool) (o : Option (List ℕ)) → Alike (if late then refuses s (OutOfRange t) else on_known s t given o)
+          (if late then refuses Other (OutOfRange t) else on_known Other t given o)
+      by_moment true o = (refl, inl refl)
+      by_moment false (Some name) = (refl, inl refl)
+      by_moment false None = result_alike (all_done s.network t s.history (nodes_of s.names given))
+
+  now_alike : (t : ℕ) → Alike (on_now s t) (on_now Other t)
+  now_alike t = by_refusal (now_refusal s.history t)
+    where
+      by_refusal : (o : Option FactError) → Alike (on_fact s o (at_now s.history t)) (on_fact Other o (at_now s.history t))
+      by_refusal None = records_alike (at_now s.history t)
+      by_refusal (Some e) = (refl, inl refl)
+
+  outcome_alike : (o : Option (List ℕ)) (h : History) → Alike (on_outcome s o h) (on_outcome Other o h)
+  outcome_alike None h = records_alike h
+  outcome_alike (Some refusal) h = (refl, inl refl)
+
+  edit_alike : (o : Option (List ℕ)) (text : List ℕ) (m : Labelled) (e f : ℕ)
+      → Alike (on_edit s o text (record s { network = m; edits = e; fresh = f })) (on_edit Other o text (record Other { network = m; edits = e; fresh = f }))
+  edit_alike None text m e f = follows_alike m s.history e f (λ v. _) (λ v. _) (λ v. inl refl) (inr (λ v w. refl))
+  edit_alike (Some refusal) text m e f = (refl, inl refl)
+
+  ends_alike : (from to : List ℕ) (most : ℤ) (a : Label) (one two : Option ℕ) → Alike (on_ends s from to most a one two) (on_ends Other from to most a one two)
+  ends_alike from to most a None two = (refl, inl refl)
+  ends_alike from to most a (Some x) None = (refl, inl refl)
+  ends_alike from to most a (Some x) (Some y) =
+      let next = with_added s x y most a in
+      edit_alike (add_refusal s.network.base s.edits most a) (codes "added " ++ decimal s.fresh) next.network next.edits next.fresh
+
+  -- what is said to a question by the verdict
+  abbrev After : Type 0
+  After = Following → Verdict → Heard
+
+  by_verdicts : (after : After) → ((load : ℕ) → Alike (after s (Yes load)) (after Other (Yes load)))
+      → ((load : ℕ) → Alike (after s (No load)) (after Other (No load)))
+      → ((v : Verdict) → (verdict_now s ≡ Full) → Alike (after s Full) (after Other v))
+      → Alike (after s (verdict_now s)) (after Other (verdict_now Other))
+  by_verdicts after yes_alike no_alike full_alike = at (verdict_now s) refl (verdict_alike s.cap larger upto (lowered (left_now s)))
+    where
+      at : (v : Verdict) → verdict_now s ≡ v → (v ≡ Full) ⊎ (verdict_now Other ≡ v) → Alike (after s v) (after Other (verdict_now Other))
+      at v is (inl full) = subst (λ w. Alike (after s w) (after Other (verdict_now Other))) (sym full) (full_alike (verdict_now Other) (is ∙ full))
+      at (Yes load) is (inr same) = subst (λ w. Alike (after s (Yes load)) (after Other w)) (sym same) (yes_alike load)
+      at (No load) is (inr same) = subst (λ w. Alike (after s (No load)) (after Other w)) (sym same) (no_alike load)
+      at Full is (inr same) = full_alike (verdict_now Other) is
+
+  verdict_told : verdict_now s ≡ Full → verdict_line s.cap (verdict_now s) ≡ full_line s.cap
+  verdict_told is = ap (verdict_line s.cap) is
+
+  -- the line of the verdict
+  told_alike : (v : Verdict) → verdict_now Other ≡ v → (verdict_now s ≡ Full) ⊎ (v ≡ verdict_now s)
+      → (verdict_line larger (verdict_now Other) ≡ verdict_line s.cap (verdict_now s)) ⊎ (verdict_line s.cap (verdict_now s) ≡ full_line s.cap)
+  told_alike v is (inl full) = inr (verdict_told full)
+  told_alike v is (inr same) =
+      subst (λ w. (verdict_line larger w ≡ verdict_line s.cap (verdict_now s)) ⊎ (verdict_line s.cap (verdict_now s) ≡ full_line s.cap))
+      (sym (is ∙ same)) (line_told (verdict_now s))
+
+  now_told : (verdict_line larger (verdict_now Other) ≡ verdict_line s.cap (verdict_now s)) ⊎ (verdict_line s.cap (verdict_now s) ≡ full_line s.cap)
+  now_told = told_alike (verdict_now Other) refl (verdict_alike s.cap larger upto (lowered (left_now s)))
+
+  full_next : (v : Verdict) → verdict_now s ≡ Full → Alike (next_after s Full) (next_after Other v)
+  full_next (Yes load) is = (refl, inr (verdict_told is))
+  full_next (No load) is = (refl, inr (verdict_told is))
+  full_next Full is = (refl, inr (verdict_told is))
+
+  next_alike : Alike (next_after s (verdict_now s)) (next_after Other (verdict_now Other))
+  next_alike = by_verdicts next_after (λ load. (refl, inl refl)) (λ load. (refl, now_told)) full_next
+
+  full_check : (v : Verdict) → verdict_now s ≡ Full → Alike (check_after s Full) (check_after Other v)
+  full_check (Yes load) is = (refl, inr (verdict_told is))
+  full_check (No load) is = (refl, inr (verdict_told is))
+  full_check Full is = (refl, inr (verdict_told is))
+
+  check_alike : Alike (check_after s (verdict_now s)) (check_after Other (verdict_now Other))
+  check_alike = by_verdicts check_after (λ load. (refl, now_told)) (λ load. (refl, inl refl)) full_check
+
+  full_blame : (v : Verdict) → verdict_now s ≡ Full → Alike (blame_after s Full) (blame_after Other v)
+  full_blame (Yes load) is = (refl, inr (verdict_told is))
+  full_blame (No load) is = (refl, inr (verdict_told is))
+  full_blame Full is = (refl, inr (verdict_told is))
+
+  blamed_alike : (one two : Option (List ℕ)) → SameIfSome one two → (blame_text larger two ≡ blame_text s.cap one) ⊎ (blame_text s.cap one ≡ full_line s.cap)
+  blamed_alike one two (inl none) = inr (ap (blame_text s.cap) none)
+  blamed_alike None two (inr same) = inr refl
+  blamed_alike (Some ids) two (inr same) = inl (ap (blame_text larger) same)
+
+  blame_alike : Alike (blame_after s (verdict_now s)) (blame_after Other (verdict_now Other))
+  blame_alike = by_verdicts blame_after (λ load. (refl, now_told)) (λ load. (refl, found)) full_blame
+    where
+      found : (blame_text larger (blamed s.network s.history s.fresh larger) ≡ blame_text s.cap (blamed s.network s.history s.fresh s.cap))
+          ⊎ (blame_text s.cap (blamed s.network s.history s.fresh s.cap) ≡ full_line s.cap)
+      found =
+          let ids = ids_of s.network.base in
+          let one = said_by s.network s.history s.fresh s.cap in
+          let two = said_by s.network s.history s.fresh larger in
+          blamed_alike (blamed s.network s.history s.fresh s.cap) (blamed s.network s.history s.fresh larger)
+          (mapped_alike ids_of (left_by one ids s.network.base) (left_by two ids s.network.base)
+          (left_alike one two (λ n. said_alike s.cap larger upto (lowered (rest (with_base s.network n) s.history s.fresh))) ids s.network.base))
+
+  full_wait : (x : ℕ) (v : Verdict) → verdict_now s ≡ Full → Alike (by_after s x Full) (by_after Other x v)
+  full_wait x (Yes load) is = (refl, inr (verdict_told is))
+  full_wait x (No load) is = (refl, inr (verdict_told is))
+  full_wait x Full is = (refl, inr (verdict_told is))
+
+  until_alike : (x : ℕ) (one two : Option ℕ) → SameIfSome one two → (by_text Other x two ≡ by_text s x one) ⊎ (by_text s x one ≡ full_line s.cap)
+  until_alike x one two (inl none) = inr (ap (by_text s x) none)
+  until_alike x None two (inr same) = inr refl
+  until_alike x (Some t) two (inr same) = inl (ap (by_text Other x) same)
+
+  wait_alike : (x : ℕ) → Alike (by_after s x (verdict_now s)) (by_after Other x (verdict_now Other))
+  wait_alike x = by_verdicts (λ t. by_after t x) (λ load. (refl, found)) (λ load. (refl, now_told)) (full_wait x)
+    where
+      found : (by_text Other x (waits_until s.network s.history s.fresh x larger) ≡ by_text s x (waits_until s.network s.history s.fresh x s.cap))
+          ⊎ (by_text s x (waits_until s.network s.history s.fresh x s.cap) ≡ full_line s.cap)
+      found = until_alike x (waits_until s.network s.history s.fresh x s.cap) (waits_until s.network s.history s.fresh x larger)
+          (halving_alike (tried s.network s.history s.fresh x s.cap) (tried s.network s.history s.fresh x larger)
+          (λ t. said_alike s.cap larger upto (lowered (rest_until s.network s.history s.fresh x t))) 20 s.history.now s.network.base.deadline)
+
+  unless_alike : (x : ℕ) (o : Option (List ℕ)) → Alike (by_unless s x o) (by_unless Other x o)
+  unless_alike x (Some refusal) = (refl, inl refl)
+  unless_alike x None = wait_alike x
+
+  by_alike : (name : List ℕ) (o : Option ℕ) → Alike (by_number s name o) (by_number Other name o)
+  by_alike name None = (refl, inl refl)
+  by_alike name (Some x) = unless_alike x (by_refusal s x (s.history.done x))
+
+  plan_alike : (edit : Edit) → Alike (on_plan s edit) (on_plan Other edit)
+  plan_alike (added from to most a) = ends_alike from to most a (number_of s.names from) (number_of s.names to)
+  plan_alike (removed id) =
+      let next = with_removed s id in
+      edit_alike (remove_refusal s.network.base s.edits id) (codes "removed " ++ decimal id) next.network next.edits next.fresh
+  plan_alike (changed id most) =
+      let next = with_changed s id most in
+      edit_alike (change_refusal s.network.base s.edits id most) (codes "changed " ++ decimal id) next.network next.edits next.fresh
+  plan_alike asked = check_alike
+
+  deadline_alike : (deadline : ℕ) (late : Bool)
+      → Alike (if late then on_other s else on_deadline s deadline) (if late then on_other Other else on_deadline Other deadline)
+  deadline_alike deadline true = (refl, inl refl)
+  deadline_alike deadline false =
+      let next = replanned s deadline s.network.base.constraints s.edits s.fresh in
+      edit_alike None (codes "deadline " ++ decimal deadline) next.network next.edits next.fresh
+
+  pub line_alike : (o : Option Follow) → Alike (on_line s o) (on_line Other o)
+  line_alike None = (refl, inl refl)
+  line_alike (Some (done_at t given)) = did_alike t given
+  line_alike (Some (came_at t p v)) = outcome_alike (saw_refusal s.network s.history t p) (with_told s.history t p v)
+  line_alike (Some (now_at t)) = now_alike t
+  line_alike (Some (awaited_at t p)) = outcome_alike (await_refusal s.network s.history t p) (with_expected s.history t p)
+  line_alike (Some (edits edit)) = plan_alike edit
+  line_alike (Some (ends_by deadline)) = deadline_alike deadline (nat_lt most_deadline deadline)
+  line_alike (Some asks_next) = next_alike
+  line_alike (Some (asks_by name)) = by_alike name (number_of s.names name)
+  line_alike (Some asks_blame) = blame_alike
+  line_alike (Some asks_rest) = (refl, (refl, refl))
+
+-- ---- turns
+
+-- what a turn says with a larger cap
+pub record AnswersAlike (cap larger : ℕ) (text : List ℕ) (next : Following) (other : Turn Following) : Type 0 where
+  pub said : List ℕ
+  pub turn : other ≡ more said (with_cap next larger)
+  pub same : (said ≡ text) ⊎ (text ≡ full_line cap)
+
+turn_alike : (cap larger : ℕ) (text : List ℕ) (next : Following) (one two : Heard) → IsAlike cap larger one two
+    → heard_by canonical one ≡ more text next → AnswersAlike cap larger text next (heard_by canonical two)
+turn_alike cap larger text next (says words later) (says others after) alike is =
+    let same_words : words ≡ text = cc in
+    let same_later : later ≡ next = cc in
+    record {
+      said = others;
+      turn = ap (λ x. more others x) (alike.0 ∙ ap (λ x. with_cap x larger) same_later);
+      same = subst (λ w. (others ≡ w) ⊎ (w ≡ full_line cap)) same_words alike.1;
+    }
+turn_alike cap larger text next (says words later) (saves m names after) alike is = absurd alike
+turn_alike cap larger text next (saves m names later) (says others after) alike is = absurd alike
+turn_alike cap larger text next (saves m names later) (saves l others after) alike is =
+    let same_words : canonical m names ≡ text = cc in
+    let same_later : later ≡ next = cc in
+    record {
+      said = canonical l others;
+      turn = ap (λ x. more (canonical l others) x) (alike.0 ∙ ap (λ x. with_cap x larger) same_later);
+      same = inl (ap (λ x. canonical x others) alike.1.0 ∙ ap (canonical m) alike.1.1 ∙ same_words);
+    }
+
+-- ---- line after line
+
+pub caps_lead : (s g : Following) (larger k : ℕ) (lines : List (List ℕ)) → IsSound s → s.cap ≤ larger → state_after follow_turn s k lines ≡ Some g
+    → (state_after follow_turn (with_cap s larger) k lines ≡ Some (with_cap g larger))
+    × AreSameUnlessFull s.cap (texts_of s lines) (texts_of (with_cap s larger) lines)
+caps_lead s g larger k [] sound upto is = (ap (λ x. Some (with_cap x larger)) (same_Some s g is), tt)
+caps_lead s g larger k (first ∷ lines) sound upto is =
+    let l = first_leads follow_turn s g k first lines is in
+    let one = turn_alike s.cap larger l.text l.next (hear s (follow_read first)) (hear (with_cap s larger) (follow_read first))
+    (line_alike (counted s) larger upto (follow_read first)) l.answer in
+    let cap_is : l.next.cap ≡ s.cap = (turn_keeps canonical s l.next first l.text sound l.answer).cap in
+    let rest = caps_lead l.next g larger (k + 1) lines (next_sound canonical s l.next first l.text sound l.answer) (subst (λ c. c ≤ larger) (sym cap_is) upto) l.rest in (
+      state_more follow_turn (with_cap s larger) k first lines l.short one.said (with_cap l.next larger) one.turn ∙ rest.0,
+      subst (λ ts. AreSameUnlessFull s.cap ts (texts_of (with_cap s larger) (first ∷ lines))) (sym (texts_more s l.next first l.text lines l.answer))
+          (subst (AreSameUnlessFull s.cap (l.text ∷ texts_of l.next lines))
+          (sym (texts_more (with_cap s larger) (with_cap l.next larger) first one.said lines one.turn))
+          (one.same, subst (λ c. AreSameUnlessFull c (texts_of l.next lines) (texts_of (with_cap l.next larger) lines)) cap_is rest.1)),
+    )

@@ -1,0 +1,135 @@
+-- What is said to a line doesn't depend on how many lines were heard, unless the line is refused.
+use Rattle.std.proofs.Common.{ℕ, ℤ, ◌≡◌, Bool, true, false, List, ◌++◌, Option, Some, None, refl, inl, inr}
+use Rattle.std.specs.Prelude.{◌⊎◌, Result, Ok, Err, nat_lt, if◌then◌else◌, codes, decimal}
+use Rattle.cstn_label.specs.Labels.{Label}
+use Rattle.cstn_net.specs.Limits.{most_deadline}
+use Rattle.cstn_text.specs.Names.{number_of}
+use Rattle.cstn_check.specs.declared.verdicts.Verdict.{Verdict}
+use Rattle.cstn_check.specs.declared.verdicts.Verdict.TheVariants.{Yes, No, Full}
+use Rattle.cstn_history.specs.declared.errors.FactError.{FactError}
+use Rattle.cstn_history.specs.declared.errors.FactError.TheVariants.{OutOfRange}
+use Rattle.cstn_history.specs.Histories.{History}
+use Rattle.cstn_history.specs.Facts.{is_beyond, now_refusal, at_now, with_told, with_expected}
+use Rattle.cstn_lines.specs.EditLines.{Edit, added, removed, changed, asked}
+use Rattle.cstn_lines.specs.FollowLines.{Follow, done_at, came_at, now_at, awaited_at, edits, ends_by, asks_next, asks_by, asks_blame, asks_rest}
+use Rattle.cstn_follow.specs.Following.{Following, Heard, says, saves, verdict_now, verdict_within, on_verdict, follows, verdict_line}
+use Rattle.cstn_follow.specs.FactLines.{on_result, records, refuses, all_done, on_known, on_did, nodes_of, unknown_of, on_fact, on_now, on_outcome, saw_refusal, await_refusal}
+use Rattle.cstn_follow.specs.PlanLines.{add_refusal, remove_refusal, change_refusal, on_edit, on_ends, on_deadline, with_added, with_removed, with_changed, replanned}
+use Rattle.cstn_follow.specs.Questions.{next_after, check_after}
+use Rattle.cstn_follow.specs.Searches.{by_number, by_unless, by_after, by_refusal, blame_after}
+use Rattle.cstn_follow.specs.Hearing.{on_plan, on_other, on_line}
+use Rattle.cstn_followed.specs.Journal.{is_refusal, with_count}
+
+-- the same is said, in a state with this count of lines
+abbrev pub recounted : ℕ → Heard → Heard
+recounted n (says text next) = says text (with_count next n)
+recounted n (saves m names next) = saves m names (with_count next n)
+
+-- a refusal is said
+abbrev pub Refuses : Heard → Type 0
+Refuses (says text next) = is_refusal text ≡ true
+Refuses (saves m names next) = ⊥
+
+module _ (s : Following) (n : ℕ) where
+  abbrev Other : Following
+  Other = with_count s n
+
+  follows_same : (next : Following) (text : Verdict → List ℕ) → follows Other (with_count next n) text ≡ recounted n (follows s next text)
+  follows_same next text = by_verdict (verdict_within next)
+    where
+      by_verdict : (o : Option Verdict) → on_verdict Other (with_count next n) text o ≡ recounted n (on_verdict s next text o)
+      by_verdict None = refl
+      by_verdict (Some v) = refl
+
+  records_same : (h : History) → records Other h ≡ recounted n (records s h)
+  records_same h = follows_same (record s { history = h }) (verdict_line s.cap)
+
+  result_same : (r : Result History FactError) → on_result Other r ≡ recounted n (on_result s r)
+  result_same (Ok h) = records_same h
+  result_same (Err e) = refl
+
+  did_same : (t : ℕ) (given : List (List ℕ)) → on_did Other t given ≡ recounted n (on_did s t given)
+  did_same t given = by_moment (is_beyond t) (unknown_of s.names given)
+    where
+      by_moment : (late : Bool) (o : Option (List ℕ)) → (if late then refuses Other (OutOfRange t) else on_known Other t given o)
+          ≡ recounted n (if late then refuses s (OutOfRange t) else on_known s t given o)
+      by_moment true o = refl
+      by_moment false (Some name) = refl
+      by_moment false None = result_same (all_done s.network t s.history (nodes_of s.names given))
+
+  now_same : (t : ℕ) → on_now Other t ≡ recounted n (on_now s t)
+  now_same t = by_refusal (now_refusal s.history t)
+    where
+      by_refusal : (o : Option FactError) → on_fact Other o (at_now s.history t) ≡ recounted n (on_fact s o (at_now s.history t))
+      by_refusal None = records_same (at_now s.history t)
+      by_refusal (Some e) = refl
+
+  outcome_same : (o : Option (List ℕ)) (h : History) → on_outcome Other o h ≡ recounted n (on_outcome s o h)
+  outcome_same None h = records_same h
+  outcome_same (Some refusal) h = refl
+
+  edit_same : (o : Option (List ℕ)) (text : List ℕ) (next : Following) → on_edit Other o text (with_count next n) ≡ recounted n (on_edit s o text next)
+  edit_same None text next = follows_same next (λ v. _)
+  edit_same (Some refusal) text next = refl
+
+  ends_same : (from to : List ℕ) (most : ℤ) (a : Label) (one two : Option ℕ)
+      → on_ends Other from to most a one two ≡ recounted n (on_ends s from to most a one two)
+  ends_same from to most a None two = refl
+  ends_same from to most a (Some x) None = refl
+  ends_same from to most a (Some x) (Some y) =
+      edit_same (add_refusal s.network.base s.edits most a) (codes "added " ++ decimal s.fresh) (with_added s x y most a)
+
+  next_same : (v : Verdict) → next_after Other v ≡ recounted n (next_after s v)
+  next_same (Yes load) = refl
+  next_same (No load) = refl
+  next_same Full = refl
+
+  check_same : (v : Verdict) → check_after Other v ≡ recounted n (check_after s v)
+  check_same (Yes load) = refl
+  check_same (No load) = refl
+  check_same Full = refl
+
+  blame_same : (v : Verdict) → blame_after Other v ≡ recounted n (blame_after s v)
+  blame_same (Yes load) = refl
+  blame_same (No load) = refl
+  blame_same Full = refl
+
+  wait_same : (x : ℕ) (v : Verdict) → by_after Other x v ≡ recounted n (by_after s x v)
+  wait_same x (Yes load) = refl
+  wait_same x (No load) = refl
+  wait_same x Full = refl
+
+  unless_same : (x : ℕ) (o : Option (List ℕ)) → by_unless Other x o ≡ recounted n (by_unless s x o)
+  unless_same x (Some refusal) = refl
+  unless_same x None = wait_same x (verdict_now s)
+
+  by_same : (name : List ℕ) (o : Option ℕ) → by_number Other name o ≡ recounted n (by_number s name o)
+  by_same name None = refl
+  by_same name (Some x) = unless_same x (by_refusal s x (s.history.done x))
+
+  plan_same : (edit : Edit) → on_plan Other edit ≡ recounted n (on_plan s edit)
+  plan_same (added from to most a) = ends_same from to most a (number_of s.names from) (number_of s.names to)
+  plan_same (removed id) = edit_same (remove_refusal s.network.base s.edits id) (codes "removed " ++ decimal id) (with_removed s id)
+  plan_same (changed id most) =
+      edit_same (change_refusal s.network.base s.edits id most) (codes "changed " ++ decimal id) (with_changed s id most)
+  plan_same asked = check_same (verdict_now s)
+
+  -- a line that is none of the session is refused by its number
+  deadline_same : (deadline : ℕ) (late : Bool) → Refuses (if late then on_other s else on_deadline s deadline)
+      ⊎ ((if late then on_other Other else on_deadline Other deadline) ≡ recounted n (if late then on_other s else on_deadline s deadline))
+  deadline_same deadline true = inl refl
+  deadline_same deadline false =
+      inr (edit_same None (codes "deadline " ++ decimal deadline) (replanned s deadline s.network.base.constraints s.edits s.fresh))
+
+  pub line_same : (o : Option Follow) → Refuses (on_line s o) ⊎ (on_line Other o ≡ recounted n (on_line s o))
+  line_same None = inl refl
+  line_same (Some (done_at t given)) = inr (did_same t given)
+  line_same (Some (came_at t p v)) = inr (outcome_same (saw_refusal s.network s.history t p) (with_told s.history t p v))
+  line_same (Some (now_at t)) = inr (now_same t)
+  line_same (Some (awaited_at t p)) = inr (outcome_same (await_refusal s.network s.history t p) (with_expected s.history t p))
+  line_same (Some (edits edit)) = inr (plan_same edit)
+  line_same (Some (ends_by deadline)) = deadline_same deadline (nat_lt most_deadline deadline)
+  line_same (Some asks_next) = inr (next_same (verdict_now s))
+  line_same (Some (asks_by name)) = inr (by_same name (number_of s.names name))
+  line_same (Some asks_blame) = inr (blame_same (verdict_now s))
+  line_same (Some asks_rest) = inr refl

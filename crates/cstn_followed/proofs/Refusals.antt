@@ -1,0 +1,131 @@
+-- A line that is refused changes nothing but the count of lines.
+use Rattle.std.proofs.Common.{ℕ, ℤ, ◌≡◌, Bool, true, false, List, [], ◌∷◌, ◌++◌, Option, Some, None, take, eqb, refl, sym, subst, ap, ◌∙◌}
+use Rattle.std.specs.Prelude.{nat_lt, slice_index_or, if◌then◌else◌, codes, decimal}
+use Rattle.std.proofs.lemmas.Bool.{both_ways, eq-eqb}
+use Rattle.std.proofs.lemmas.Slice.Eq.{bytes_eq-Decides}
+use Rattle.cstn_label.specs.Labels.{Label}
+use Rattle.cstn_net.specs.Limits.{most_deadline}
+use Rattle.cstn_text.specs.Names.{number_of}
+use Rattle.cstn_check.specs.declared.verdicts.Verdict.{Verdict}
+use Rattle.cstn_check.specs.declared.verdicts.Verdict.TheVariants.{Yes, No, Full}
+use Rattle.cstn_lines.specs.EditLines.{Edit, added, removed, changed, asked}
+use Rattle.cstn_lines.specs.FollowLines.{Follow, follow_read, IsFollow, done_at, came_at, now_at, awaited_at, edits, ends_by, asks_next, asks_by, asks_blame, asks_rest}
+use Rattle.cstn_lines.proofs.FollowLemmas.{follow_is}
+use Rattle.cstn_reply.specs.Texts.{line}
+use Rattle.cstn_reply.specs.Sessions.{Turn, more, last, wrong}
+use Rattle.cstn_follow.specs.Following.{Following, Heard, says, saves, verdict_now, verdict_within, on_verdict, follows, verdict_line}
+use Rattle.cstn_follow.specs.PlanLines.{add_refusal, remove_refusal, change_refusal, on_edit, on_ends, on_deadline, with_added, with_removed, with_changed, replanned}
+use Rattle.cstn_follow.specs.Questions.{on_next, on_check}
+use Rattle.cstn_follow.specs.Searches.{on_by, on_blame}
+use Rattle.cstn_follow.specs.Hearing.{on_plan, on_other, on_line, counted, hear}
+use Rattle.cstn_save.specs.Canonical.{canonical}
+use Rattle.cstn_follow.specs.Recorded.{IsFact}
+use Rattle.cstn_follow.specs.Turns.{heard_by}
+use Rattle.cstn_followed.specs.Sessions.{IsReached, follow_turn}
+use Rattle.cstn_followed.specs.Journal.{is_refusal}
+use Rattle.cstn_follow.proofs.States.{IsSound, next_of, fact_is, next_keeps, check_keeps, blame_keeps, by_keeps, counted_sound}
+use Rattle.cstn_followed.proofs.Verdicts.{reached_sound}
+
+-- the third byte of a refusal is that of `f`
+abbrev third : List ℕ → ℕ
+third text = slice_index_or text 2 0
+
+third_taken : (text : List ℕ) → third (take 8 text) ≡ third text
+third_taken [] = refl
+third_taken (a ∷ []) = refl
+third_taken (a ∷ b ∷ []) = refl
+third_taken (a ∷ b ∷ c ∷ rest) = refl
+
+refused_third : (text : List ℕ) → is_refusal text ≡ true → third text ≡ 102
+refused_third text refused = sym (third_taken text) ∙ ap third ((bytes_eq-Decides (take 8 text) (codes "refused ")).0 refused)
+
+-- where the text is a refusal, the session stays as it is, and so it does where a document is said
+abbrev StaysRefused : Following → Heard → Type 0
+StaysRefused s (says text next) = is_refusal text ≡ true → next ≡ s
+StaysRefused s (saves m names next) = next ≡ s
+
+stays : (s : Following) (heard : Heard) → next_of heard ≡ s → StaysRefused s heard
+stays s (says text next) same = λ refused. same
+stays s (saves m names next) same = same
+
+differs : (byte : ℕ) → eqb byte 102 ≡ false → byte ≡ 102 → ⊥
+differs byte other same = both_ways (eqb byte 102) other (eq-eqb byte 102 same)
+
+verdict_third : (cap : ℕ) (v : Verdict) → third (verdict_line cap v) ≡ 102 → ⊥
+verdict_third cap (Yes load) is = differs 115 refl is
+verdict_third cap (No load) is = differs 32 refl is
+verdict_third cap Full is = differs 108 refl is
+
+module _ (s : Following) where
+  follows_stays : (next : Following) (text : Verdict → List ℕ) → ((v : Verdict) → third (text v) ≡ 102 → ⊥) → StaysRefused s (follows s next text)
+  follows_stays next text other = by_verdict (verdict_within next)
+    where
+      by_verdict : (o : Option Verdict) → StaysRefused s (on_verdict s next text o)
+      by_verdict None = λ refused. refl
+      by_verdict (Some v) = λ refused. absurd (other v (refused_third (text v) refused))
+
+  edit_stays : (o : Option (List ℕ)) (text : List ℕ) (next : Following) → (third (line text) ≡ 102 → ⊥) → StaysRefused s (on_edit s o text next)
+  edit_stays (Some refusal) text next other = λ refused. refl
+  edit_stays None text next other = follows_stays next (λ v. line text) (λ v. other)
+
+  ends_stays : (from to : List ℕ) (most : ℤ) (a : Label) (one two : Option ℕ) → StaysRefused s (on_ends s from to most a one two)
+  ends_stays from to most a None two = λ refused. refl
+  ends_stays from to most a (Some x) None = λ refused. refl
+  ends_stays from to most a (Some x) (Some y) =
+      edit_stays (add_refusal s.network.base s.edits most a) (codes "added " ++ decimal s.fresh) (with_added s x y most a) (λ is. differs 100 refl is)
+
+  plan_stays : (edit : Edit) → StaysRefused s (on_plan s edit)
+  plan_stays (added from to most a) = ends_stays from to most a (number_of s.names from) (number_of s.names to)
+  plan_stays (removed id) = edit_stays (remove_refusal s.network.base s.edits id) (codes "removed " ++ decimal id) (with_removed s id)
+      (λ is. differs 109 refl is)
+  plan_stays (changed id most) =
+      edit_stays (change_refusal s.network.base s.edits id most) (codes "changed " ++ decimal id) (with_changed s id most)
+      (λ is. differs 97 refl is)
+  plan_stays asked = stays s (on_check s) (check_keeps s (verdict_now s))
+
+  deadline_stays : (deadline : ℕ) (b : Bool) → StaysRefused s (if b then on_other s else on_deadline s deadline)
+  deadline_stays deadline true = λ refused. refl
+  deadline_stays deadline false =
+      follows_stays (replanned s deadline s.network.base.constraints s.edits s.fresh) (λ v. line (codes "deadline " ++ decimal deadline))
+      (λ v is. differs 97 refl is)
+
+  fact_stays : (fact : Follow) → IsSound s → IsFact fact → IsFollow fact → StaysRefused s (on_line s (Some fact))
+  fact_stays fact sound = fact_is s sound (λ fact heard. StaysRefused s heard) (λ fact text why refused. refl)
+      (λ fact h timely is. follows_stays (record s { history = h }) (verdict_line s.cap) (verdict_third s.cap)) fact
+
+  line_stays : (o : Option Follow) → IsSound s → ((l : Follow) → o ≡ Some l → IsFollow l) → StaysRefused s (on_line s o)
+  line_stays None sound is = λ refused. refl
+  line_stays (Some (done_at t names)) sound is = fact_stays (done_at t names) sound tt (is (done_at t names) refl)
+  line_stays (Some (came_at t p v)) sound is = fact_stays (came_at t p v) sound tt (is (came_at t p v) refl)
+  line_stays (Some (now_at t)) sound is = fact_stays (now_at t) sound tt (is (now_at t) refl)
+  line_stays (Some (awaited_at t p)) sound is = fact_stays (awaited_at t p) sound tt (is (awaited_at t p) refl)
+  line_stays (Some (edits edit)) sound is = plan_stays edit
+  line_stays (Some (ends_by deadline)) sound is = deadline_stays deadline (nat_lt most_deadline deadline)
+  line_stays (Some asks_next) sound is = stays s (on_next s) (next_keeps s (verdict_now s))
+  line_stays (Some (asks_by name)) sound is = stays s (on_by s name) (by_keeps s name (number_of s.names name))
+  line_stays (Some asks_blame) sound is = stays s (on_blame s) (blame_keeps s (verdict_now s))
+  line_stays (Some asks_rest) sound is = refl
+
+-- what is heard by a sound session
+pub heard_stays : (s : Following) (bytes : List ℕ) → IsSound s → StaysRefused (counted s) (hear s (follow_read bytes))
+heard_stays s bytes sound = line_stays (counted s) (follow_read bytes) (counted_sound s sound) (follow_is bytes)
+
+-- where the text of a turn is a refusal, the session stays as it is
+abbrev TurnStays : Following → Turn Following → Type 0
+TurnStays s (more text next) = is_refusal text ≡ true → next ≡ s
+TurnStays s (last said) = Unit {0}
+TurnStays s wrong = Unit {0}
+
+turn_stays : (s : Following) (heard : Heard) → StaysRefused s heard → TurnStays s (heard_by canonical heard)
+turn_stays s (says text next) kept = kept
+turn_stays s (saves m names next) kept = λ refused. kept
+
+pub refusal_stays : (s next : Following) (bytes text : List ℕ) → IsSound s → follow_turn s bytes ≡ more text next → is_refusal text ≡ true
+    → next ≡ counted s
+refusal_stays s next bytes text sound answered =
+    subst (TurnStays (counted s)) answered (turn_stays (counted s) (hear s (follow_read bytes)) (heard_stays s bytes sound))
+
+pub refused_stays : (s next : Following) (bytes why : List ℕ) → IsReached s → follow_turn s bytes ≡ more (line (codes "refused " ++ why)) next
+    → next ≡ counted s
+refused_stays s next bytes why reached answered =
+    refusal_stays s next bytes (line (codes "refused " ++ why)) (reached_sound s reached) answered refl

@@ -1,0 +1,128 @@
+-- What edits make of the plan, and facts of what has happened.
+use Rattle.std.specs.Prelude.{ℕ, ◌≡◌, ◌<◌, List, [], ◌∷◌, ◌++◌, Option, None, Some, Result, Ok, Err, codes, decimal}
+use Rattle.std.specs.List.{All}
+use Rattle.cstn_net.specs.Networks.{Constraint}
+use Rattle.cstn_lift.specs.Labelled.{Labelled}
+use Rattle.cstn_change.specs.Changes.{Change, removes, revalues, Refusal, constraints_after, fresh_after}
+use Rattle.cstn_change.specs.ChangeLines.{addition, accepted_text}
+use Rattle.cstn_history.specs.Histories.{History, edited}
+use Rattle.cstn_lines.specs.EditLines.{Edit, added, removed, changed, asked}
+use Rattle.cstn_lines.specs.FollowLines.{Follow, follow_read, done_at, came_at, now_at, awaited_at, edits, ends_by, asks_next, asks_by, asks_blame, asks_rest}
+use Rattle.cstn_reply.specs.Texts.{line}
+use Rattle.cstn_follow.specs.Following.{Following}
+use Rattle.cstn_follow.specs.Recorded.{IsRecorded}
+
+-- a labelled network, and an id above all that were ever used
+pub record Plan : Type 0 where
+  pub network : Labelled
+  pub fresh : ℕ
+
+-- the plan of a session
+abbrev pub plan_of : Following → Plan
+plan_of s = record { network = s.network; fresh = s.fresh }
+
+-- the plan after a change, where a constraint that is added gets the id `fresh`
+abbrev pub changed_plan : Plan → Change → Plan
+changed_plan p change = record {
+  network = edited p.network p.network.base.deadline (constraints_after p.network.base.constraints p.fresh change);
+  fresh = fresh_after p.fresh change;
+}
+
+-- the plan with another deadline
+abbrev pub plan_by : Plan → ℕ → Plan
+plan_by p deadline = record { network = edited p.network deadline p.network.base.constraints; fresh = p.fresh }
+
+-- the change that an edit says, by the names of the time-points
+abbrev pub change_if : Result Change Refusal → Option Change
+change_if (Ok change) = Some change
+change_if (Err why) = None
+
+abbrev pub change_said : List (List ℕ) → Edit → Option Change
+change_said names (added from to most a) = change_if (addition names from to most a)
+change_said names (removed id) = Some (removes id)
+change_said names (changed id most) = Some (revalues id most)
+change_said names asked = None
+
+-- the plan after this change, if there is one
+abbrev pub plan_if : Plan → Option Change → Plan
+plan_if p (Some change) = changed_plan p change
+plan_if p None = p
+
+-- what a line that is accepted makes of the plan: edits and deadlines change it
+abbrev pub plan_told : List (List ℕ) → Plan → Option Follow → Plan
+plan_told names p (Some (edits edit)) = plan_if p (change_said names edit)
+plan_told names p (Some (ends_by deadline)) = plan_by p deadline
+plan_told names p (Some (done_at t given)) = p
+plan_told names p (Some (came_at t q value)) = p
+plan_told names p (Some (now_at t)) = p
+plan_told names p (Some (awaited_at t q)) = p
+plan_told names p (Some asks_next) = p
+plan_told names p (Some (asks_by name)) = p
+plan_told names p (Some asks_blame) = p
+plan_told names p (Some asks_rest) = p
+plan_told names p None = p
+
+-- what lines that are accepted make of the plan, one after the other
+abbrev pub plan_by_lines : List (List ℕ) → Plan → List (List ℕ) → Plan
+plan_by_lines names p [] = p
+plan_by_lines names p (first ∷ lines) = plan_by_lines names (plan_told names p (follow_read first)) lines
+
+-- what a line that is accepted makes of what has happened: facts are recorded
+abbrev pub IsHistoryTold : List (List ℕ) → History → Option Follow → History → Type 0
+IsHistoryTold names h (Some (done_at t given)) later = IsRecorded names h (done_at t given) later
+IsHistoryTold names h (Some (came_at t p value)) later = IsRecorded names h (came_at t p value) later
+IsHistoryTold names h (Some (now_at t)) later = IsRecorded names h (now_at t) later
+IsHistoryTold names h (Some (awaited_at t p)) later = IsRecorded names h (awaited_at t p) later
+IsHistoryTold names h (Some (edits edit)) later = later ≡ h
+IsHistoryTold names h (Some (ends_by deadline)) later = later ≡ h
+IsHistoryTold names h (Some asks_next) later = later ≡ h
+IsHistoryTold names h (Some (asks_by name)) later = later ≡ h
+IsHistoryTold names h (Some asks_blame) later = later ≡ h
+IsHistoryTold names h (Some asks_rest) later = later ≡ h
+IsHistoryTold names h None later = later ≡ h
+
+-- what lines that are accepted make of it, one after the other
+abbrev pub IsHistoryByLines : List (List ℕ) → History → List (List ℕ) → History → Type 0
+IsHistoryByLines names h [] later = later ≡ h
+IsHistoryByLines names h (first ∷ lines) later = (next : History) × IsHistoryTold names h (follow_read first) next × IsHistoryByLines names next lines later
+
+-- the line is an edit, or a deadline
+abbrev pub IsEditLine : Follow → Type 0
+IsEditLine (edits (added from to most a)) = Unit {0}
+IsEditLine (edits (removed id)) = Unit {0}
+IsEditLine (edits (changed id most)) = Unit {0}
+IsEditLine (edits asked) = ⊥
+IsEditLine (ends_by deadline) = Unit {0}
+IsEditLine (done_at t given) = ⊥
+IsEditLine (came_at t p value) = ⊥
+IsEditLine (now_at t) = ⊥
+IsEditLine (awaited_at t p) = ⊥
+IsEditLine asks_next = ⊥
+IsEditLine (asks_by name) = ⊥
+IsEditLine asks_blame = ⊥
+IsEditLine asks_rest = ⊥
+
+-- that an edit or a deadline is accepted, with the id of the constraint, which is `fresh` where it is added
+abbrev pub IsAcceptedText : List (List ℕ) → ℕ → Follow → List ℕ → Type 0
+IsAcceptedText names fresh (edits edit) text = (change : Change) × (change_said names edit ≡ Some change) × (text ≡ line (accepted_text fresh change))
+IsAcceptedText names fresh (ends_by deadline) text = text ≡ line (codes "deadline " ++ decimal deadline)
+IsAcceptedText names fresh (done_at t given) text = ⊥
+IsAcceptedText names fresh (came_at t p value) text = ⊥
+IsAcceptedText names fresh (now_at t) text = ⊥
+IsAcceptedText names fresh (awaited_at t p) text = ⊥
+IsAcceptedText names fresh asks_next text = ⊥
+IsAcceptedText names fresh (asks_by name) text = ⊥
+IsAcceptedText names fresh asks_blame text = ⊥
+IsAcceptedText names fresh asks_rest text = ⊥
+
+-- the plan is the one edited, and nothing else changes but the counts of lines and of edits; the text says so
+pub record Edits (s : Following) (edit : Follow) (text : List ℕ) (next : Following) : Type 0 where
+  pub plan : plan_of next ≡ plan_told s.names (plan_of s) (Some edit)
+  pub history : next.history ≡ s.history
+  pub names : next.names ≡ s.names
+  pub cap : next.cap ≡ s.cap
+  pub text_is : IsAcceptedText s.names s.fresh edit text
+
+-- no constraint of the plan has this id or a later one
+abbrev pub IsNew : Plan → ℕ → Type 0
+IsNew p id = All (λ (c : Constraint). c.id < id) p.network.base.constraints

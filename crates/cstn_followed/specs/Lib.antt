@@ -1,0 +1,12 @@
+-- The states of sessions, and what is answered in them.
+pub mod Sessions
+pub mod Answers
+pub mod Plans
+-- What a session shows that is over, and how it comes to an end.
+pub mod Finished
+pub mod End
+-- Its journal, and the order of its lines.
+pub mod Journal
+pub mod Order
+-- What edits make of the plan.
+pub mod Edits

@@ -1,5 +1,0 @@
-use Rattle.cstn_host.proofs.CaseLemmas.{closed_host}
-use Rattle.cstn_host.proofs.hosts.Host.start.Goals as goal
-
-pub invariant_of-result : goal.invariant_of-result
-invariant_of-result c = closed_host c.args.plans.items c.in_ok-cases.cases.items c.in_ok-cases.ensures c.requires.some c.requires.few

@@ -1,8 +1,0 @@
-use Rattle.cstn_lines.specs.HostLines.{closed}
-use Rattle.cstn_host.specs.SessionRead.{the_names}
-use Rattle.cstn_host.proofs.Answered.{refused_after}
-use Rattle.cstn_host.proofs.sessions.HostSession.close.Goals as goal
-
-pub returns-clause-after : goal.returns-clause-after
-returns-clause-after c =
-    refused_after c.args.self.now c.self.inside.host (the_names c.self.inside.names.items) c.self.view_is c.self.invariant.as_many c.match-close.result (closed c.args.id) c.close.new.self c.close.ensures.after

@@ -1,2 +1,0 @@
--- Texts that list things.
-pub mod Listings

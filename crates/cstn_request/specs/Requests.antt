@@ -1,0 +1,166 @@
+-- Which words are a request.
+use Rattle.std.specs.Prelude.{ℕ, Bool, nat_le, nat_eq, ◌&&◌, if◌then◌else◌, List, [], ◌∷◌, length, Option, None, Some, codes}
+use Rattle.std.specs.Option.{option_map, option_and_then, unwrap_or}
+use Rattle.std.specs.Cmp.Lexicographic.{pointwise}
+use Rattle.cstn_net.specs.Limits.{most_deadline, most_load}
+use Rattle.cstn_text.specs.Numbers.{number_read}
+use Rattle.cstn_request.specs.Limits.{usual_cap, most_host_cap, most_files}
+use Rattle.cstn_request.specs.declared.words.Release.{Release}
+
+-- the two texts are the same
+abbrev pub is_same : List ℕ → List ℕ → Bool
+is_same xs ys = pointwise nat_eq xs ys
+
+-- `FILE [--deadline N]`: the file of a document, and the deadline that is to hold, if one is named
+pub record Asked : Type 0 where
+  pub file : List ℕ
+  pub deadline : Option ℕ
+
+-- A request: a command with the file of a document and the deadline that is to hold, and, by the command, how many entries a
+-- log may have, the file of a text that is to be checked, or no more; or the number of a drill; or the files of a host, with
+-- the deadline that is to hold for each and how many entries the log of each may have; or what the program is.
+pub data Request : Type 0 where
+  check : Asked → ℕ → Request
+  run : Asked → ℕ → Request
+  edit : Asked → ℕ → Request
+  follow : Asked → ℕ → Request
+  closed : Asked → ℕ → Request
+  tight : Asked → ℕ → Request
+  conflict : Asked → ℕ → Request
+  tree : Asked → ℕ → Request
+  save : Asked → Request
+  replay : Asked → List ℕ → Request
+  closedcheck : Asked → List ℕ → Request
+  treecheck : Asked → List ℕ → Request
+  drill : ℕ → Request
+  host : List (List ℕ) → Option ℕ → ℕ → Request
+  version : Release → Request
+
+-- a number from least to most
+abbrev pub number_within : ℕ → ℕ → List ℕ → Option ℕ
+number_within least most text = option_and_then (λ n. if nat_le least n && nat_le n most then Some n else None) (number_read text)
+
+-- the number of an option, if it is there, and the words after it
+pub record Taken : Type 0 where
+  pub value : Option ℕ
+  pub rest : List (List ℕ)
+
+-- the number from least to most that the words begin with, and the words after it
+abbrev pub value_at : ℕ → ℕ → List (List ℕ) → Option Taken
+value_at least most [] = None
+value_at least most (word ∷ rest) = option_map (λ n. record { value = Some n; rest = rest }) (number_within least most word)
+
+-- the number of the option of this name, if the words begin with it, and the words after it
+abbrev pub option_at : List ℕ → ℕ → ℕ → List (List ℕ) → Option Taken
+option_at name least most [] = Some (record { value = None; rest = [] })
+option_at name least most (word ∷ rest) =
+    if is_same word name then value_at least most rest else Some (record { value = None; rest = word ∷ rest })
+
+-- `[--deadline N]`, with N up to 1,000,000
+abbrev pub deadline_at : List (List ℕ) → Option Taken
+deadline_at words = option_at (codes "--deadline") 0 most_deadline words
+
+-- `[--cap CAP]`, with CAP from 1 to 4,194,304
+abbrev pub cap_at : List (List ℕ) → Option Taken
+cap_at words = option_at (codes "--cap") 1 most_load words
+
+-- the number of an option after which no word is left
+abbrev pub last_value : Taken → Option (Option ℕ)
+last_value taken = if nat_eq (length taken.rest) 0 then Some taken.value else None
+
+-- `[--deadline N]` and no more
+abbrev pub deadline_of : List (List ℕ) → Option (Option ℕ)
+deadline_of words = option_and_then last_value (deadline_at words)
+
+-- `[--cap CAP]` and no more; 65,536 where it isn't there
+abbrev pub cap_of : List (List ℕ) → Option ℕ
+cap_of words = option_map (λ cap. unwrap_or cap usual_cap) (option_and_then last_value (cap_at words))
+
+-- a file, and its deadline
+abbrev pub asked_of : List (List ℕ) → Option Asked
+asked_of [] = None
+asked_of (file ∷ rest) = option_map (λ deadline. record { file = file; deadline = deadline }) (deadline_of rest)
+
+-- a file with its deadline, and how many entries its log may have
+abbrev pub capped_of : List (List ℕ) → Option (Asked × ℕ)
+capped_of [] = None
+capped_of (file ∷ rest) =
+    option_and_then (λ (taken : Taken). option_map (λ cap. (record { file = file; deadline = taken.value }, cap)) (cap_of taken.rest)) (deadline_at rest)
+
+-- a file with its deadline, and the file of the text that is to be checked against it
+abbrev pub checked_of : List (List ℕ) → Option (Asked × List ℕ)
+checked_of (file ∷ proof ∷ rest) =
+    option_map (λ deadline. (record { file = file; deadline = deadline }, proof)) (deadline_of rest)
+checked_of words = None
+
+-- the request of a drill by its number, which is below 2 ^ 64
+abbrev pub drill_of : List (List ℕ) → Option Request
+drill_of (number ∷ []) = option_map drill (number_read number)
+drill_of words = None
+
+-- the request of a host with the files that stand after its options: 1 to 8, and 65,536 entries where no number is given
+abbrev pub hosted_of : Option ℕ → Taken → Option Request
+hosted_of deadline cap =
+    if nat_le 1 (length cap.rest) && nat_le (length cap.rest) most_files then Some (host cap.rest deadline (unwrap_or cap.value usual_cap)) else None
+
+-- `[--deadline N] [--cap CAP] FILE ..`, with CAP from 1 to 65,536
+abbrev pub host_of : List (List ℕ) → Option Request
+host_of words =
+    option_and_then (λ (deadline : Taken). option_and_then (hosted_of deadline.value) (option_at (codes "--cap") 1 most_host_cap deadline.rest)) (deadline_at words)
+
+-- the request for what a program of this release is: no word may stand after it
+abbrev pub version_of : Release → List (List ℕ) → Option Request
+version_of release [] = Some (version release)
+version_of release (word ∷ rest) = None
+
+-- the request of a command with this file and this many entries that a log may have
+abbrev pub capped_at : List ℕ → Asked × ℕ → Option Request
+capped_at command found =
+    if is_same command (codes "check") then Some (check found.0 found.1)
+    else if is_same command (codes "run") then Some (run found.0 found.1)
+    else if is_same command (codes "edit") then Some (edit found.0 found.1)
+    else if is_same command (codes "follow") then Some (follow found.0 found.1)
+    else if is_same command (codes "closed") then Some (closed found.0 found.1)
+    else if is_same command (codes "tight") then Some (tight found.0 found.1)
+    else if is_same command (codes "conflict") then Some (conflict found.0 found.1)
+    else if is_same command (codes "tree") then Some (tree found.0 found.1) else None
+
+-- the request of a command with these words after it, to a program of this release
+abbrev pub request_at : Release → List ℕ → List (List ℕ) → Option Request
+request_at release command rest =
+    if is_same command (codes "save") then option_map save (asked_of rest)
+    else if is_same command (codes "replay") then option_map (λ found. replay found.0 found.1) (checked_of rest)
+    else if is_same command (codes "closedcheck") then option_map (λ found. closedcheck found.0 found.1) (checked_of rest)
+    else if is_same command (codes "treecheck") then option_map (λ found. treecheck found.0 found.1) (checked_of rest)
+    else if is_same command (codes "drill") then drill_of rest
+    else if is_same command (codes "host") then host_of rest
+    else if is_same command (codes "--version") then version_of release rest
+    else option_and_then (capped_at command) (capped_of rest)
+
+-- the request that the words are to a program of this release; none where they are no request
+abbrev pub request_of : Release → List (List ℕ) → Option Request
+request_of release [] = None
+request_of release (command ∷ rest) = request_at release command rest
+
+-- the files that a request names, in the order of the words
+abbrev pub files_of : Request → List (List ℕ)
+files_of (check asked cap) = asked.file ∷ []
+files_of (run asked cap) = asked.file ∷ []
+files_of (edit asked cap) = asked.file ∷ []
+files_of (follow asked cap) = asked.file ∷ []
+files_of (closed asked cap) = asked.file ∷ []
+files_of (tight asked cap) = asked.file ∷ []
+files_of (conflict asked cap) = asked.file ∷ []
+files_of (tree asked cap) = asked.file ∷ []
+files_of (save asked) = asked.file ∷ []
+files_of (replay asked proof) = asked.file ∷ proof ∷ []
+files_of (closedcheck asked proof) = asked.file ∷ proof ∷ []
+files_of (treecheck asked proof) = asked.file ∷ proof ∷ []
+files_of (drill number) = []
+files_of (host files deadline cap) = files
+files_of (version release) = []
+
+-- the files that words name
+abbrev pub names_of : Option Request → List (List ℕ)
+names_of None = []
+names_of (Some request) = files_of request

@@ -1,0 +1,15 @@
+//! A request: which words are one, what its files hold, and what is said of those that are refused.
+#![tactic(auto)]
+
+mod documents;
+mod files;
+mod reading;
+mod refusals;
+mod texts;
+mod words;
+
+pub use documents::{open, open_labelled, open_lowered};
+pub use files::HostFiles;
+pub use reading::{NamedLabelled, NamedNetwork, Unread};
+pub use texts::read_text;
+pub use words::{Asked, Release, Request, parse};

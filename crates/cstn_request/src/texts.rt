@@ -1,0 +1,47 @@
+// The texts of files that hold a refutation, a list of bounds or a tree.
+ghost use Rattle.std.specs.Prelude.{◌≡◌, ◌≤◌, length, IfOk, IsTrue, IsErrOf, Err, codes};
+ghost use Rattle.cstn_io.specs.Causes.{Rose};
+ghost use Rattle.cstn_reply.specs.declared.output.Said.{Said as SaidText};
+ghost use Rattle.cstn_reply.specs.Read.{the_said};
+ghost use Rattle.cstn_reply.specs.Texts.{say};
+ghost use Rattle.cstn_request.specs.Opened.{IsFile, IsTextOf, IsLongText};
+
+use crate::Unread;
+use cstn_io::{Shelf, TakeError, take_all};
+use cstn_reply::{Outcome, Said};
+use std::alloc::{AllocError, Global};
+
+const MAX_TEXT: usize = 1_476_395_008;
+
+/// Reads the text of a file. Fails where it has more than 1,476,395,008 bytes, where the file can't be read, and for want of
+/// memory.
+pub fn read_text<F: Shelf>(alloc: Global, file: &str, shelf: &mut F) -> Result<Vec<u8>, Unread>
+    requires may_ask { IsTrue (F.may_ask shelf.old file.now) }
+    ensures text { IfOk result (λ text. IsFile (F.files shelf.old) file.now (IsTextOf text.items)) }
+    ensures refused { (said : SaidText) → result ≡ Err (Unread.Told said) → IsFile (F.files shelf.old) file.now (IsLongText said) }
+    ensures names { F.may_ask shelf.new ≡ F.may_ask shelf.old }
+    ensures files { F.files shelf.new ≡ F.files shelf.old }
+    ensures later { F.faults shelf.old ≤ F.faults shelf.new }
+    ensures fault { IsErrOf result Unread.ReadFault → Rose (F.faults shelf.old) (F.faults shelf.new) }
+{
+    match take_all(alloc, shelf, file, MAX_TEXT) {
+        Ok(text) => Ok(text),
+        Err(TakeError::TooLong) => {
+            let said = too_long(alloc)?;
+            Err(Unread::Told(said))
+        }
+        Err(TakeError::ReadFault) => Err(Unread::ReadFault),
+        Err(TakeError::Memory(error)) => Err(Unread::from(error)),
+    }
+}
+
+// What is said of a text that is too long.
+fn too_long(alloc: Global) -> Result<Said, AllocError>
+    ensures said { IfOk result (λ said. the_said said ≡ say Outcome.Script (codes "script long")) }
+{
+    let text = b"script long\n".to_vec(alloc)?;
+    Ok(Said {
+        outcome: Outcome::Script,
+        text,
+    })
+}

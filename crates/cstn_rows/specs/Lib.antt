@@ -1,4 +1,0 @@
--- Chains of slots, and rows of records in pages.
-pub mod Chains
-pub mod Links
-pub mod Pages

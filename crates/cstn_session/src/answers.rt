@@ -1,0 +1,42 @@
+// What a session answers to questions.
+use cstn_history::FactError;
+use cstn_next::NextMoment;
+
+/// What is next in a plan that is carried out.
+#[derive(Drop)]
+pub enum Outlook {
+    /// The next moment, with what is to be executed and what is awaited at it.
+    Next(NextMoment),
+    /// Nothing is left.
+    Finished,
+    /// What has happened can't go on.
+    Impossible,
+    /// The log of what is left is full.
+    Unknown,
+}
+
+/// Until when a time-point can wait.
+#[derive(Clone, Copy, Debug, PartialEq, Eq)]
+pub enum Latest {
+    /// Up to this moment, in ticks.
+    Until(u32),
+    /// It isn't told: no time-point has the number, it is done, or it is ruled out.
+    Refused(FactError),
+    /// F8: with one constraint more, what is left or its lowered network has more than 16,384 constraints.
+    TooManyConstraints,
+    /// What has happened can't go on.
+    Impossible,
+    /// A log that is tried is full.
+    Unknown,
+}
+
+/// Which constraints are to blame where what has happened can't go on.
+#[derive(Drop)]
+pub enum ToBlame {
+    /// Those of these ids, in ascending order.
+    Constraints(Vec<u32>),
+    /// None: what has happened can go on.
+    Nothing,
+    /// A log that is tried is full.
+    Unknown,
+}

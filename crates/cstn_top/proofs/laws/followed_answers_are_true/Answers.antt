@@ -1,6 +1,0 @@
-use Rattle.cstn_top.proofs.FollowedAnswers.{next_answered, by_answered, blame_answered, nothing_left}
-use Rattle.cstn_top.proofs.FollowedRefusals.{refused_stays}
-use Rattle.cstn_top.proofs.laws.followed_answers_are_true.Goals as goal
-
-pub returns : goal.returns
-returns c = record { next = next_answered; by = by_answered; blame = blame_answered; over = nothing_left; refused = refused_stays }

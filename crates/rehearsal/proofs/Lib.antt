@@ -1,3 +1,0 @@
--- What isn't known, and what is ruled out.
-mod Unknown
-mod RuledOut
