@@ -17,11 +17,9 @@ ghost use Rattle.cstn_session.specs.Findings.{verdict_of, IsFindingOn};
 ghost use Rattle.cstn_follow.specs.Following.{verdict_left};
 ghost use Rattle.cstn_follow.specs.Waiting.{HasRoomToWait, waits_until};
 
-
-
 use crate::findings::{Finding, finding_left, labelled_network_is_in_order};
-use cstn_follow::{BlameError, WaitError, blame, by};
 use cstn_change::id_above;
+use cstn_follow::{BlameError, WaitError, blame, by};
 use cstn_history::{History, RestError, rest};
 use cstn_label::NodeId;
 use cstn_lift::Labelled;

@@ -8,11 +8,11 @@ use crate::heating::{FILL, HEAT, SAMPLE, heating};
 use crate::plans::CAP;
 use crate::printing::{print_blame, print_event, print_latest, print_outlook};
 use anyhow::bail;
-use cstn_session::{FollowError, Outlook, Session};
 use cstn_label::NodeId;
 use cstn_lift::Labelled;
 use cstn_log::Cap;
 use cstn_net::Network;
+use cstn_session::{FollowError, Outlook, Session};
 use cstn_text::Names;
 use std::alloc::Global;
 

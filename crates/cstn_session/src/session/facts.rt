@@ -6,8 +6,8 @@ ghost use Rattle.cstn_history.specs.Read.{the_history, IsKeptFor};
 ghost use Rattle.cstn_follow.specs.FactLines.{all_done, unless_refused};
 ghost use Rattle.cstn_session.specs.Sessions.{Records, unrecorded};
 
-use crate::errors::FollowError;
 use super::Session;
+use crate::errors::FollowError;
 use cstn_check::Verdict;
 use cstn_history::{FactError, History, RestError};
 use cstn_label::{NodeId, Prop};

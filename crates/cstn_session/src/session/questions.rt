@@ -13,12 +13,12 @@ ghost use Rattle.cstn_session.specs.Answers.{IsRightOutlook, TellsOutlook, IsLef
 ghost use Rattle.cstn_session.specs.Executions.{left_of};
 ghost use Rattle.cstn_session.specs.Sessions.{execution_of};
 
-use crate::answers::{ToBlame, Latest, Outlook};
-use cstn_follow::{BlameError, WaitError};
-use crate::findings::Finding;
 use super::Session;
+use crate::answers::{Latest, Outlook, ToBlame};
+use crate::findings::Finding;
 use crate::room::has_room;
 use cstn_check::Verdict;
+use cstn_follow::{BlameError, WaitError};
 use cstn_history::{FactError, RestError};
 use cstn_label::NodeId;
 use cstn_lift::Labelled;

@@ -20,7 +20,7 @@ returns-in-Ok-clause-right c =
     let ids = c.in-Ok.ids.items in
     let session = subst (λ (s : SessionParts). IsSession s) c.self.view_is (followed_session w.execution w.cap.entries w.edits w.finding c.self.invariant) in
     let stuck = subst (λ (s : SessionParts). Can (the_labelled s.network) (the_history s.history) → ⊥) (sym c.self.view_is)
-        (cannot_go_on c.args.self.now session c.requires.no) in
+    (cannot_go_on c.args.self.now session c.requires.no) in
     subst (λ (s : SessionParts). AreToBlame (the_labelled s.network) (the_history s.history) ids) c.self.view_is (record {
       stuck = stuck;
       cannot = c.in-Ok.ensures.cannot;

@@ -23,7 +23,7 @@ pub returns-in-Ok-clause-right : goal.returns-in-Ok-clause-right
 returns-in-Ok-clause-right c = (
   c.requires.left,
   subst (λ (s : SessionParts). IsLatest (the_labelled s.network) (the_history s.history) c.args.x.0 c.in-Ok.moment) c.self.view_is
-  (record { waits = c.in-Ok.ensures.waits; last = c.in-Ok.ensures.last }),
+      (record { waits = c.in-Ok.ensures.waits; last = c.in-Ok.ensures.last }),
 )
 
 pub returns-in-Ok-clause-told : goal.returns-in-Ok-clause-told

@@ -28,12 +28,12 @@ returns-in-Some-clause-right c =
     let is = c.in-Some.is in (
       right_verdict s _ c.network.ensures.session c.requires.yes.1,
       subst (λ (g : HistoryParts). IsWhatIsNext (the_labelled s.network) (the_history g) n) c.history.ensures.history
-      (subst (λ (l : LabelledParts). IsWhatIsNext (the_labelled l) h n) c.network.ensures.network (record {
-        next = subst (λ (o : Option NextMoment). IfSome o (λ n. IsNext m h n.moment)) is told.next;
-        named = subst (λ (o : Option NextMoment). IfSome o (λ n. (x : ℕ) → Contains (map (λ y. y.0) n.named.items) x ↔ IsNamed m h n.moment x)) is told.named;
-        awaited = subst (λ (o : Option NextMoment). IfSome o (λ n. (p : ℕ) → Contains (map (λ q. q.index) n.awaited.items) p ↔ IsAwaited m h n.moment p))
-            is told.awaited;
-      })),
+          (subst (λ (l : LabelledParts). IsWhatIsNext (the_labelled l) h n) c.network.ensures.network (record {
+            next = subst (λ (o : Option NextMoment). IfSome o (λ n. IsNext m h n.moment)) is told.next;
+            named = subst (λ (o : Option NextMoment). IfSome o (λ n. (x : ℕ) → Contains (map (λ y. y.0) n.named.items) x ↔ IsNamed m h n.moment x)) is told.named;
+            awaited = subst (λ (o : Option NextMoment). IfSome o (λ n. (p : ℕ) → Contains (map (λ q. q.index) n.awaited.items) p ↔ IsAwaited m h n.moment p))
+                is told.awaited;
+          })),
     )
 
 pub returns-in-None-clause-right : goal.returns-in-None-clause-right
@@ -44,7 +44,7 @@ returns-in-None-clause-right c =
     let done = subst (λ (o : Option NextMoment). IsNone o ↔ IsAllDone m h) c.in-None.is c.in_ok-found.ensures.done in (
       right_verdict s _ c.network.ensures.session c.requires.yes.1,
       subst (λ (g : HistoryParts). IsAllDone (the_labelled s.network) (the_history g)) c.history.ensures.history
-      (subst (λ (l : LabelledParts). IsAllDone (the_labelled l) h) c.network.ensures.network (done.0 refl)),
+          (subst (λ (l : LabelledParts). IsAllDone (the_labelled l) h) c.network.ensures.network (done.0 refl)),
     )
 
 pub returns-in-Some-clause-told : goal.returns-in-Some-clause-told
@@ -53,12 +53,11 @@ returns-in-Some-clause-told c =
     let o = Some c.in-Some.moment in
     let h = the_history c.history.result.now in
     let bounds = the_bounds c.args.plan.now.bounds in
-    let told = subst (λ (p : Option NextMoment). TellsNext (the_labelled c.network.result.now) h bounds p) c.in-Some.is c.in_ok-found.ensures.told in
-    (
+    let told = subst (λ (p : Option NextMoment). TellsNext (the_labelled c.network.result.now) h bounds p) c.in-Some.is c.in_ok-found.ensures.told in (
       c.requires.yes,
       subst (λ (bs : List Bound). TellsNext (the_labelled s.network) (the_history s.history) bs o) c.requires.live
-      (subst (λ (g : HistoryParts). TellsNext (the_labelled s.network) (the_history g) bounds o) c.history.ensures.history
-      (subst (λ (l : LabelledParts). TellsNext (the_labelled l) h bounds o) c.network.ensures.network told)),
+          (subst (λ (g : HistoryParts). TellsNext (the_labelled s.network) (the_history g) bounds o) c.history.ensures.history
+          (subst (λ (l : LabelledParts). TellsNext (the_labelled l) h bounds o) c.network.ensures.network told)),
     )
 
 pub returns-in-None-clause-told : goal.returns-in-None-clause-told
@@ -66,10 +65,9 @@ returns-in-None-clause-told c =
     let s = c.args.self.now in
     let h = the_history c.history.result.now in
     let bounds = the_bounds c.args.plan.now.bounds in
-    let told = subst (λ (p : Option NextMoment). TellsNext (the_labelled c.network.result.now) h bounds p) c.in-None.is c.in_ok-found.ensures.told in
-    (
+    let told = subst (λ (p : Option NextMoment). TellsNext (the_labelled c.network.result.now) h bounds p) c.in-None.is c.in_ok-found.ensures.told in (
       c.requires.yes,
       subst (λ (bs : List Bound). TellsNext (the_labelled s.network) (the_history s.history) bs None) c.requires.live
-      (subst (λ (g : HistoryParts). TellsNext (the_labelled s.network) (the_history g) bounds None) c.history.ensures.history
-      (subst (λ (l : LabelledParts). TellsNext (the_labelled l) h bounds None) c.network.ensures.network told)),
+          (subst (λ (g : HistoryParts). TellsNext (the_labelled s.network) (the_history g) bounds None) c.history.ensures.history
+          (subst (λ (l : LabelledParts). TellsNext (the_labelled l) h bounds None) c.network.ensures.network told)),
     )

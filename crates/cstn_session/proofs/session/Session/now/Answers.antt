@@ -7,5 +7,5 @@ pub record-requires : goal.record-requires
 record-requires c =
     let s = c.args.self.now in
     let later = subst (λ (h : HistoryParts). IsKeptFor (the_labelled s.network) h) (sym (c.in_ok-later.ensures.equal ∙ c.history.ensures.history))
-        c.history.ensures.session.execution.kept in
+    c.history.ensures.session.execution.kept in
     record { kept = c.pass.ensures.kept (the_labelled s.network) later }
