@@ -1,24 +1,32 @@
 """What a document leaves open, or says twice: steps without an upper limit, ranges that a plan takes at their
 shortest, reactions that are written again by hand, and constraints that are never in force."""
 import collections
+from collections.abc import Callable, Iterator
 
-from names import shown
-from networks import constraint, literals, ticks, where, written
+from .names import shown
+from .networks import Network, constraint, literals, ticks, where, written
+from .shapes import Data, Marks, Tree
 
 MOST_CASES = 16
 MOST_CHANGES = 32
 
+# Says of each time-point with a case whether it can come after the deadline, yes, no or not known; or nothing of all.
+Beyond = Callable[[list[tuple[str, Marks]]], list[bool | None] | None]
 
-def is_within(case, other):
+# Of each time-point the ends and the labels of the constraints that begin there, with what these labels mark.
+Edges = dict[str, dict[tuple[str, str], Marks]]
+
+
+def is_within(case: Marks, other: Marks) -> bool:
     """Whether a case is a part of another, which asks for less."""
     return other.items() <= case.items()
 
 
-def without(case, letter):
+def without(case: Marks, letter: str) -> Marks:
     return {it: value for it, value in case.items() if it != letter}
 
 
-def widened(case, other):
+def widened(case: Marks, other: Marks) -> Marks | None:
     """A case without a letter that another one has with the other sign, where that asks for nothing more; or none."""
     for letter, value in case.items():
         if other.get(letter, value) != value and is_within(case, without(other, letter)):
@@ -33,10 +41,11 @@ class Cover:
     It is given up where it has too many, or is changed too often; then what it does not cover is not known.
     """
 
-    def __init__(self):
-        self.cases, self.changes, self.is_given_up = [], 0, False
+    def __init__(self) -> None:
+        self.cases: list[Marks] = []
+        self.changes, self.is_given_up = 0, False
 
-    def add(self, case):
+    def add(self, case: Marks) -> list[Marks]:
         """Takes in a case; it answers the wider ones that are new by it."""
         if self.is_given_up and case or any(is_within(case, it) for it in self.cases):
             return []
@@ -54,7 +63,7 @@ class Cover:
         self.is_given_up = {} not in self.cases and (len(self.cases) > MOST_CASES or self.changes > MOST_CHANGES)
         return new
 
-    def lacks(self, net, own):
+    def lacks(self, net: Network, own: Marks) -> list[Marks] | None:
         """The cases within a case that are not covered, each as wide as can be, with what has to hold for its letters
         to be asked; or none where that is not known."""
         cases = [own]
@@ -65,7 +74,7 @@ class Cover:
         return None if cases and self.is_given_up else cases
 
 
-def uncovered(net, cases, cover):
+def uncovered(net: Network, cases: list[Marks], cover: Marks) -> list[Marks]:
     """What a label leaves of some cases."""
     grown = []
     for case in cases:
@@ -77,9 +86,10 @@ def uncovered(net, cases, cover):
     return [it for it in grown if not any(other.items() < it.items() for other in grown)]
 
 
-def limited_from_start(net):
+def limited_from_start(net: Network) -> dict[str, Cover]:
     """For each time-point its cover by constraints that limit it, one after another, from the origin on."""
-    covers, edges = {name: Cover() for name in net.names}, {}
+    covers = {name: Cover() for name in net.names}
+    edges: Edges = {}
     for _, source, target, _, label in net.lowered:
         if source != target:
             edges.setdefault(source, {})[target, label] = literals(label)
@@ -95,7 +105,7 @@ def limited_from_start(net):
     return covers
 
 
-def give_up_behind(covers, edges):
+def give_up_behind(covers: dict[str, Cover], edges: Edges) -> None:
     """Where a cover was given up, those that come of it are not known either."""
     left = [name for name, cover in covers.items() if cover.is_given_up]
     while left:
@@ -105,7 +115,7 @@ def give_up_behind(covers, edges):
                 left.append(target)
 
 
-def unlimited(net):
+def unlimited(net: Network) -> tuple[list[tuple[str, Marks, bool]], list[str]]:
     """Each time-point but the origin with the cases in which no constraint and no label limits it from above; and
     those of which that is not known.
 
@@ -126,7 +136,7 @@ def unlimited(net):
     return found, unknown
 
 
-def tell_unlimited(net, tried):
+def tell_unlimited(net: Network, tried: Beyond) -> tuple[list[Data], list[str]]:
     """The steps without an upper limit, as data and in words; `tried` says of each whether it can come after the
     deadline, yes, no or not known, or nothing where that is too much to try."""
     found, unknown = unlimited(net)
@@ -143,16 +153,16 @@ def tell_unlimited(net, tried):
     return data, lines
 
 
-def in_words(head, found):
+def in_words(head: str, found: list[tuple[str, Marks, bool]]) -> list[str]:
     """Steps with the cases in which they have no limit, in words."""
-    cases = {}
+    cases: dict[str, list[str]] = {}
     for name, case, whole in found:
         cases.setdefault(name, []).extend([] if whole else [where(written(case))[2:]])
     names = [shown(name) + (f" ({', or '.join(each)})" if each else "") for name, each in cases.items()]
     return [f"{head}: {'; '.join(names)}."] if names else []
 
 
-def ranges(net):
+def ranges(net: Network) -> list[tuple[int, int, str, str, int, int]]:
     """Each two constraints with one label that say a range: the ids of the least and the most, and what they say."""
     most = {}
     for number, (source, target, value, label) in enumerate(net.constraints):
@@ -166,7 +176,7 @@ def ranges(net):
     return found
 
 
-def leaves(items, known, moments):
+def leaves(items: Tree, known: Marks, moments: dict[str, int]) -> Iterator[tuple[Marks, dict[str, int]]]:
     """For each way through a tree the outcomes that were asked, and the moments of what is executed."""
     moments = dict(moments)
     for item in items:
@@ -178,7 +188,7 @@ def leaves(items, known, moments):
     yield known, moments
 
 
-def shortest(net, tree):
+def shortest(net: Network, tree: Tree) -> list[tuple[int, int, str, str, int, int, bool]]:
     """The ranges that a plan takes at their shortest, each with whether it does so in every case where it counts."""
     ways, found = list(leaves(tree, {}, {})), []
     for least, most, first, then, low, high in ranges(net):
@@ -191,7 +201,7 @@ def shortest(net, tree):
     return found
 
 
-def tell_shortest(net, tree):
+def tell_shortest(net: Network, tree: Tree) -> tuple[list[Data], list[str]]:
     """The ranges that a plan takes at their shortest, as data and in words."""
     found, lines = shortest(net, tree), []
     for least, most, first, then, low, high, every in found:
@@ -208,12 +218,12 @@ def tell_shortest(net, tree):
     return data, lines
 
 
-def bits(marks):
+def bits(marks: Marks) -> int:
     """A label as a number, of which another is a part where all of its bits are."""
-    return sum(1 << (2 * ord(letter) + value) for letter, value in marks.items())
+    return sum(1 << (2 * ord(letter) + bool(value)) for letter, value in marks.items())
 
 
-def waits(net, observer):
+def waits(net: Network, observer: str) -> Iterator[tuple[int, str, int]]:
     """The constraints by which a time-point comes at least some ticks after an observer, without a label of its own
     for what that tells."""
     letter = net.observed[observer]
@@ -224,7 +234,7 @@ def waits(net, observer):
             yield number, source, -most
 
 
-def disagreeing(net):
+def disagreeing(net: Network) -> list[tuple[int, str, int]]:
     """The constraints that seem to repeat a reaction by hand and have another number.
 
     These are shorter ones, and longer ones that stand there twice or more while none has the number of the reaction.
@@ -234,7 +244,8 @@ def disagreeing(net):
         reaction, all_waits = net.reaction(observer), list(waits(net, observer))
         if reaction < 2:
             continue
-        counts, longer = collections.Counter(least for _, _, least in all_waits), {}
+        counts = collections.Counter(least for _, _, least in all_waits)
+        longer: dict[str, set[int]] = {}
         for number, source, least in all_waits:
             if least >= reaction:
                 longer.setdefault(source, set()).add(bits(net.forces[number]))
@@ -246,7 +257,7 @@ def disagreeing(net):
     return found
 
 
-def tell_disagreeing(net):
+def tell_disagreeing(net: Network) -> tuple[list[Data], list[str]]:
     """The constraints that seem to repeat a reaction and do not agree with it, as data and in words."""
     found, lines = disagreeing(net), []
     for number, observer, least in found:
@@ -263,7 +274,7 @@ def tell_disagreeing(net):
     return data, lines
 
 
-def tell_never(net):
+def tell_never(net: Network) -> tuple[list[int], list[str]]:
     """The constraints that are never in force, since their labels exclude each other, as data and in words."""
     found = sorted(net.never)
     lines = [f"{net.called(number)}: {constraint(*net.constraints[number])}" for number in found]
@@ -272,7 +283,7 @@ def tell_never(net):
     return found, lines
 
 
-def repeating(net):
+def repeating(net: Network) -> Iterator[tuple[int, str, str]]:
     """The constraints by which a time-point waits for an outcome for which its label makes it wait anyhow, as long."""
     for number, (source, target, most, _) in enumerate(net.constraints):
         letter = net.observed.get(target)
@@ -281,7 +292,7 @@ def repeating(net):
             yield number, source, target
 
 
-def tell_repeating(net):
+def tell_repeating(net: Network) -> tuple[list[Data], list[str]]:
     """The constraints that only repeat what a label asks for, as data and in words."""
     found = list(repeating(net))
     lines = [f"{net.called(number)}: the label of {shown(source)} makes it wait until {net.observed[target]} is known"

@@ -2,14 +2,15 @@
 import functools
 import re
 
-from names import printed, shown
-from networks import FOR_A_LABEL, constraint, literals, ticks, where
+from .names import printed, shown
+from .networks import FOR_A_LABEL, Network, constraint, literals, ticks, where
+from .shapes import Data
 
 STEP = re.compile(r"\d+ (base|chain|wait) ")
 LONGEST_TURN = 24
 
 
-def steps_of(text):
+def steps_of(text: str) -> list[str]:
     """The lines of the first refutation in a text, or none; a line `no LOAD` without steps behind it is a verdict
     alone."""
     lines = text.split("\n")
@@ -22,7 +23,7 @@ def steps_of(text):
     return found
 
 
-def dropped(letter, labels):
+def dropped(letter: str, labels: list[str]) -> str:
     """The value that a letter is taken to have where a step drops it, in words, or nothing where no label has it."""
     marks = [sign for label in labels for sign, found in re.findall(r"([¬!?]?)([A-Za-z])", label) if found == letter]
     if not marks:
@@ -30,13 +31,13 @@ def dropped(letter, labels):
     return "true" if "" in marks else "false" if set(marks) & {"¬", "!"} else "not known yet"
 
 
-def premises(line):
+def premises(line: str) -> list[int]:
     """The steps that a step names."""
     parts = line.split(" ")
     return [int(it) for it in (parts[3:4] if parts[1] == "chain" else parts[2:4] if parts[1] == "wait" else [])]
 
 
-def turns(steps):
+def turns(steps: list[str]) -> list[int]:
     """For each step the length of a turn where it repeats, with greater moments, the one a turn before it, for three
     turns and more; else 0."""
     shapes = []
@@ -53,8 +54,8 @@ def turns(steps):
             run = run + 1 if shapes[at] == shapes[at - length] else 0
             first = first if run > 1 else at + length
             if run >= 3 * length and not found[at]:
-                for back in range(first, at + 1):
-                    found[back] = found[back] or length
+                for turn in range(first, at + 1):
+                    found[turn] = found[turn] or length
                 first = at + 1
     return found
 
@@ -62,19 +63,22 @@ def turns(steps):
 class Refutation:
     """The steps of a text, read by the network that they are to refute."""
 
-    def __init__(self, net, text):
+    def __init__(self, net: Network, text: str) -> None:
         self.net, self.constraints, self.steps = net, net.lowered, steps_of(text)
-        self.bounds, self.used, self.last, self.done = {}, set(), None, net.awaited or {}
+        self.bounds: dict[int, tuple[str, int, str]] = {}
+        self.used: set[int | str] = set()
+        self.last: tuple[str, int, str] = ("Z", 0, "-")
+        self.done: dict[str, int] = net.awaited or {}
 
     @functools.cached_property
-    def turns(self):
+    def turns(self) -> list[int]:
         return turns(self.steps)
 
-    def numbers(self):
+    def numbers(self) -> list[int]:
         """The constraints that the steps use, by their places in the network without labels."""
         return sorted(it for it in self.used if isinstance(it, int))
 
-    def called(self, number, with_line=False):
+    def called(self, number: int, with_line: bool = False) -> str:
         """A constraint by its id in the document, or by the label that it stands for."""
         if number >= len(self.constraints):
             return f"constraint {number}, which FILE lacks"
@@ -84,7 +88,7 @@ class Refutation:
         asks = f", which asks for {self.net.observed[target]}" if len(literals(label)) > 1 else ""
         return f"the label of {shown(source)}{asks}"
 
-    def beside(self, number):
+    def beside(self, number: int) -> str:
         """What is to be said beside a constraint for a label: who asks and who tells, each with its line, and what can
         be done."""
         net, (own, source, target, *_) = self.net, self.constraints[number]
@@ -101,28 +105,28 @@ class Refutation:
                 f"{net.told_at(target, 'Obs')} tells {letter}; what may help is another label{shorter}, or an earlier "
                 f"{name}, if the other constraints let it{left if is_left else ''})")
 
-    def says(self, number):
+    def says(self, number: int) -> str:
         """A constraint that the steps use, in words."""
         return f"{self.called(number, True)}: {self.constraint(number)}{self.beside(number)}"
 
-    def constraint(self, number):
+    def constraint(self, number: int) -> str:
         """What a constraint says; where it waits for an outcome whose observer was done, until when."""
         own, source, target, most, label = self.constraints[number]
         if own is None and target in self.done:
             return constraint(source, "Z", -self.done[target], label)
         return constraint(source, target, most, label)
 
-    def until(self, name):
+    def until(self, name: str) -> str:
         """Until when the outcome of an observer is awaited that was done, in words."""
         return "after the deadline" if self.done[name] > self.net.deadline else str(self.done[name])
 
-    def is_of_what_was_done(self, used):
+    def is_of_what_was_done(self, used: str | int) -> bool:
         """Whether what steps use, an observer or a constraint, rests on the moment of an observer that was done."""
         if isinstance(used, str):
             return used in self.done
         return self.constraints[used][0] is None and self.constraints[used][2] in self.done
 
-    def advice(self):
+    def advice(self) -> str:
         """What may be done about the steps, in words."""
         if self.net.awaited is None:
             return "change a constraint that the steps use, or shorten a reaction"
@@ -130,7 +134,7 @@ class Refutation:
         waits = any(map(self.is_of_what_was_done, self.used))
         return "change a constraint that the steps use" + (", or `await` an earlier moment" if waits else "")
 
-    def uses(self):
+    def uses(self) -> list[Data]:
         """Each constraint and each reaction of more than a tick that the steps use, as data."""
         found = []
         for number in self.numbers():
@@ -141,10 +145,10 @@ class Refutation:
                           "says": self.constraint(number)})
         return found
 
-    def reactions(self):
+    def reactions(self) -> list[str]:
         return [name for name in self.net.names if name in self.used and self.net.reaction(name) > 1]
 
-    def uses_in_words(self):
+    def uses_in_words(self) -> list[str]:
         """Each constraint and each reaction of more than a tick that the steps use, in words."""
         lines = [self.says(number) for number in self.numbers()]
         for name in self.reactions():
@@ -155,14 +159,14 @@ class Refutation:
             lines.append(f"They use {uses}.")
         return lines
 
-    def unknown_to(self, name, letter, label, labels):
+    def unknown_to(self, name: str, letter: str | None, label: str, labels: list[str]) -> str:
         """That a bound on an observer counts in every case of what it observes, where these labels have the letter and
         its own has not."""
         if not letter or letter in label or not dropped(letter, labels):
             return ""
         return f" (in every case of {letter}, which {shown(name)} does not know yet)"
 
-    def step(self, number):
+    def step(self, number: int) -> str:
         """A step in words; what it bounds and what it uses is kept."""
         net, parts = self.net, self.steps[number].split(" ")
         rule, (name, least, label) = parts[1], parts[-3:]
@@ -183,7 +187,7 @@ class Refutation:
         unknown = self.unknown_to(name, letter, label, [beside_seen, premise[2]])
         return f"{says}{unknown}: from {parts[3]} and {parts[2]}: {self.wait(seen, name, premise)}"
 
-    def wait(self, seen, name, premise):
+    def wait(self, seen: str, name: str, premise: tuple[str, int, str]) -> str:
         """Why a time-point waits for what an observer tells, in words."""
         net, says = self.net, shown(name)
         self.used.add(seen)
@@ -194,7 +198,7 @@ class Refutation:
             known = f"is awaited until {self.until(seen)}"
         return f"what {shown(seen)} tells {known}; until then {says} {until}"
 
-    def in_words(self, wrong):
+    def in_words(self, wrong: int | None) -> list[str]:
         """Each step in words, turns that repeat once, and which is wrong."""
         words, left = [], 0
         for number, line in enumerate(self.steps):
@@ -212,7 +216,7 @@ class Refutation:
             words.append(f"{number}: {says}" + (self.fault(number) if number == wrong else ""))
         return words
 
-    def fault(self, number):
+    def fault(self, number: int) -> str:
         """What is to be said beside a step that `replay` names."""
         parts = self.steps[number].split(" ")
         if parts[1] == "chain" and int(parts[2]) >= len(self.constraints):
@@ -221,7 +225,7 @@ class Refutation:
         return f" (this step does not follow by its rule{last})"
 
 
-def missing_ticks(deadline, tight, tried, advice):
+def missing_ticks(deadline: int, tight: str, tried: int, advice: str) -> tuple[Data, list[str]]:
     """How many ticks a plan lacks by what `tight` answers with a later deadline, or else what may be done, as data and
     in words."""
     least, full = re.match(r"least (\d+)\n", tight), re.match(r"full (\d+)\n", tight)
@@ -236,7 +240,7 @@ def missing_ticks(deadline, tight, tried, advice):
                                f"{full[1]} bounds are derived. `tight` tells it, and may take long."] if full else []
 
 
-def accepted_no(refutation, text, missing):
+def accepted_no(refutation: Refutation, text: str, missing: tuple[Data, list[str]]) -> tuple[Data, list[str]]:
     """A refutation that `replay` accepts, as data and in words: what is missing, what is used, each once, and the
     steps."""
     net, steps = refutation.net, refutation.in_words(None)
@@ -262,13 +266,13 @@ def accepted_no(refutation, text, missing):
 
 
 EDITED = ("PROOF is of another document, or of edits: write these into a copy of FILE, check that, and explain its "
-          "no, or tell the edits to `follow`, keep what `rest` writes as NEW, and call `tools/explain --conflict "
+          "no, or tell the edits to `follow`, keep what `rest` writes as NEW, and call `./cstn explain --conflict "
           "NEW`.")
 ANOTHER = ("Say the `--deadline N` of the check, where it had one; of a no of `edit`, write the edits into a copy of "
            "FILE first; of one of `follow`, name as FILE what `rest` wrote.")
 
 
-def rejected_no(refutation, replay):
+def rejected_no(refutation: Refutation, replay: str) -> tuple[Data, list[str]]:
     """A refutation that `replay` does not accept, as data and in words."""
     net, steps = refutation.net, refutation.steps
     form, wrong = re.fullmatch(r"script (\d+)", replay), re.fullmatch(r"rejected (\d+)", replay)

@@ -2,18 +2,19 @@
 `rest` wrote."""
 import re
 
-from asking import MOST_TRIED, Asked, kept
-from conflicts import tell_giving_way
-from following import awaited, rests, stuck, tell_followed
-from networks import Network, ticks
-from refutations import Refutation, accepted_no
-from tries import CHECKS_OF_A_LIMIT, MOST_LIMITS, awaiting, giving_way
+from .asking import MOST_TRIED, Asked, kept
+from .conflicts import tell_giving_way
+from .following import Heard, awaited, rests, stuck, tell_followed
+from .networks import Network, ticks
+from .refutations import Refutation, accepted_no
+from .shapes import Data
+from .tries import CHECKS_OF_A_LIMIT, MOST_LIMITS, awaiting, giving_way
 
 MOST_TOLD = 12
 NO_REST = ("The steps after `{}` are of what was left then. Ask `rest` right after that `check`, before anything else "
            "is told, and give the session with what it writes; or keep that document, from `<?xml` on, in a file "
-           "REST, these steps from `{}` on in a file STEPS, and call tools/explain REST STEPS.")
-TOO_MUCH = ("By how much is not tried, since that is much in so large a plan or session: ask `tools/explain "
+           "REST, these steps from `{}` on in a file STEPS, and call ./cstn explain REST STEPS.")
+TOO_MUCH = ("By how much is not tried, since that is much in so large a plan or session: ask `./cstn explain "
             "--conflict` of what `rest` writes.")
 ANOTHER = ("This session is not of FILE with the deadline {}: it begins with `{}`, and `check` says {}. Its ids and "
            "moments are of the document that was followed: name that one, not what `rest` wrote, and the "
@@ -23,13 +24,14 @@ MAY_BE_REST = ("FILE may be what `rest` wrote. Then these are other constraints:
                "that was followed, so name that one.")
 
 
-def tell_stuck(own, steps, rest, done):
+def tell_stuck(own: Network, steps: str, rest: str, done: set[str]) -> tuple[Data, list[str]]:
     """The steps of a `check` of `follow`, over what `rest` wrote behind it, as data and in words; or what is missing
     for that."""
     head = steps.split("\n")[0]
     with kept(rest) as path:
         asked = Asked(path, [])
-        asked.net = Network(rest) if rest else None
+        if rest:
+            asked.net = Network(rest)
         if not rest or asked.replayed(steps):
             return {"answer": "none", "says": [NO_REST.format(head, head)]}, [NO_REST.format(head, head)]
         asked.net.awaited = awaited(asked.net, own, done)
@@ -39,7 +41,7 @@ def tell_stuck(own, steps, rest, done):
                   "behind it, and not of FILE.", *lines]
 
 
-def tell_told_again(asked, heard, numbers):
+def tell_told_again(asked: Asked, heard: Heard, numbers: list[int]) -> tuple[Data, list[str]]:
     """How far each limit that is to blame would have to give way, and each wait be shorter, by a session that is told
     the same lines, as data and in words."""
     known, deadline = asked.net.constraints, heard.deadline if heard.deadline is not None else asked.net.deadline
@@ -55,7 +57,7 @@ def tell_told_again(asked, heard, numbers):
     return {"limits": limits, "waits": waits}, lines + more
 
 
-def tell_left(rest):
+def tell_left(rest: str) -> tuple[Data, list[str]]:
     """How far the limits of what `rest` wrote behind a blame would have to give way, in its own ids, as data and in
     words."""
     with kept(rest) as path:
@@ -75,7 +77,7 @@ def tell_left(rest):
     return {"limits_left": limits}, missed + lines
 
 
-def documents_by_line(text):
+def documents_by_line(text: str) -> dict[int, str]:
     """The documents that `rest` wrote, by the lines at which they begin."""
     found, line, at = {}, 0, 0
     for first, last in rests(text):
@@ -87,11 +89,11 @@ def documents_by_line(text):
 class HowFar:
     """By how much what is to blame was missed, of the last answers, as long as that is not much for all of them."""
 
-    def __init__(self, asked, text):
+    def __init__(self, asked: Asked, text: str) -> None:
         self.asked, self.spent, self.documents = asked, 0, documents_by_line(text)
         self.early = len(re.findall(r"^blame \d", text, re.M)) - MOST_TOLD
 
-    def tell(self, heard, numbers, at):
+    def tell(self, at: int, heard: Heard, numbers: list[int]) -> tuple[Data, list[str]]:
         """By the typed lines, or else by what `rest` wrote right behind the answer on this line, as data and words."""
         rest = None if heard.typed else self.documents.get(at + 1)
         if not numbers:
@@ -108,7 +110,7 @@ class HowFar:
         return tell_left(rest) if rest else tell_told_again(self.asked, heard, numbers)
 
 
-def tell_session(asked, text):
+def tell_session(asked: Asked, text: str) -> tuple[int, Data, list[str]]:
     """What `follow` answered: its answers by the lines of the document, and the steps of each `check` over what was
     left then."""
     begun = re.match(r"follow \d+\n((?:yes|no) \d+)\n", text)

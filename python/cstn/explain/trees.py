@@ -1,33 +1,36 @@
 """A strategy tree in words, and what breaks at a line of one."""
-from names import printed, shown
-from networks import constraint, literals, ticks
+from collections.abc import Iterator
+
+from .names import printed, shown
+from .networks import Network, constraint, literals, ticks
+from .shapes import Marks, Tree
 
 # A tree has this many lines at most, times what is looked at for each.
 MOST_OF_A_LOOK = 20000
 MOST_IN_WORDS = 200000
 
 
-def size(net):
+def size(net: Network) -> int:
     """What a tree may have to say: the time-points and the constraints, in each way through it."""
     return (len(net.names) + len(net.constraints)) << len(net.observers)
 
 
-def tree_of(net, lines):
+def tree_of(net: Network, lines: list[str]) -> Tree:
     """The lines of a tree as data: what is executed at each moment and what is left out; then what is asked, with a
     tree for each outcome. An outcome is not asked for where nobody who is executed would tell it."""
     return branch_of(net, iter(lines), {})
 
 
-def branch_of(net, lines, known):
-    items = []
+def branch_of(net: Network, lines: Iterator[str], known: Marks) -> Tree:
+    items: Tree = []
     for line in lines:
         parts = line.split(" ")
         if parts[0] == "done":
             break
         if parts[0] == "ask":
-            told = {value: branch_of(net, lines, known | {parts[1]: value}) for value in (True, False)}
-            asked = [{"ask": parts[1], "true": told[True], "false": told[False]}]
-            items += asked if net.is_told(parts[1], known) else told[False]
+            behind = {value: branch_of(net, lines, known | {parts[1]: value}) for value in (True, False)}
+            asked = [{"ask": parts[1], "true": behind[True], "false": behind[False]}]
+            items += asked if net.is_told(parts[1], known) else behind[False]
             break
         told = [printed(name) for name in parts[2:]]
         names = [name for name in told if net.is_executed(name, known)]
@@ -37,7 +40,7 @@ def branch_of(net, lines, known):
     return items
 
 
-def tree_in_words(items, depth=0):
+def tree_in_words(items: Tree, depth: int = 0) -> list[str]:
     """A tree in words, each outcome deeper than what is asked."""
     words, indent = [], "  " * depth
     for item in items:
@@ -51,17 +54,17 @@ def tree_in_words(items, depth=0):
     return words
 
 
-def unknown_in_words(letters):
+def unknown_in_words(letters: list[str]) -> str:
     return f" (before {' and '.join(letters)} {'is' if len(letters) == 1 else 'are'} known)" if letters else ""
 
 
 class Branch:
     """What stands above a line of a tree: moments, outcomes, the last moment, and the letters asked since."""
 
-    def __init__(self, moments, known, last, asked):
+    def __init__(self, moments: dict[str, int], known: dict[str, bool], last: int | None, asked: list[str]) -> None:
         self.moments, self.known, self.last, self.asked = moments, known, last, asked
 
-    def behind(self, parts):
+    def behind(self, parts: list[str]) -> "list[Branch]":
         """The branches behind a line, the first one last."""
         if parts[0] == "at":
             self.moments.update({printed(name): int(parts[1]) for name in parts[2:]})
@@ -71,7 +74,7 @@ class Branch:
                 for value in values]
 
 
-def what_breaks(net, lines, number):
+def what_breaks(net: Network, lines: list[str], number: int) -> list[str]:
     """Why the line of this number, counted from 1, breaks in a tree of the network, in words; nothing where that isn't
     found."""
     branches = [Branch({}, {}, None, [])]
@@ -88,7 +91,7 @@ def what_breaks(net, lines, number):
     return what_breaks_at(net, above, int(parts[1]), [printed(name) for name in parts[2:]])
 
 
-def what_breaks_at(net, above, moment, names):
+def what_breaks_at(net: Network, above: Branch, moment: int, names: list[str]) -> list[str]:
     """Why time-points cannot be executed at a moment behind what stands above."""
     says, twice = [], [name for at, name in enumerate(names) if name in above.moments or name in names[:at]]
     if above.last is not None and moment <= above.last:
@@ -104,7 +107,7 @@ def what_breaks_at(net, above, moment, names):
     return says + unmet(net, above, above.moments | dict.fromkeys(names, moment), set(names))
 
 
-def unmet(net, above, moments, names):
+def unmet(net: Network, above: Branch, moments: dict[str, int], names: set[str]) -> list[str]:
     """The constraints of some time-points, among these moments, that are not met where what is asked above holds."""
     says = []
     for number, source, target, most, label in net.lowered:

@@ -1,10 +1,13 @@
 """Answers of `follow` in words, with the lines of the document: what is next, until when a step can wait, what is to
 blame."""
 import bisect
+import functools
 import re
+from collections.abc import Callable, Iterator
 
-from names import printed, shown
-from networks import constraint, counts_where, ticks
+from .names import printed, shown
+from .networks import Network, constraint, counts_where, ticks
+from .shapes import Data, Marks
 
 # The answers that are put into words.
 ANSWER = re.compile(r"next (?P<next>[0-9]{1,10})(?: do (?P<do>[^ ]+(?: [^ ]+)*?))?(?: wait (?P<wait>[A-Za-z]+))?|"
@@ -25,24 +28,24 @@ STEPS = re.compile(r"^no [0-9]{1,10}\n(?:\d+ (?:base|chain|wait) .*\n)+", re.M)
 REST, LAST = re.compile(r"^<\?xml ", re.M), "\n</graphml>\n"
 
 
-def is_answer(text):
+def is_answer(text: str) -> bool:
     """Whether a word is an answer that is put into words."""
     return bool(ANSWER.fullmatch(text))
 
 
-def is_followed(text):
+def is_followed(text: str) -> bool:
     """Whether a text is what `follow` wrote, from its start or from such an answer on."""
     return bool(re.match(r"follow \d+\n", text) or is_answer(text.split("\n")[0]))
 
 
-def is_typed(text):
+def is_typed(text: str) -> bool:
     """Whether a text begins with a line that is typed into a session, or with the call behind `$ `."""
     line = text.split("\n")[0]
     return bool(re.match(r"\$ |(?:> )?(?:(?:did|saw|now|await) \d+\b|(?:add|remove|change|deadline|by) [^ ]|"
                          r"(?:next|check|rest)$)", line))
 
 
-def rests(text):
+def rests(text: str) -> list[tuple[int, int]]:
     """Where the documents stand that `rest` wrote, each with its first place and its last."""
     found, at = [], 0
     while begun := REST.search(text, at):
@@ -54,14 +57,14 @@ def rests(text):
     return found
 
 
-def lacking(net, answer):
+def lacking(net: Network, answer: re.Match[str]) -> list[str]:
     """What an answer names that the document lacks, in words."""
     names = [printed(name) for name in (answer["do"] or answer["name"] or "").split(" ") if name]
     lacks = [f"no time-point {shown(name)}" for name in names if name not in net.places]
     return lacks + [f"nobody who observes {letter}" for letter in answer["wait"] or "" if letter not in net.observers]
 
 
-def placed(net, name):
+def placed(net: Network, name: str) -> tuple[Data, str]:
     """A time-point with its line in the document, as data and in words."""
     line = net.lines.get((name, "id"))
     return {"name": name, "line": line}, f"{shown(name)} (line {line})" if line else shown(name)
@@ -71,11 +74,17 @@ class Heard:
     """What typed lines tell so far: what was done when, at what moment each outcome was last awaited, what is known,
     how late it is, and the edits. Refused lines tell nothing."""
 
-    def __init__(self):
-        self.typed, self.done, self.awaited, self.known, self.now = False, {}, {}, {}, 0
-        self.values, self.changed, self.deadline, self.journal = {}, set(), None, []
+    def __init__(self) -> None:
+        self.typed, self.now = False, 0
+        self.done: dict[str, int] = {}
+        self.awaited: dict[str, int] = {}
+        self.known: Marks = {}
+        self.values: dict[int, int] = {}
+        self.changed: set[int] = set()
+        self.deadline: int | None = None
+        self.journal: list[str] = []
 
-    def take(self, line, answer):
+    def take(self, line: str, answer: str) -> None:
         """Hears a typed line, or none, with its answer."""
         fact, edit, to = FACT.fullmatch(line), EDIT.fullmatch(line), re.fullmatch(r"(?:added|(changed)) (\d+)", answer)
         self.typed = self.typed or bool(line)
@@ -92,7 +101,7 @@ class Heard:
         elif edit and to:
             self.values[int(to[2])] = int(edit["value"] or edit["added"])
 
-    def take_fact(self, kind, moment, words):
+    def take_fact(self, kind: str, moment: int, words: list[str]) -> None:
         if kind == "await":
             self.awaited.update(dict.fromkeys(filter(None, words), moment))
             return
@@ -103,7 +112,7 @@ class Heard:
             self.known[words[0]] = words[1] == "true"
 
 
-def told_of(net, name, heard):
+def told_of(net: Network, name: str, heard: Heard) -> str:
     """Since when the outcome that a time-point observes is awaited, in words, and what to do if it should be here."""
     letter, reaction = net.observed[name], net.reaction(name)
     moment = heard.awaited.get(letter, heard.done[name] + reaction if name in heard.done else None)
@@ -116,7 +125,7 @@ def told_of(net, name, heard):
     return says + (", so it should be here now: say `saw`, or `await` a later moment" if is_late else "")
 
 
-def tell_next(net, answer, heard):
+def tell_next(net: Network, answer: re.Match[str], heard: Heard) -> Data:
     """What is to be executed at the next moment and what is awaited at it, as data and in words."""
     moment, says, awaited = answer["next"], [], []
     points = [placed(net, printed(name)) for name in (answer["do"] or "").split(" ") if name]
@@ -132,14 +141,14 @@ def tell_next(net, answer, heard):
     return {"answer": "next", "moment": int(moment), "do": do, "wait": awaited, "says": says}
 
 
-def tell_by(net, answer):
+def tell_by(net: Network, answer: re.Match[str]) -> Data:
     """Until when a time-point can wait, as data and in words."""
     point, words = placed(net, printed(answer["name"]))
     says = [f"{words} can wait until {int(answer['by'])}, and no longer."]
     return {"answer": "by", "moment": int(answer["by"]), **point, "says": says}
 
 
-def blamed(net, number, heard):
+def blamed(net: Network, number: int, heard: Heard) -> str:
     """A constraint that is to blame, in words."""
     if number >= len(net.constraints):
         return f"{number}: a constraint that FILE lacks, so an edit has added it"
@@ -148,17 +157,20 @@ def blamed(net, number, heard):
     return f"{net.called(number)}: {constraint(*net.constraints[number])}{counts_where(net, number)}{edited}"
 
 
-def untold(net, numbers, heard):
+def untold(net: Network, numbers: list[int], heard: Heard) -> list[str]:
     """The steps of constraints of which nothing was told, and whose labels hold by what was told, in words; where it
     is known what was done."""
     ends = {name for number in numbers if number < len(net.constraints) for name in net.constraints[number][:2]}
-    left = sorted(ends - heard.done.keys(), key=net.places.get) if heard.done else []
+    left = sorted(ends - heard.done.keys(), key=net.places.__getitem__) if heard.done else []
     names = ", ".join(shown(name) for name in left if net.is_executed(name, heard.known))
     says = f"Of their steps nothing was told of {names}: where one was done, tell it, with its moment, by `did`."
     return [says] if names else []
 
 
-def tell_blame(net, answer, heard, tried):
+Tried = Callable[[Heard, list[int]], tuple[Data, list[str]]]
+
+
+def tell_blame(net: Network, answer: re.Match[str], heard: Heard, tried: Tried) -> Data:
     """The constraints that are to blame, by the lines of the document, as data and in words; some were changed by
     edits.
 
@@ -177,14 +189,14 @@ def tell_blame(net, answer, heard, tried):
     return {"answer": "blame", "constraints": named, **limits, "says": says}
 
 
-def tell_answer(net, answer, heard, tried):
+def tell_answer(net: Network, answer: re.Match[str], heard: Heard, tried: Tried) -> Data:
     """An answer as data and in words."""
     if answer["next"]:
         return tell_next(net, answer, heard)
     return tell_by(net, answer) if answer["by"] else tell_blame(net, answer, heard, tried)
 
 
-def stuck(text):
+def stuck(text: str) -> Iterator[tuple[str, str, set[str]]]:
     """Each refutation that `check` wrote, the document that `rest` wrote behind it, or none, and what was done."""
     documents, (turns, _), heard = rests(text), turns_of(text), Heard()
     breaks, begun = [it.start() for it in re.finditer("\n", text)], [it for it, _ in documents]
@@ -199,7 +211,7 @@ def stuck(text):
         yield found[0], rest, set(heard.done)
 
 
-def awaited(net, own, done):
+def awaited(net: Network, own: Network, done: set[str]) -> dict[str, int]:
     """For each observer that was done before `rest` wrote a document, the moment until which it has the outcome
     awaited.
 
@@ -214,7 +226,7 @@ def awaited(net, own, done):
     return found
 
 
-def answers_alone(text):
+def answers_alone(text: str) -> list[str]:
     """A session without the steps and the documents in it, which leave as many empty lines, by its lines."""
     parts, at = [], 0
     for first, last in rests(text):
@@ -225,7 +237,7 @@ def answers_alone(text):
     return [line.rstrip(" \t\r") for line in bare.split("\n")]
 
 
-def turns_of(text):
+def turns_of(text: str) -> tuple[list[tuple[int, str, str]], bool]:
     """Each answer of a session with its place and the typed line before it, or none, and whether all typed lines stand
     so; where not, none of them is taken."""
     lines, has_rest = answers_alone(text), bool(rests(text))
@@ -246,7 +258,8 @@ def turns_of(text):
     return turns if paired else [(at, "", line) for at, _, line in turns if line != "blame"], paired
 
 
-def tell_followed(net, text, tried):
+def tell_followed(net: Network, text: str,
+                  tried: Callable[[int, Heard, list[int]], tuple[Data, list[str]]]) -> tuple[int, Data, list[str]]:
     """The answers of a text that `follow` wrote: the status, data and lines."""
     told, says, lacks, heard = [], [], [], Heard()
     turns, paired = turns_of(text)
@@ -255,7 +268,7 @@ def tell_followed(net, text, tried):
         if answer:
             lacks += lacking(net, answer)
         if answer and not lacks:
-            told.append(tell_answer(net, answer, heard, lambda heard, numbers, at=at: tried(heard, numbers, at)))
+            told.append(tell_answer(net, answer, heard, functools.partial(tried, at)))
             says += [f"{line}: {told[-1]['says'][0]}", *told[-1]["says"][1:]]
         heard.take(typed, line)
     if lacks:

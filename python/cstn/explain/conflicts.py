@@ -1,12 +1,14 @@
 """Beside a conflict set: how far its limits would have to give way, a second set, and one that is left without a
 limit."""
-from asking import ids_of, kept, without
-from networks import Network, plain_copy
-from refutations import Refutation
-from tries import instead, least_values
+from .asking import Asked, ids_of, kept, without
+from .networks import Network, plain_copy
+from .refutations import Refutation
+from .shapes import Data
+from .tries import instead, least_values
 
 
-def tell_giving_way(asked, constraints, others):
+def tell_giving_way(asked: Asked, constraints: list[Data],
+                    others: list[Data]) -> tuple[list[Data], list[str], tuple[int, str] | None]:
     """How far each upper limit of a conflict set, twelve at most, would have to give way alone, as data and in words,
     with another set mended.
 
@@ -31,7 +33,7 @@ def tell_giving_way(asked, constraints, others):
 UNTOLD = ["Whether there is another set is not told, since that takes too many bounds: mend this one, and ask again."]
 
 
-def refuted_set(asked, text, deadline):
+def refuted_set(asked: Asked, text: str, deadline: int) -> tuple[Refutation | None, list[str]]:
     """What refutes the conflict set of a document with a deadline, and nothing; or none where there is no such set, or
     where `replay` does not take it of FILE, and perhaps that this is not known, in words."""
     net, own = Network(text), asked.net.deadline
@@ -45,12 +47,12 @@ def refuted_set(asked, text, deadline):
     return refutation, UNTOLD if status > 1 else []
 
 
-def tell_second_set(asked, first, none_up_to):
+def tell_second_set(asked: Asked, first: list[Data], none_up_to: int | None) -> tuple[Data | None, list[str]]:
     """A second conflict set, as data and in words, without its limits: the one with a deadline that mends none, or one
     that shares no constraint with the first; or none."""
     less = "; with any one of them less the others can be met:"
-    tries = [(without(asked.saved, ids_of(first)), None,
-              f"A second set, which shares no constraint with the first, cannot be met together either{less}")]
+    head = f"A second set, which shares no constraint with the first, cannot be met together either{less}"
+    tries: list[tuple[str, int | None, str]] = [(without(asked.saved, ids_of(first)), None, head)]
     if none_up_to:
         head = f"A second set, for which no deadline up to {none_up_to} would do{less}"
         tries.insert(0, (asked.saved, none_up_to, head))
@@ -62,7 +64,7 @@ def tell_second_set(asked, first, none_up_to):
     return None, untold
 
 
-def tell_set_without(asked, limit, text):
+def tell_set_without(asked: Asked, limit: int, text: str) -> tuple[Data | None, list[str]]:
     """The conflict set of a document without a limit, as data and in words, or none."""
     refutation, untold = refuted_set(asked, text, asked.net.deadline)
     if not refutation:
@@ -73,7 +75,7 @@ def tell_set_without(asked, limit, text):
     return data, [head, *refutation.uses_in_words()]
 
 
-def tell_sets(asked, data, lines):
+def tell_sets(asked: Asked, data: Data, lines: list[str]) -> None:
     """Adds to a conflict set how far its limits would have to give way, a second set, and one that is left without a
     limit, before the steps of the first."""
     first = data["constraints"]

@@ -1,8 +1,8 @@
 """Why the checker refuses a document, with the lines in question."""
 import re
 
-from documents import near
-from names import cut, plain, printed, raw, shown
+from .documents import Reader, near
+from .names import cut, plain, printed, raw, shown
 
 VALUES = ("values are whole numbers from -1000000000 to 1000000000 without a plus, each with a label, as in {(10, ⊡)} "
           "or {(-5, p¬q) (7, q)}")
@@ -26,7 +26,7 @@ MEANS = {
     "X12 L4": "its label asks for what it observes itself, or for what is known only after it",
     "X12 L5": "its label, with those of the observers that it asks for, never holds",
     "X12 L6": "more than 16384 constraints, with those by which time-points wait for their labels",
-    "labels": "this command takes no labels on time-points; tools/explain --plain FILE writes a copy without them",
+    "labels": "this command takes no labels on time-points; ./cstn explain --plain FILE writes a copy without them",
     "long": "a document has at most 8388608 bytes",
 }
 FORMS = {
@@ -42,22 +42,23 @@ MOST_LINES = 20
 ATTRIBUTE = re.compile(rb"""\s*+([\w:.-]++)\s*+=\s*+(?:"([^"]*+)"|'([^']*+)')""")
 
 
-def parts_of(tag):
+def parts_of(tag: bytes) -> tuple[str | None, dict[str, str]]:
     """The name of the element of a tag, or none, and its attributes up to the first that is of no form."""
-    name, found = re.match(rb"<(\w+)", tag), {}
+    name = re.match(rb"<(\w+)", tag)
+    found: dict[str, str] = {}
     at = name.end() if name else len(tag)
     while part := ATTRIBUTE.match(tag, at):
         found.setdefault(part[1].decode(), plain((part[2] or part[3] or b"").decode(errors="replace")))
         at = part.end()
-    return name and name[1].decode(), found
+    return name[1].decode() if name else None, found
 
 
-def tell_line(reader, place):
+def tell_line(reader: Reader, place: int) -> str:
     number = reader.line(place)
     return f"line {number}: {raw(reader.row(number))}"
 
 
-def tell_ends(reader, place, tag):
+def tell_ends(reader: Reader, place: int, tag: bytes) -> list[str]:
     """Which end of an edge is no node above it."""
     _, found = parts_of(tag)
     above = [name for name, at in reader.nodes.items() if name and at < place]
@@ -73,10 +74,10 @@ def tell_ends(reader, place, tag):
     return lines
 
 
-def tell_token(reader, place, token):
+def tell_token(reader: Reader, place: int, token: bytes) -> list[str]:
     """What is wrong with a tag or a text, where that is one of the usual things."""
     name, found = parts_of(token)
-    wanted = {"edge": ("source", "target"), "node": ("id",), "data": ("key",)}.get(name, ())
+    wanted = {"edge": ("source", "target"), "node": ("id",), "data": ("key",)}.get(name or "", ())
     missing = [key for key in wanted if key not in found]
     bare = re.sub(rb"\"[^\"]*\"|'[^']*'", b'""', token).split(b"<")[:2][-1]
     owner = next((owner for owner, at, _ in reader.keys if at == place), None)
@@ -93,7 +94,7 @@ def tell_token(reader, place, token):
     return ["a text stands in data only"] if re.match(rb"[^<]*[^<\s]", token) else []
 
 
-def tell_refused(answer, reader):
+def tell_refused(answer: str, reader: Reader) -> list[str]:
     """Why a document is refused, and where that is for a byte, a letter, a name or a constraint, the lines of it."""
     if not reader.text:
         return ["the file is empty"]
@@ -111,14 +112,14 @@ def tell_refused(answer, reader):
     if number and int(number[1]) < len(reader.rows):
         row = reader.rows[int(number[1])]
         lines.append(f"line {row}: {raw(reader.row(row))}")
-    return lines + (tell_place(code[1], place, reader) if place is not None else [])
+    return lines + (tell_place(code[1], place, reader) if code and place is not None else [])
 
 
-def tell_place(code, place, reader):
+def tell_place(code: str, place: int, reader: Reader) -> list[str]:
     """What is wrong at a byte of the document, in the usual cases, and its line; last of all a tag that was not
     closed."""
     rest = reader.text[place:]
-    token = re.match(rb"<[^>]*>?|[^<]*", rest)[0]
+    token = re.findall(rb"\A(?:<[^>]*>?|[^<]*)", rest)[0]
     lines = []
     if code == "X4":
         lines = tell_ends(reader, place, token)
@@ -132,7 +133,7 @@ def tell_place(code, place, reader):
     return lines
 
 
-def tell_sign(rest):
+def tell_sign(rest: bytes) -> list[str]:
     """The first sign that is none of a label, in the values or the label of the element at this place."""
     data = re.match(rb'<data key="(LabeledValues|Label)">([^<]*)<', rest)
     if not data:
@@ -145,7 +146,7 @@ def tell_sign(rest):
     return next(filter(None, map(tell_pair, re.findall(r"\(([^()]*)\)", text))), [])
 
 
-def tell_pair(part):
+def tell_pair(part: str) -> list[str]:
     """What is wrong with a value and its label, if it is one of the usual things."""
     value = next((it.strip() for it in part.split(",") if re.search(r"\d", it)), "")
     if value and not re.fullmatch(r"[-−]?[0-9]+", value):
@@ -156,7 +157,7 @@ def tell_pair(part):
     return tell_sign_of(re.sub(r"^\s*[-−]?\d+\s*,|,\s*[-−]?\d+\s*$", "", part))
 
 
-def tell_sign_of(label):
+def tell_sign_of(label: str) -> list[str]:
     sign = re.search(r"[^A-Za-z¬!\s⊡]", label)
     if not sign or not re.search("[A-Za-z]", label):
         return []
@@ -164,9 +165,9 @@ def tell_sign_of(label):
             "is false"]
 
 
-def tell_twins(reader):
+def tell_twins(reader: Reader) -> list[str]:
     """The letters that two nodes observe, with their lines: a refusal for one that no node observes may hide them."""
-    found = {}
+    found: dict[str, list[str]] = {}
     for letter, line in reader.observers:
         if re.fullmatch("[A-Za-z]", letter):
             found.setdefault(letter, []).append(str(line))
@@ -174,13 +175,13 @@ def tell_twins(reader):
             for letter, lines in found.items() if len(lines) > 1]
 
 
-def several(words):
+def several(words: list[str]) -> str:
     """Some words side by side, not all of them where these are many."""
     more = len(words) - MOST_LINES
     return " and ".join(words if more <= 0 else [*words[:MOST_LINES], f"{more} more"])
 
 
-def tell_letters(answer, reader):
+def tell_letters(answer: str, reader: Reader) -> list[str]:
     """The lines that have the letter of a refusal, of one that two observe only those of the two."""
     found = re.search(r"^document X1(?:0 N[67]|2 L3 [^ ]+) ([A-Za-z])(?: ([^ ]+) ([^ ]+))?$", answer.strip())
     if not found:

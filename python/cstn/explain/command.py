@@ -1,42 +1,43 @@
-#!/usr/bin/env python3
 """Says in words what a document means to the checker, what of it was passed over, why it is refused, and what a no, a
 tree or `follow` says.
 
-    tools/explain FILE [PROOF [--only]] [--deadline N] [--json]
-    tools/explain --tree FILE [--deadline N] [--json]         --conflict and --tight likewise
-    tools/explain --plain FILE [--deadline N]
+    ./cstn explain FILE [PROOF [--only]] [--deadline N] [--json]
+    ./cstn explain --tree FILE [--deadline N] [--json]         --conflict and --tight likewise
+    ./cstn explain --plain FILE [--deadline N]
 
 PROOF is what a no wrote, of `check`, `run`, `closed`, `tree`, `conflict` or `tight`, or the tree of a yes, or what
 `follow` wrote; or it is `-`, the standard input; or one answer of `follow`, as 'blame 2 5'. With --only nothing of the
-network is listed before it, but what of FILE was passed over. docs/commands.md says under `tools/explain` what each
+network is listed before it, but what of FILE was passed over. docs/commands.md says under `./cstn explain` what each
 form tells, and how it ends.
 
 A reading aid: it is not proved, reads the document and the text alone, and changes nothing. What the network is, it
 takes from what `./cstn save FILE` writes (or the program that CSTN names); what was passed over, it finds in FILE
 itself; a no is told as `replay` judges it, and a tree where `treecheck` accepts it.
 """
+import io
 import json
 import os
 import re
 import sys
+from typing import Any
 
-sys.dont_write_bytecode = True
-from asking import Asked, Stopped, read_once
-from conflicts import tell_sets
-from documents import Reader, tell_passed_over
-from following import is_answer, is_followed
-from limits import ranges, tell_disagreeing, tell_never, tell_repeating, tell_shortest, tell_unlimited
-from names import harmless, harmless_data
-from networks import Network, network_in_words, plain_copy, tell_unlabelled, ticks
-from proofs import tell_judged_tree, tell_refutation
-from refusals import tell_refused
-from sessions import tell_session
-from trees import MOST_IN_WORDS, MOST_OF_A_LOOK, size
+from .asking import Asked, Stopped, read_once
+from .conflicts import tell_sets
+from .documents import Reader, tell_passed_over
+from .following import is_answer, is_followed
+from .limits import ranges, tell_disagreeing, tell_never, tell_repeating, tell_shortest, tell_unlimited
+from .names import harmless, harmless_data
+from .networks import Network, network_in_words, plain_copy, tell_unlabelled, ticks
+from .proofs import tell_judged_tree, tell_refutation
+from .refusals import tell_refused
+from .sessions import tell_session
+from .shapes import Data
+from .trees import MOST_IN_WORDS, MOST_OF_A_LOOK, size
 
 ASKED = ("--plain", "--tree", "--conflict", "--tight")
 
 
-def tell_proof(asked, text):
+def tell_proof(asked: Asked, text: str) -> tuple[int, Data, list[str]]:
     """What a text says that was written after a yes or a no, or by `follow`: the status, data and lines. Of what
     `tight` wrote, it begins with the least deadline."""
     least = re.match(r"least (\d{1,7})\n", text)
@@ -54,7 +55,7 @@ def tell_proof(asked, text):
     return tell_refutation(asked, text, False)
 
 
-def tell_tight(asked):
+def tell_tight(asked: Asked) -> tuple[int, Data, list[str]]:
     """The least deadline with which the plan can be carried out, up to the one that was said, or up to four times that
     of the document."""
     own, status, over = asked.net.deadline, 4, ""
@@ -81,14 +82,14 @@ def tell_tight(asked):
     return told, data, lines
 
 
-def tell_tree(asked):
+def tell_tree(asked: Asked) -> tuple[int, Data, list[str]]:
     """The whole plan in words, or a no, or that the plan is too large for words."""
     if size(asked.net) > MOST_IN_WORDS:
         status, text = asked.answer_at("check")
         if not status:
             letters = len(asked.net.observers)
             lines = [f"The plan can be carried out, and has up to {1 << letters} ways, by {letters} outcomes, which "
-                     "are too many for words: `./cstn tree` writes them, of the copy of `tools/explain --plain FILE` "
+                     "are too many for words: `./cstn tree` writes them, of the copy of `./cstn explain --plain FILE` "
                      "where FILE has labels on time-points."]
             return 10, {"answer": f"wide {letters}", "says": lines}, lines
     else:
@@ -99,7 +100,7 @@ def tell_tree(asked):
     return told or status, data, lines
 
 
-def tell_conflict(asked):
+def tell_conflict(asked: Asked) -> tuple[int, Data, list[str]]:
     """What the document is answered by `conflict`: a yes, or a set that is to blame."""
     status, text = asked.answer_plain("conflict")
     if status != 1:
@@ -110,7 +111,7 @@ def tell_conflict(asked):
     return told or status, data, lines
 
 
-def look_at_shortest(asked):
+def look_at_shortest(asked: Asked) -> tuple[list[Data] | None, list[str]]:
     """The ranges that the plan takes at their shortest, as data and in words; or why they are not told."""
     net = asked.net
     if not ranges(net):
@@ -122,35 +123,36 @@ def look_at_shortest(asked):
     return tell_shortest(net, tree) if tree is not None else (None, [])
 
 
-def tell_document(asked, reader):
+def tell_document(asked: Asked, reader: Reader) -> tuple[Data, list[str]]:
     """What was passed over of a document, what its network says, and what is worth a second look."""
     net = asked.net
     passed, lines = tell_passed_over(reader, False)
-    data = {"passed_over": passed, **net.data}
+    data: Data = {"passed_over": passed, **net.data}
     lines += network_in_words(net)
-    looks = (("tied_to_one_case", tell_unlabelled(net)), ("no_upper_limit", tell_unlimited(net, asked.beyond)),
-             ("shortest", look_at_shortest(asked)), ("disagreeing_reactions", tell_disagreeing(net)),
-             ("never_in_force", tell_never(net)), ("repeating_a_label", tell_repeating(net)))
+    looks: tuple[tuple[str, tuple[Any, list[str]]], ...] = (
+        ("tied_to_one_case", tell_unlabelled(net)), ("no_upper_limit", tell_unlimited(net, asked.beyond)),
+        ("shortest", look_at_shortest(asked)), ("disagreeing_reactions", tell_disagreeing(net)),
+        ("never_in_force", tell_never(net)), ("repeating_a_label", tell_repeating(net)))
     for key, (found, words) in looks:
         data[key] = found
         lines += words
     return data, lines
 
 
-def tell_alone(reader):
+def tell_alone(reader: Reader) -> tuple[Data, list[str]]:
     """What was passed over of a document, without its network."""
     passed, lines = tell_passed_over(reader, False)
     return {"passed_over": passed}, lines
 
 
-def tell_refusal(saved, status, reader):
+def tell_refusal(saved: str, status: int, reader: Reader) -> tuple[int, Data, list[str]]:
     """Why a document is refused, with the lines in question."""
     passed, lines = tell_passed_over(reader, True) if not saved.startswith("document X2") else ([], [])
     says = tell_refused(saved, reader)
     return status, {"answer": saved.strip(), "passed_over": passed, "says": says}, [*lines, saved.strip(), *says]
 
 
-def parsed(words):
+def parsed(words: list[str]) -> tuple[str, list[str], list[str], bool, bool]:
     """What is asked for, the further words, the option, whether without the network, and whether as data."""
     option, asked, alone, as_data = [], "", "--only" in words, "--json" in words
     words = [it for it in words if it not in ("--only", "--json")]
@@ -169,7 +171,7 @@ def parsed(words):
     return asked, words, option, alone, as_data
 
 
-def text_of(words):
+def text_of(words: list[str]) -> str | None:
     """The text of PROOF, or none where none is named."""
     if len(words) < 2:
         return None
@@ -182,7 +184,7 @@ def text_of(words):
         raise Stopped(2, f"PROOF cannot be read: {error}") from error
 
 
-def tell(asked, command, text, alone):
+def tell(asked: Asked, command: str, text: str | None, alone: bool) -> tuple[int, Data, list[str]]:
     """The status, the data and the lines that are the answer over a document."""
     status, saved = asked.answer("save", asked.path, *asked.option)
     if status not in (0, 3):
@@ -205,7 +207,7 @@ def tell(asked, command, text, alone):
     return status, {**data, "proof": proof}, [*lines, *([""] if lines else []), *more]
 
 
-def main(words):
+def main(words: list[str]) -> int:
     command, words, option, alone, as_data = parsed(words)
     text = text_of(words)
     least = re.match(r"least (\d{1,7})\n", text or "")
@@ -225,13 +227,15 @@ def main(words):
     return status
 
 
-if __name__ == "__main__":
-    sys.stdout.reconfigure(errors="backslashreplace")
+def run(words: list[str]) -> int:
+    """Calls the command by its words, and answers the status with which it ends."""
+    if isinstance(sys.stdout, io.TextIOWrapper):
+        sys.stdout.reconfigure(errors="backslashreplace")
     try:
-        sys.exit(main(sys.argv[1:]))
+        return main(words)
     except Stopped as stopped:
         print(stopped, file=sys.stderr)
-        sys.exit(stopped.status)
+        return stopped.status
     except BrokenPipeError:
         os.dup2(os.open(os.devnull, os.O_WRONLY), 1)
-        sys.exit(1)
+        return 1

@@ -9,9 +9,9 @@ CALLED = {"lt": "<", "gt": ">", "amp": "&", "quot": '"', "apos": "'"}
 LONGEST = 200
 
 
-def plain(text):
+def plain(text: str) -> str:
     """A text of a document with its references put in; one that names no character stays."""
-    def character(found):
+    def character(found: re.Match[str]) -> str:
         code = int(found[2] or 0) or int(found[3] or "0", 16)
         if found[1]:
             return CALLED[found[1]]
@@ -20,56 +20,60 @@ def plain(text):
     return REFERENCE.sub(character, text)
 
 
-def quoted(name):
+def quoted(name: str) -> str:
     """A name as an attribute of a document."""
     marks = {sign: f"&{word};" for word, sign in CALLED.items() if word != "apos"}
-    return '"' + re.sub(f'[&<>"{OBEYED}]', lambda found: marks.get(found[0], f"&#{ord(found[0])};"), name) + '"'
+
+    def escape(found: re.Match[str]) -> str:
+        return marks.get(found[0], f"&#{ord(found[0])};")
+
+    return '"' + re.sub(f'[&<>"{OBEYED}]', escape, name) + '"'
 
 
-def commented(name):
+def commented(name: str) -> str:
     """A name as it may stand in a comment."""
     return re.sub(f"[{OBEYED}]|-(?=-)", "_", name)
 
 
-def printed(name):
+def printed(name: str) -> str:
     """The name that a line has in this form."""
     text = re.sub(rb"%([0-9A-F]{2})", lambda found: bytes([int(found[1], 16)]), encoded(name))
     return text.decode(errors="replace")
 
 
-def typed(name):
+def typed(name: str) -> str:
     """A name as lines have it."""
     return re.sub(r"[\x00-\x20%\x7f]", lambda found: f"%{ord(found[0]):02X}", name)
 
 
 @functools.lru_cache(maxsize=None)
-def shown(name):
+def shown(name: str) -> str:
     """A name in words: as lines have it, and so too what a screen obeys; one that is longer than an id is cut."""
     return cut(re.sub(f"[ %{OBEYED}]", escaped, name))
 
 
-def harmless(line):
+def harmless(line: str) -> str:
     """A line of words, or of a document, as a screen may have it."""
     return re.sub(f"[{OBEYED}]", escaped, line)
 
 
-def harmless_data(text):
+def harmless_data(text: str) -> str:
     """A text of JSON as a screen may have it: the same data."""
     return re.sub(f"[{OBEYED}]", lambda found: found[0] if found[0] == "\n" else f"\\u{ord(found[0]):04x}", text)
 
 
-def raw(line):
+def raw(line: bytes) -> str:
     """The bytes of a line of a document in words."""
     return cut(line.decode(errors="replace").expandtabs(1).strip())
 
 
-def cut(text):
+def cut(text: str) -> str:
     return text if len(text) <= LONGEST else text[:LONGEST] + " .."
 
 
-def escaped(found):
+def escaped(found: re.Match[str]) -> str:
     return "".join(f"%{byte:02X}" for byte in encoded(found[0]))
 
 
-def encoded(text):
+def encoded(text: str) -> bytes:
     return text.encode(errors="surrogateescape")

@@ -2,6 +2,11 @@
 do."""
 import re
 import subprocess
+from collections.abc import Callable, Iterator
+from typing import Self
+
+from .following import Heard
+from .shapes import Data
 
 MOST_LIMITS = 12
 CHECKS_OF_A_LIMIT = 21
@@ -10,33 +15,34 @@ CHECKS_OF_A_LIMIT = 21
 class Live:
     """A session that was told the lines of another, and can be told more."""
 
-    def __init__(self, words, lines, now):
+    def __init__(self, words: list[str], lines: list[str], now: int) -> None:
         self.child = subprocess.Popen(words, stdin=subprocess.PIPE, stdout=subprocess.PIPE, stderr=subprocess.DEVNULL)
-        self.now = now
+        assert self.child.stdin and self.child.stdout
+        self.typed, self.answers, self.now = self.child.stdin, self.child.stdout, now
         self.read()
         self.read()
         for line in lines:
             self.say(line)
 
-    def __enter__(self):
+    def __enter__(self) -> Self:
         return self
 
-    def __exit__(self, *_):
+    def __exit__(self, *_: object) -> None:
         self.child.communicate()
 
-    def read(self):
-        return self.child.stdout.readline().decode().rstrip("\n")
+    def read(self) -> str:
+        return self.answers.readline().decode().rstrip("\n")
 
-    def say(self, line):
+    def say(self, line: str) -> str:
         """What is answered to a line that has one line as its answer; nothing where the session is over."""
         try:
-            self.child.stdin.write(f"{line}\n".encode())
-            self.child.stdin.flush()
+            self.typed.write(f"{line}\n".encode())
+            self.typed.flush()
         except BrokenPipeError:
             return ""
         return self.read()
 
-    def is_met(self, line):
+    def is_met(self, line: str) -> bool | None:
         """Whether a yes stands after a line, or none where that is not known."""
         said = self.say(line)
         if re.match(r"changed \d", said):
@@ -44,7 +50,7 @@ class Live:
         return {"yes": True, "no": False}.get(said.split(" ")[0])
 
 
-def nearest(met, fails, holds):
+def nearest(met: Callable[[int], bool | None], fails: int, holds: int) -> int | None:
     """Between a value that does not do and one that does, the nearest to the first that does, or none where an answer
     is missing."""
     while abs(holds - fails) > 1:
@@ -56,11 +62,12 @@ def nearest(met, fails, holds):
     return holds
 
 
-def least_values(live, values, deadline):
+def least_values(live: Live, values: dict[int, int],
+                 deadline: int) -> Iterator[tuple[int, int, int | None, bool | None]]:
     """For each limit of a value above 0, twelve at most, with that value: the least one with which a yes stands if all
     else stays, or none, and whether a yes stands with the deadline as its value."""
     for number, value in [it for it in values.items() if it[1] > 0][:MOST_LIMITS]:
-        def met(tried, number=number):
+        def met(tried: int, number: int = number) -> bool | None:
             return live.is_met(f"change {number} {tried}")
 
         said = met(deadline) if deadline > value else False
@@ -69,7 +76,7 @@ def least_values(live, values, deadline):
         yield number, value, least, said
 
 
-def instead(value, least, said, deadline):
+def instead(value: int, least: int | None, said: bool | None, deadline: int) -> str:
     """The least value of a limit that would do, in words."""
     if least is not None:
         return f"{least} in place of {value}"
@@ -80,7 +87,7 @@ def instead(value, least, said, deadline):
     return "not known, since a check could not be ended"
 
 
-def giving_way(live, values, deadline):
+def giving_way(live: Live, values: dict[int, int], deadline: int) -> tuple[list[Data], list[str]]:
     """How far each limit would have to give way, as data and in words."""
     found, lines = [], []
     for number, value, least, said in least_values(live, values, deadline):
@@ -90,7 +97,7 @@ def giving_way(live, values, deadline):
     return found, lines
 
 
-def awaiting(live, heard):
+def awaiting(live: Live, heard: Heard) -> tuple[list[Data], list[str]]:
     """For each outcome that is awaited later than now, the latest moment before that with which a yes stands, as data
     and in words."""
     found, lines = [], []
@@ -98,7 +105,7 @@ def awaiting(live, heard):
         if letter in heard.known or moment <= heard.now:
             continue
 
-        def met(tried, letter=letter):
+        def met(tried: int, letter: str = letter) -> bool | None:
             return live.is_met(f"await {tried} {letter}")
 
         first = next((it for it in (heard.now, heard.now + 1) if it < moment and met(it)), None)
