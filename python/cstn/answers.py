@@ -18,10 +18,11 @@ class Can(Enum):
 
 @dataclass(frozen=True)
 class Verdict:
-    """A verdict, with the number of bounds that were derived; of an unknown one, with the cap that did not do."""
+    """A verdict, with the number of bounds that were derived, if that was told; of an unknown one, with the cap that did
+    not do."""
 
     can: Can
-    bounds: int
+    bounds: int | None = None
 
     def __bool__(self) -> bool:
         return self.can is Can.YES

@@ -111,7 +111,7 @@ class Child:
     def verdict(self) -> Verdict:
         """The verdict as it stands, also after an edit, without a refutation."""
         answer = self.ask("next")
-        return answer if isinstance(answer, Verdict) else Verdict(Can.YES, 0)
+        return answer if isinstance(answer, Verdict) else Verdict(Can.YES)
 
     def tells(self, line: str) -> bool:
         """Whether a fact or an edit is taken."""

@@ -7,7 +7,7 @@ from __future__ import annotations
 
 import json
 from collections.abc import Iterable, Iterator
-from contextlib import AbstractContextManager, contextmanager, nullcontext
+from contextlib import AbstractContextManager, nullcontext
 from dataclasses import dataclass
 from datetime import datetime, timedelta
 from typing import Any, Protocol, runtime_checkable
@@ -39,6 +39,14 @@ class Holds(Protocol):
 
     def held(self) -> AbstractContextManager[None]:
         """Holds the journal. Raises `Busy` where another client does for too long."""
+
+
+@runtime_checkable
+class KeepsDocuments(Protocol):
+    """A journal that keeps the document to which it belongs, so that who has the journal alone takes the plan up."""
+
+    def keep_document(self, document: bytes) -> str:
+        """Keeps a document. Its SHA-256."""
 
 
 class Store(Protocol):
@@ -86,7 +94,7 @@ class Head:
 
     plan: str
     document: str
-    deadline: int | None
+    deadline: int | None = None
     origin: str | None = None
     tick: float | None = None
 

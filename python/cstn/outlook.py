@@ -8,6 +8,7 @@ from cstn.answers import Done, Next, Verdict
 from cstn.errors import WaitsFor
 from cstn.events import Event
 from cstn.plan import Limit
+from cstn.session import Session, Standing
 from cstn.state import Seen
 
 
@@ -81,3 +82,17 @@ class Late:
     letter: str
     until: int | None
     ever: bool
+
+
+def outlook(version: int, session: Session, verdict: Verdict, following: Next | Done | Verdict,
+            latest: Mapping[str, int]) -> Outlook:
+    """The outlook of a session."""
+    state = session.state.copy()
+    awaited = tuple(Awaited(letter, (observer := state.plan.observers[letter].name), state.done[observer], at)
+                    for letter, at in state.awaited().items())
+    waiting = tuple(Waiting(it.event, it.waits_for) for it in session.tellings.values()
+                    if it.standing is Standing.WAITS)
+    fallen = tuple(Fallen(it.event, it.why) for it in session.tellings.values() if it.standing is Standing.FELL)
+    left_out = tuple(step.name for step in state.plan.steps if state.is_left_out(step.name))
+    return Outlook(version, state.now, verdict, None if isinstance(following, Verdict) else following, latest, awaited,
+                   state.done, state.seen, left_out, waiting, fallen, state.limits, state.deadline)

@@ -54,6 +54,7 @@ class Session:
                            program=plan.program)
         self.verdict: Verdict | None = self.child.first
         self.tellings: dict[str, Telling] = {}
+        self.covers = len(entries)
         try:
             self.tell_anew(entries)
         except BaseException:
@@ -92,13 +93,16 @@ class Session:
             self.settle()
 
     def tell(self, event: Event) -> Telling:
-        """Tells an event, and writes nothing down but what the program has taken. Raises `Refused`, `ValueError`."""
+        """Tells an event, and writes nothing down but what the program has taken. Raises `Refused`."""
         line = line_of(event)
-        text, answer = self.child.ask_text(line)
+        try:
+            text, answer = self.child.ask_text(line)
+        except ValueError as error:
+            raise Refused("line", f"no line can say this: {event}") from error
         if isinstance(answer, Refusal):
-            error = why(answer, event, self.state, self.child)
-            if error is not None:
-                raise error
+            refused = why(answer, event, self.state, self.child)
+            if refused is not None:
+                raise refused
             return Telling(event, Standing.KNOWN, text)
         assert is_taken(answer)
         self.state.take(event, line, answer)
@@ -120,7 +124,11 @@ class Session:
                 except NotYet as error:
                     telling.waits_for, telling.why = error.waits_for, error.says
                 except Refused as error:
-                    telling.standing, telling.why = Standing.FELL, error.says
+                    telling.standing, telling.waits_for, telling.why = Standing.FELL, WaitsFor(), error.says
+
+    def standings(self) -> dict[str, Standing]:
+        """What became of each event so far, by their keys."""
+        return {key: telling.standing for key, telling in self.tellings.items()}
 
     def now_verdict(self) -> Verdict:
         """The verdict as it stands, which an edit leaves to be asked."""

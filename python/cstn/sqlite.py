@@ -76,6 +76,9 @@ class SqliteJournal:
                 "select version, entry from entry where plan = ? and version > ? order by version",
                 (self.plan, after)).fetchall()
 
+    def keep_document(self, document: bytes) -> str:
+        return self.store.keep_document(document)
+
     def append(self, version: int, entry: str) -> None:
         try:
             with self.store.lock:

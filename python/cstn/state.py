@@ -36,6 +36,11 @@ class State:
         state.done["Z"] = 0
         return state
 
+    def copy(self) -> State:
+        """The same, for who goes on from here."""
+        return replace(self, done=dict(self.done), seen=dict(self.seen), expected=dict(self.expected),
+                       limits=dict(self.limits), lines=list(self.lines))
+
     def take(self, event: Event, line: str, answer: Answer) -> None:
         """Records an event whose moment is a tick, which the program has taken."""
         self.lines.append(line)
@@ -63,6 +68,11 @@ class State:
                   *(self.plan.observers[letter].label for letter in self.plan.letters_of(step))]
         return any(letter in self.seen and self.seen[letter].value != value
                    for label in labels for letter, value in label.items())
+
+    def left(self) -> list[str]:
+        """The steps that were neither done nor ruled out, in the order of the document."""
+        return [step.name for step in self.plan.steps
+                if step.name not in self.done and not self.is_left_out(step.name)]
 
     def awaited(self) -> dict[str, int]:
         """The letters whose observer was done and whose outcome was not told, each with the moment at which it is
