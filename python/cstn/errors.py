@@ -12,7 +12,7 @@ class NoProgram(CstnError):
     """No program `cstn` was found, or the one that was found writes other lines than this package reads."""
 
 
-@dataclass
+@dataclass(eq=False)
 class BadDocument(CstnError):
     """The program refuses a document: `code` is `X1` to `X12` or `long`, `says` all of its words.
 
@@ -29,7 +29,7 @@ class BadDocument(CstnError):
         return self.says + where
 
 
-@dataclass
+@dataclass(eq=False)
 class Refused(CstnError):
     """An event is not taken: `code` is `F1` to `F8`, `S1` to `S7`, or `line`, `key` or `clock`, which the package says.
 
@@ -43,7 +43,7 @@ class Refused(CstnError):
         return self.says
 
 
-@dataclass
+@dataclass(eq=False)
 class Unknown(Refused):
     """The plan has no such step, letter, limit or key: `name`."""
 
@@ -61,14 +61,14 @@ class WaitsFor:
         return bool(self.steps or self.letters)
 
 
-@dataclass
+@dataclass(eq=False)
 class NotYet(Refused):
     """What was told so far does not allow the event; `waits_for` is what has to come first."""
 
     waits_for: WaitsFor = field(default=WaitsFor())
 
 
-@dataclass
+@dataclass(eq=False)
 class Contradicts(Refused):
     """What was told before excludes the event: `recorded` is that moment or outcome, `with_key` the key of its event."""
 
@@ -76,17 +76,17 @@ class Contradicts(Refused):
     with_key: str | None = None
 
 
-@dataclass
+@dataclass(eq=False)
 class OutOfRange(Refused):
     """A moment or a value is above what the program takes, or is in the future by the plan's clock, or is past."""
 
 
-@dataclass
+@dataclass(eq=False)
 class TooMany(Refused):
     """There is no room for what the event adds: 16,384 constraints, or 1,000,000 edits."""
 
 
-@dataclass
+@dataclass(eq=False)
 class Moved(CstnError):
     """The journal has an entry of this version already: another client was first."""
 

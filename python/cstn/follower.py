@@ -73,6 +73,8 @@ class Follower:
         self.head: Head | None = None
         self.entries: list[Told | Forgotten] = []
         self.keys: dict[str, Told] = {}
+        self.last: tuple[int, Next | Done | Verdict] | None = None
+        """What was next at a version."""
 
     # ---- what happens ----
 
@@ -258,7 +260,7 @@ class Follower:
 
     def start_over(self) -> None:
         self.release()
-        self.version, self.head, self.entries, self.keys = 0, None, [], {}
+        self.version, self.head, self.entries, self.keys, self.last = 0, None, [], {}, None
 
     def read_on(self) -> None:
         """Reads what others have kept since. Raises `Changed` where the journal is of another plan."""
@@ -360,9 +362,12 @@ class Follower:
         return answer
 
     def following(self) -> Next | Done | Verdict:
+        if self.last is not None and self.last[0] == self.version:
+            return self.last[1]
         answer = self.known(lambda session: session.child.ask("next"))
         if not isinstance(answer, Next | Done | Verdict):
             raise Unavailable(f"next was answered {answer}")
+        self.last = self.version, answer
         return answer
 
     @contextmanager

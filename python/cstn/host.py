@@ -54,7 +54,7 @@ class Host:
         with self.lock:
             found = self.followers.setdefault(name, found)
             self.followers.move_to_end(name)
-            idle = list(self.followers.values())[:-self.processes] if self.processes else []
+            idle = list(self.followers.values())[:-max(1, self.processes)]
         for other in idle:
             release_if_idle(other)
         return found
@@ -107,7 +107,7 @@ class Host:
 
 def release_if_idle(follower: Follower) -> None:
     """Lets a follower's process go, unless somebody asks it just now."""
-    if follower.lock.acquire(blocking=False):
+    if follower.session is not None and follower.lock.acquire(blocking=False):
         try:
             follower.release()
         finally:

@@ -3,7 +3,7 @@ from __future__ import annotations
 
 import hashlib
 import re
-from collections.abc import Sequence
+from collections.abc import Iterable, Sequence
 from dataclasses import dataclass
 from functools import cached_property
 from pathlib import Path
@@ -88,6 +88,13 @@ class Plan:
         """Whether the plan can be carried out, whatever is observed. Raises `OutOfTime`."""
         return programs.check(self.document, self.asked_deadline, cap, seconds=seconds, program=self.program)
 
+    def saved(self, changed: Iterable[Limit] = (), deadline: int | None = None) -> bytes:
+        """The canonical document, as `save` writes it: with some limits in place of those of their ids, and a deadline
+        of its own."""
+        instead = {limit.id: limit for limit in changed}
+        limits = [instead.get(limit.id, limit) for limit in self.limits]
+        return canonical(self.steps, limits, self.deadline if deadline is None else deadline)
+
     @cached_property
     def by_name(self) -> dict[str, Step]:
         return {step.name: step for step in self.steps}
@@ -143,3 +150,34 @@ def with_sentences(limits: Sequence[Limit], said: Sequence[tuple[str, str, int, 
 def plain(name: str) -> str:
     """A name without the references of a canonical document."""
     return ENTITY.sub(lambda found: ENTITIES.get(found[1]) or chr(int(found[1][1:])), name)
+
+
+def canonical(steps: Iterable[Step], limits: Iterable[Limit], deadline: int) -> bytes:
+    """A document in the one form that `save` writes."""
+    lines = ['<?xml version="1.0" encoding="UTF-8"?>', "<graphml>", '<graph edgedefault="directed">',
+             data_of("Deadline", str(deadline))]
+    for step in steps:
+        data = data_of("Obs", step.observes or "")
+        data += data_of("Reaction", str(step.reaction) if step.observes and step.reaction > 1 else "")
+        data += data_of("Label", spelled(step.label))
+        lines.append(f'<node id="{quoted(step.name)}"' + (f">{data}</node>" if data else "/>"))
+    for limit in limits:
+        values = f"{{({limit.most}, {spelled(limit.label) or '⊡'})}}"
+        data = data_of("Type", "requirement") + data_of("LabeledValues", values)
+        lines.append(f'<edge source="{quoted(limit.source)}" target="{quoted(limit.target)}">{data}</edge>')
+    return "".join(line + "\n" for line in [*lines, "</graph>", "</graphml>"]).encode()
+
+
+def data_of(key: str, value: str) -> str:
+    return f'<data key="{key}">{value}</data>' if value else ""
+
+
+def spelled(label: Label) -> str:
+    """A label as documents have it."""
+    return "".join(letter if label[letter] else "¬" + letter for letter in sorted(label))
+
+
+def quoted(name: str) -> str:
+    """A name as a canonical document has it."""
+    references = {character: f"&{entity};" for entity, character in ENTITIES.items()}
+    return "".join(references.get(c) or (f"&#{ord(c)};" if ord(c) < 32 or ord(c) == 127 else c) for c in name)

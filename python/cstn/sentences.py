@@ -6,6 +6,8 @@ import xml.etree.ElementTree as ET
 
 PAIR = re.compile(r"\(([^(){}]*)\)")
 INTEGER = re.compile(r"\s*([-−]?\d{1,10})\s*")
+MOST_EDGES = 4
+"""A comment above more edges than these is a heading and no sentence."""
 PASSED_OVER = ("derived", "internal")
 
 
@@ -16,21 +18,21 @@ def sentences(document: bytes) -> list[tuple[str, str, int, str]]:
         graph = next(e for e in ET.fromstring(document, parser=parser) if local(e) == "graph")
     except (ET.ParseError, StopIteration, ValueError, LookupError):
         return []
-    found: list[tuple[str, str, int, str]] = []
-    says = ""
+    groups: list[tuple[str, list[ET.Element]]] = [("", [])]
     for element in graph:
         if local(element) == "edge":
-            found += of_edge(element, says)
+            groups[-1][1].append(element)
         else:
-            says = " ".join((element.text or "").split()) if local(element) == "" else ""
-    return found
+            groups.append((" ".join((element.text or "").split()) if local(element) == "" else "", []))
+    return [value for says, edges in groups for edge in edges
+            for value in of_edge(edge, says if len(edges) <= MOST_EDGES else "")]
 
 
 def of_edge(edge: ET.Element, says: str) -> list[tuple[str, str, int, str]]:
     data = {each.get("key"): "".join(each.itertext()).strip() for each in edge if local(each) == "data"}
     if data.get("Type") in PASSED_OVER:
         return []
-    found = []
+    found: list[tuple[str, str, int, str]] = []
     for pair in PAIR.findall(data.get("LabeledValues", "")):
         for part in pair.split(","):
             if (number := INTEGER.fullmatch(part)) is not None:
