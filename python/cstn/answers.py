@@ -24,7 +24,8 @@ class Verdict:
     can: Can
     bounds: int | None = None
 
-    def __bool__(self) -> bool:
+    @property
+    def is_yes(self) -> bool:
         return self.can is Can.YES
 
 

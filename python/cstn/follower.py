@@ -212,9 +212,9 @@ class Follower:
             return self.asked(lambda session: session.child.rest())
 
     def history(self) -> tuple[Telling, ...]:
-        """What was told, in order, with corrections applied, and what became of it."""
+        """What was told, in order, with corrections applied, and what became of it; of times in a row the last."""
         with self.turn():
-            return self.asked(lambda session: tuple(replace(telling) for telling in session.tellings.values()))
+            return self.asked(Session.history)
 
     def what_if(self) -> Trial:
         """A copy with a process of its own: `with follower.what_if() as trial: trial.did("Sample", 9)`. It keeps

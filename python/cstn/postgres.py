@@ -2,6 +2,7 @@
 from __future__ import annotations
 
 import hashlib
+import select
 import threading
 from collections.abc import Iterator
 from contextlib import contextmanager
@@ -40,11 +41,10 @@ class PostgresStore:
         """A connection for one thread; one that fails is not used again."""
         with self.lock:
             found = self.idle.pop() if self.idle else None
+        if found is not None and is_lost(found):
+            found.close()
         if found is None or found.closed:
-            found = psycopg.connect(self.conninfo, autocommit=True, connect_timeout=max(2, int(self.seconds)))
-            for setting in ("lock_timeout", "statement_timeout"):
-                found.execute(sql.SQL("set {} = {}").format(sql.Identifier(setting), int(self.seconds * 1000)))
-            found.execute("set synchronous_commit = on")
+            found = self.connected()
         try:
             yield found
         except psycopg.Error as error:
@@ -55,6 +55,14 @@ class PostgresStore:
             if not found.closed:
                 with self.lock:
                     self.idle.append(found)
+
+    def connected(self) -> Connection[tuple[object, ...]]:
+        """A new connection."""
+        found = psycopg.connect(self.conninfo, autocommit=True, connect_timeout=max(2, int(self.seconds)))
+        for setting, seconds in (("lock_timeout", self.seconds), ("statement_timeout", 2 * self.seconds)):
+            found.execute(sql.SQL("set {} = {}").format(sql.Identifier(setting), int(seconds * 1000)))
+        found.execute("set synchronous_commit = on")
+        return found
 
     def journal(self, plan: str) -> PostgresJournal:
         return PostgresJournal(self, plan)
@@ -139,6 +147,11 @@ class PostgresJournal:
 
 def keep(connection: Connection[tuple[object, ...]], digest: str, document: bytes) -> None:
     connection.execute("insert into cstn_document values(%s, %s) on conflict do nothing", (digest, document))
+
+
+def is_lost(connection: Connection[tuple[object, ...]]) -> bool:
+    """Whether the server has ended an idle connection: it says something on it."""
+    return bool(select.select([connection.fileno()], [], [], 0)[0]) if not connection.closed else True
 
 
 def number_of(name: str) -> int:

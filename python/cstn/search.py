@@ -3,7 +3,7 @@ from __future__ import annotations
 
 from collections.abc import Callable, Iterator
 
-from cstn.answers import Blame, Can
+from cstn.answers import Blame
 from cstn.child import Child
 from cstn.events import Change, Deadline, Expect, line_of
 from cstn.outlook import Late, WayOut
@@ -16,7 +16,7 @@ MOST_OF_ORIGIN = 1000
 
 def says_yes(child: Child, line: str) -> bool:
     """Whether an edit is taken and leaves a "yes". An unknown verdict counts as none."""
-    return child.tells(line) and child.verdict().can is Can.YES
+    return child.tells(line) and child.verdict().is_yes
 
 
 def nearest(good: int, bad: int, does: Callable[[int], bool]) -> int:

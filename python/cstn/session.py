@@ -130,6 +130,15 @@ class Session:
         """What became of each event so far, by their keys."""
         return {key: telling.standing for key, telling in self.tellings.items()}
 
+    def history(self) -> tuple[Telling, ...]:
+        """The tellings in order; of times in a row the last."""
+        found: list[Telling] = []
+        for telling in self.tellings.values():
+            if found and is_older(found[-1].event, telling.event):
+                found.pop()
+            found.append(replace(telling))
+        return tuple(found)
+
     def now_verdict(self) -> Verdict:
         """The verdict as it stands, which an edit leaves to be asked."""
         if self.verdict is None:

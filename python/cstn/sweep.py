@@ -16,7 +16,7 @@ from concurrent.futures import Executor, Future
 from dataclasses import dataclass, replace
 
 from cstn import program as programs
-from cstn.answers import Can, Verdict
+from cstn.answers import Verdict
 from cstn.errors import CstnError
 from cstn.plan import Limit, Plan
 
@@ -136,7 +136,7 @@ class Bar:
         self.width, self.others = width, 0
 
     def __call__(self, done: int, total: int | None, outcome: Outcome) -> None:
-        self.others += outcome.verdict is None or outcome.verdict.can is not Can.YES
+        self.others += outcome.verdict is None or not outcome.verdict.is_yes
         if total:
             filled = self.width * done // total
             text = f"[{'#' * filled}{'.' * (self.width - filled)}] {done} of {total}"
