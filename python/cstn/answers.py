@@ -28,6 +28,9 @@ class Verdict:
     def is_yes(self) -> bool:
         return self.can is Can.YES
 
+    def __str__(self) -> str:
+        return self.can.name.lower()
+
 
 @dataclass(frozen=True)
 class Next:
@@ -37,10 +40,17 @@ class Next:
     do: tuple[str, ...] = ()
     wait: tuple[str, ...] = ()
 
+    def __str__(self) -> str:
+        do = ["do " + ", ".join(self.do)] if self.do else []
+        return f"at {self.at} " + " and ".join(do + (["wait for " + ", ".join(self.wait)] if self.wait else []))
+
 
 @dataclass(frozen=True)
 class Done:
     """Nothing is left."""
+
+    def __str__(self) -> str:
+        return "done"
 
 
 @dataclass(frozen=True)

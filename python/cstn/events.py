@@ -22,6 +22,9 @@ class Did:
     at: Moment
     key: str | None = None
 
+    def __str__(self) -> str:
+        return f"{self.step} done at {self.at}"
+
 
 @dataclass(frozen=True)
 class Saw:
@@ -32,6 +35,9 @@ class Saw:
     at: Moment
     key: str | None = None
 
+    def __str__(self) -> str:
+        return f"{self.letter} {'true' if self.value else 'false'} at {self.at}"
+
 
 @dataclass(frozen=True)
 class Expect:
@@ -41,6 +47,9 @@ class Expect:
     at: Moment
     key: str | None = None
 
+    def __str__(self) -> str:
+        return f"{self.letter} expected at {self.at}"
+
 
 @dataclass(frozen=True)
 class Now:
@@ -48,6 +57,9 @@ class Now:
 
     at: Moment
     key: str | None = None
+
+    def __str__(self) -> str:
+        return f"it is {self.at}"
 
 
 @dataclass(frozen=True)
@@ -105,11 +117,6 @@ def line_of(event: Event) -> str:
             return f"change {number} {most}"
         case Deadline(at):
             return f"deadline {at}"
-
-
-def is_edit(event: Event) -> bool:
-    """Whether an event changes the plan itself: the program answers no verdict to it."""
-    return isinstance(event, Add | Change | Deadline)
 
 
 def with_key(event: Event, key: str) -> Event:

@@ -40,7 +40,7 @@ def why(refusal: Refusal, event: Event, state: State, child: Child) -> Refused |
             return OutOfRange("S3", f"{refusal.words[0]} is no value of a limit")
         case "S5", _:
             return Unknown("S5", f"nothing observes {refusal.words[0]}", refusal.words[0])
-    return Refused(refusal.code, f"no line can say this: {event}")
+    return Refused(refusal.code, f"no line can say this: {event!r}")
 
 
 def moment(event: Event, state: State) -> Refused:
@@ -54,7 +54,7 @@ def moment(event: Event, state: State) -> Refused:
             return OutOfRange("F2", f"{letter} cannot be expected at {at}, when it is {state.now}")
         case Did() | Saw() | Now():
             return OutOfRange("F2", f"{event.at} is above {MOST}")
-    return OutOfRange("F2", f"no moment of a plan: {event}")
+    return OutOfRange("F2", f"no moment of a plan: {event!r}")
 
 
 def done_before(step: str, state: State) -> Contradicts:

@@ -98,7 +98,7 @@ class Session:
         try:
             text, answer = self.child.ask_text(line)
         except ValueError as error:
-            raise Refused("line", f"no line can say this: {event}") from error
+            raise Refused("line", f"no line can say this: {event!r}") from error
         if isinstance(answer, Refusal):
             refused = why(answer, event, self.state, self.child)
             if refused is not None:
