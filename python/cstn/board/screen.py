@@ -135,10 +135,16 @@ def standing(step: Step, it: Look) -> str:
     return "open" if all(letter in it.outlook.seen for letter in it.plan.letters_of(step.name)) else "unknown"
 
 
+def still_open(step: Step, it: Look) -> str:
+    """What of a step's label is not known yet, in words."""
+    return named({letter: value for letter, value in step.label.items() if letter not in it.outlook.seen})
+
+
 def step_data(index: int, step: Step, it: Look) -> Data:
     return {"index": index, "shown": shown(step.name), "start": step.name == "Z", "observes": step.observes,
-            "reaction": step.reaction, "label": named(step.label), "state": standing(step, it), "at": it.outlook.done.get(step.name),
-            "planned": it.ahead.steps.get(step.name), "by": it.outlook.latest.get(step.name)}
+            "reaction": step.reaction, "label": still_open(step, it), "state": standing(step, it),
+            "at": it.outlook.done.get(step.name), "planned": it.ahead.steps.get(step.name),
+            "by": it.outlook.latest.get(step.name)}
 
 
 def result_data(letter: str, it: Look) -> Data:
@@ -173,7 +179,7 @@ def all_limits(it: Look) -> list[Limit]:
 
 
 def blame_data(it: Look) -> Data | None:
-    """What a "no" blames, and how far each must give way."""
+    """What a "no" blames, and how far each must give way: those of the document first, for what was put in is known."""
     if it.outlook.verdict.can is not Can.NO:
         return None
     originals = {limit.id: limit for limit in it.plan.limits}
@@ -185,6 +191,7 @@ def blame_data(it: Look) -> Data | None:
             least = is_least(originals.get(way.limit.id, way.limit))
             needed = None if way.would_do is None else number_of(way.limit, way.would_do, least)
             limits.append({"id": way.limit.id, "needed": needed})
+    limits.sort(key=lambda each: each["id"] not in originals)
     return {"limits": limits, "deadline": deadline, "let_go": list(it.let_go)}
 
 

@@ -75,7 +75,10 @@ def failed(error: Exception) -> Response:
 
 
 def body() -> dict[str, Any]:
-    data = request.get_json(silent=True)
+    try:
+        data = request.get_json(silent=True)
+    except RecursionError as error:
+        raise Wrong("that is too deep") from error
     if not isinstance(data, dict):
         raise Wrong("a request is an object of JSON")
     return data

@@ -6,6 +6,7 @@ import { drawHistory } from "./history.js";
 import { drawLimits, drawNo } from "./limits.js";
 import { tell } from "./telling.js";
 
+const SOON = 6;
 const VERDICTS = {
   yes: ["On plan", "Whatever the results are, all that is left can be done in time."],
   no: ["Nothing fits any more", "After what has happened, these limits cannot all be kept. What was told stays told."],
@@ -99,7 +100,9 @@ function others(data, page) {
   if (!left.length) return null;
   return h("section", { class: "card", id: "later" }, h("h2", {}, named.size ? "And then" : "What is left"),
     h("p", { class: "quiet" }, "Each moment until which a step can wait is for that step alone: two that both wait may be too much."),
-    h("ul", { class: "rows" }, left.map((it) => stepRow(it, page, "", "later"))));
+    h("ul", { class: "rows" }, left.slice(0, SOON).map((it) => stepRow(it, page, "", "later"))),
+    left.length > SOON && h("details", { "data-key": "later" }, h("summary", {}, `${left.length - SOON} more`),
+      h("ul", { class: "rows" }, left.slice(SOON).map((it) => stepRow(it, page, "", "later")))));
 }
 
 function byHand(data, page) {
