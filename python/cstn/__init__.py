@@ -25,7 +25,7 @@ from cstn.state import Seen
 
 __all__ = [
     "Add", "Awaited", "BadDocument", "Busy", "Can", "Change", "Changed", "Clock", "Contradicts", "CstnError",
-    "Deadline", "Did", "Done", "Event", "Expect", "Fallen", "Follower", "Host", "Journal", "Late", "Limit", "MemoryJournal",
-    "Moved", "Next", "NoProgram", "NotKept", "NotYet", "Now", "OutOfRange", "OutOfTime", "Outlook", "Plan", "Receipt",
+    "Deadline", "Did", "Done", "Event", "Expect", "Fallen", "Follower", "Host", "Journal", "Late", "Limit",
+    "MemoryJournal", "Moved", "Next", "NoProgram", "NotKept", "NotYet", "Now", "OutOfRange", "OutOfTime", "Outlook", "Plan", "Receipt",
     "Refused", "Saw", "Seen", "SqliteJournal", "SqliteStore", "Step", "Store", "TooMany", "Trial", "Unavailable",
     "Unknown", "Verdict", "Waiting", "WaitsFor", "WayOut"]

@@ -18,8 +18,8 @@ class Can(Enum):
 
 @dataclass(frozen=True)
 class Verdict:
-    """A verdict, with the number of bounds that were derived, if that was told; of an unknown one, with the cap that did
-    not do."""
+    """A verdict, with the number of bounds that were derived, if that was told; of an unknown one, with the cap that
+    did not do."""
 
     can: Can
     bounds: int | None = None

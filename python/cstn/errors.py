@@ -1,4 +1,5 @@
-"""What goes wrong, as types. A call that raises one of these has changed nothing."""
+"""What goes wrong, as types. A call that raises one of these has changed nothing; after `OutOfTime` and `Unavailable`
+an event may be kept, and is told again with its key."""
 from __future__ import annotations
 
 from dataclasses import dataclass, field
@@ -52,7 +53,7 @@ class Unknown(Refused):
 
 @dataclass(frozen=True)
 class WaitsFor:
-    """What has to be told before an event can be taken: that these steps were done, and the outcomes of these letters."""
+    """What has to be told before an event can be taken: that steps were done, and the outcomes of letters."""
 
     steps: tuple[str, ...] = ()
     letters: tuple[str, ...] = ()
@@ -70,7 +71,7 @@ class NotYet(Refused):
 
 @dataclass(eq=False)
 class Contradicts(Refused):
-    """What was told before excludes the event: `recorded` is that moment or outcome, `with_key` the key of its event."""
+    """What was told before excludes the event: `recorded` is that moment or outcome, `with_key` its event's key."""
 
     recorded: int | bool | None = None
     with_key: str | None = None

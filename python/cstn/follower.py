@@ -7,7 +7,7 @@ from __future__ import annotations
 
 import threading
 from collections.abc import Callable, Iterable, Iterator
-from contextlib import contextmanager
+from contextlib import contextmanager, nullcontext
 from dataclasses import dataclass, replace
 from datetime import datetime, timezone
 from typing import Self, TypeVar
@@ -121,25 +121,33 @@ class Follower:
         Facts that can't be after that are in `fallen`. An added limit is never left out, since later ids would be
         others: say `Change(id, None)`.
         """
-        with self.turn():
-            self.expects(expect)
-            if key not in self.keys:
-                raise Unknown("key", f"no event has the key {key!r}", key)
-            if isinstance(self.keys[key].event, Add) or isinstance(instead, Add):
-                raise Refused("key", "a limit that was added is taken out by Change(id, None), and one is added by Add")
-            entry = Forgotten(key, instead and with_key(self.placed(instead), key), moment_of_writing())
-            before = self.asked(Session.standings)
-            mended = Session(self.plan, self.allowed, [*self.entries, entry])
-            try:
-                if instead is not None and mended.tellings[key].standing is Standing.FELL:
-                    raise Refused("key", mended.tellings[key].why)
-                self.append(entry)
-            except BaseException:
-                mended.close()
-                raise
-            self.release()
-            self.session = mended
+        with self.guarded():
+            with self.turn(holds=True):
+                self.expects(expect)
+                self.can_be_corrected(key, instead)
+                entry = Forgotten(key, instead and with_key(self.placed(instead), key), moment_of_writing())
+                before = self.asked(Session.standings)
+                self.mend(entry)
             return self.receipt(key, before)
+
+    def can_be_corrected(self, key: str, instead: Event | None) -> None:
+        if key not in self.keys:
+            raise Unknown("key", f"no event has the key {key!r}", key)
+        if isinstance(self.keys[key].event, Add) or isinstance(instead, Add):
+            raise Refused("key", "a limit that was added is taken out by Change(id, None), and one is added by Add")
+
+    def mend(self, entry: Forgotten) -> None:
+        """Tells the journal anew with a correction, and keeps that if what stands instead can be."""
+        mended = Session(self.plan, self.allowed, [*self.entries, entry])
+        try:
+            if entry.instead is not None and mended.tellings[entry.forget].standing is Standing.FELL:
+                raise Refused("key", mended.tellings[entry.forget].why)
+            self.append(entry)
+        except BaseException:
+            mended.close()
+            raise
+        self.release()
+        self.session = mended
 
     # ---- what is asked ----
 
@@ -242,21 +250,23 @@ class Follower:
     # ---- the journal ----
 
     @contextmanager
-    def turn(self) -> Iterator[None]:
-        """One call at a time on the plan, here and among all clients that hold its journal, with all entries read.
-
-        Whatever goes wrong but a refusal, nothing in memory is relied on after it.
-        """
+    def guarded(self) -> Iterator[None]:
+        """One call at a time on the plan. Where anything goes wrong but a refusal, nothing in memory is relied on."""
         with self.lock:
             try:
-                with holding(self.journal):
-                    self.read_on()
-                    yield
+                yield
             except Refused:
                 raise
             except BaseException:
                 self.start_over()
                 raise
+
+    @contextmanager
+    def turn(self, holds: bool = False) -> Iterator[None]:
+        """One call with all entries read; one that writes holds the journal against other clients."""
+        with self.guarded(), holding(self.journal) if holds else nullcontext():
+            self.read_on()
+            yield
 
     def start_over(self) -> None:
         self.release()
@@ -416,37 +426,47 @@ class Follower:
         return event
 
     def tell_once(self, event: Event, wait: bool, expect: int | None) -> Receipt:
-        with self.turn():
-            self.expects(expect)
-            event = self.placed(event)
-            key = str(event.key)
-            if (known := self.keys.get(key)) is not None:
-                if known.event != event:
-                    raise Contradicts("key", f"another event was told with the key {key!r}", with_key=key)
-                return self.receipt(key, {}, again=True)
-            telling = self.asked(lambda session: told(session, event, wait))
-            if telling.standing is Standing.KNOWN:
-                return self.receipt(key, {}, again=True)
-            teller = self.session
-            assert teller is not None
-            before = teller.standings()
-            entry = Told(event, telling.answer, moment_of_writing())
-            self.append(entry)
-            try:
-                teller.keep(telling, entry.when)
-                teller.covers += 1
-            except (OutOfTime, Unavailable):
-                self.release()
+        with self.guarded():
+            with self.turn(holds=True):
+                self.expects(expect)
+                event = self.placed(event)
+                key = str(event.key)
+                before = self.told(key, event, wait)
             return self.receipt(key, before)
 
-    def receipt(self, key: str, before: dict[str, Standing], again: bool = False) -> Receipt:
-        """What became of an event, and of those that had waited or held before it."""
-        verdict = self.known_verdict()
+    def told(self, key: str, event: Event, wait: bool) -> dict[str, Standing] | None:
+        """Tells an event and keeps it: what had become of each other event before, or nothing where it was told."""
+        if (known := self.keys.get(key)) is not None:
+            if known.event != event:
+                raise Contradicts("key", f"another event was told with the key {key!r}", with_key=key)
+            return None
+        telling = self.asked(lambda session: first_told(session, event, wait))
+        if telling.standing is Standing.KNOWN:
+            return None
+        teller = self.session
+        assert teller is not None
+        before = teller.standings()
+        entry = Told(event, telling.answer, moment_of_writing())
+        self.append(entry)
+        try:
+            teller.keep(telling, entry.when)
+            teller.covers += 1
+        except (OutOfTime, Unavailable):
+            self.release()
+        return before
+
+    def receipt(self, key: str, before: dict[str, Standing] | None) -> Receipt:
+        """What became of an event, and of those that had waited or held before it. A verdict that is not had in time is
+        unknown: the event is kept."""
+        try:
+            verdict = self.known_verdict()
+        except (OutOfTime, Unavailable):
+            verdict = Verdict(Can.UNKNOWN)
         tellings = self.asked(lambda session: session.tellings)
         own = tellings.get(key)
-        changed = [] if again else [(other, it.standing) for other, it in tellings.items()
-                                    if other != key and before.get(other) is not it.standing]
-        return Receipt(key, self.version, verdict, again, own.waits_for if own else WaitsFor(), added_by(own),
+        changed = [] if before is None else [(other, it.standing) for other, it in tellings.items()
+                                             if other != key and before.get(other) is not it.standing]
+        return Receipt(key, self.version, verdict, before is None, own.waits_for if own else WaitsFor(), added_by(own),
                        tuple(other for other, standing in changed if standing is Standing.TAKEN),
                        tuple(other for other, standing in changed if standing is Standing.FELL))
 
@@ -455,7 +475,7 @@ class Trial(Follower):
     """A copy of a plan for questions of "what if"."""
 
 
-def told(session: Session, event: Event, wait: bool) -> Telling:
+def first_told(session: Session, event: Event, wait: bool) -> Telling:
     """Tells an event; one that comes too soon waits, if it may."""
     try:
         return session.tell(event)

@@ -16,8 +16,8 @@ from cstn.plan import Plan
 class Host:
     """The plans of a store. A plan's process stays while it is among the `processes` that were used last.
 
-    For several threads: calls on one plan queue, calls on others don't wait. What the followers take, `cap`, `most_cap`,
-    `seconds` and `ahead`, is said once for all.
+    For several threads: calls on one plan queue, calls on others don't wait. What the followers take, `cap`,
+    `most_cap`, `seconds` and `ahead`, is said once for all.
     """
 
     def __init__(self, store: Store, *, processes: int = 64, cap: int = programs.CAP, most_cap: int = MOST_GROWN,
@@ -62,8 +62,7 @@ class Host:
     def taken_up(self, name: str) -> Follower:
         """A follower over the journal of a name."""
         journal = self.store.journal(name)
-        with holding(journal):
-            first = next(iter(journal.read(0)), None)
+        first = next(iter(journal.read(0)), None)
         if first is None:
             raise KeyError(name)
         head = parsed(*first)

@@ -22,12 +22,12 @@ SECONDS = 10.0
 
 
 def candidates() -> Iterator[Path]:
-    """Where a program may be: the environment's, the one in this package, the released one beside it, one on the path."""
+    """Where a program may be: the environment's, that of this package, the released one beside it, one on the path."""
     if named := os.environ.get("CSTN"):
         yield Path(named)
         return
     here = Path(__file__).resolve().parent
-    yield here / "program" / "cstn"
+    yield here / "released" / "cstn"
     yield here.parent.parent / "release" / "cstn"
     if found := shutil.which("cstn"):
         yield Path(found)

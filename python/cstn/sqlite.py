@@ -11,7 +11,7 @@ from collections.abc import Iterator
 from contextlib import contextmanager
 from pathlib import Path
 
-from cstn.errors import Busy, Moved
+from cstn.errors import Busy, Moved, NotKept
 
 TABLES = """
 create table if not exists document(digest text primary key, bytes blob not null) without rowid;
@@ -25,18 +25,22 @@ SECONDS = 20.0
 class SqliteStore:
     """The journals and documents of a file, which is made where there is none. Locks stand in a folder beside it.
 
-    For any number of threads and of processes on one machine; the folder is not to be one of a network.
+    For any number of threads and of processes on one machine; the folder is not to be one of a network. Raises
+    `NotKept` where it cannot be opened.
     """
 
     def __init__(self, path: str | Path, *, seconds: float = SECONDS) -> None:
         self.path, self.seconds = str(path), seconds
         self.locks = self.path + ".locks"
-        os.makedirs(self.locks, exist_ok=True)
         self.lock = threading.RLock()
-        self.connection = sqlite3.connect(self.path, timeout=seconds, isolation_level=None, check_same_thread=False)
-        for pragma in ("journal_mode=wal", "synchronous=full"):
-            self.connection.execute("pragma " + pragma).fetchall()
-        self.connection.executescript(TABLES)
+        try:
+            os.makedirs(self.locks, exist_ok=True)
+            self.connection = sqlite3.connect(self.path, timeout=seconds, isolation_level=None, check_same_thread=False)
+            for pragma in ("journal_mode=wal", "synchronous=full"):
+                self.connection.execute("pragma " + pragma).fetchall()
+            self.connection.executescript(TABLES)
+        except (OSError, sqlite3.Error) as error:
+            raise NotKept(f"{self.path} cannot be opened: {error}") from error
 
     def journal(self, plan: str) -> SqliteJournal:
         return SqliteJournal(self, plan)
@@ -88,15 +92,21 @@ class SqliteJournal:
 
     @contextmanager
     def held(self) -> Iterator[None]:
-        """Holds the plan against other threads and processes. Raises `Busy` after the store's seconds."""
-        until = time.monotonic() + self.store.seconds
-        with open(self.lock_path, "ab") as file:
-            while True:
-                try:
-                    fcntl.flock(file, fcntl.LOCK_EX | fcntl.LOCK_NB)
-                    break
-                except BlockingIOError:
-                    if time.monotonic() > until:
-                        raise Busy(f"another client holds {self.plan!r}") from None
-                    time.sleep(0.005)
+        """Holds the plan against other threads and processes. Raises `Busy` after the store's seconds, `NotKept`."""
+        try:
+            file = open(self.lock_path, "ab")
+        except OSError as error:
+            raise NotKept(f"the lock cannot be had: {error}") from error
+        with file:
+            self.lock(file.fileno())
             yield
+
+    def lock(self, file: int) -> None:
+        until = time.monotonic() + self.store.seconds
+        while True:
+            try:
+                return fcntl.flock(file, fcntl.LOCK_EX | fcntl.LOCK_NB)
+            except BlockingIOError:
+                if time.monotonic() > until:
+                    raise Busy(f"another client holds {self.plan!r}") from None
+                time.sleep(0.005)

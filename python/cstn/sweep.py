@@ -4,8 +4,8 @@
         for outcome in sweep(variants(plan, deadlines=range(300, 400, 10)), executor, progress=Bar()):
             print(outcome.name, outcome.verdict)
 
-Dask's `distributed` gives such an executor for workers on other machines: `Client(..).get_executor()`. The package has to
-be installed there, and the program with it.
+Dask's `distributed` gives such an executor for workers on other machines: `Client(..).get_executor()`. The package has
+to be installed there, and the program with it.
 """
 from __future__ import annotations
 

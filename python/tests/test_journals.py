@@ -19,8 +19,8 @@ EVENTS: list[Event] = [Did("Antibiotic", 91, "a"), Did("Sample", 5, "s"), Add("Z
 
 
 def worker(*words: str, events: list[Event]) -> subprocess.CompletedProcess[str]:
-    return subprocess.run([sys.executable, "-B", "-m", "tests.worker", *words], cwd=TOP, input=as_json(events), text=True,
-                          capture_output=True, timeout=60, check=False)
+    return subprocess.run([sys.executable, "-B", "-m", "tests.worker", *words], cwd=TOP, input=as_json(events),
+                          text=True, capture_output=True, timeout=60, check=False)
 
 
 class Sqlite(Folder):
