@@ -3,6 +3,7 @@ shortest, reactions that are written again by hand, and constraints that are nev
 import collections
 from collections.abc import Callable, Iterator
 
+from .cases import ways
 from .names import shown
 from .networks import Network, constraint, literals, ticks, where, written
 from .shapes import Data, Marks, Tree
@@ -176,21 +177,9 @@ def ranges(net: Network) -> list[tuple[int, int, str, str, int, int]]:
     return found
 
 
-def leaves(items: Tree, known: Marks, moments: dict[str, int]) -> Iterator[tuple[Marks, dict[str, int]]]:
-    """For each way through a tree the outcomes that were asked, and the moments of what is executed."""
-    moments = dict(moments)
-    for item in items:
-        if "ask" in item:
-            for value in ("true", "false"):
-                yield from leaves(item[value], {**known, item["ask"]: value == "true"}, moments)
-            return
-        moments.update(dict.fromkeys(item["names"], item["at"]))
-    yield known, moments
-
-
 def shortest(net: Network, tree: Tree) -> list[tuple[int, int, str, str, int, int, bool]]:
     """The ranges that a plan takes at their shortest, each with whether it does so in every case where it counts."""
-    ways, found = list(leaves(tree, {}, {})), []
+    ways, found = list(ways(tree, {}, {})), []
     for least, most, first, then, low, high in ranges(net):
         marks = net.forces[least]
         taken = [moments[then] - moments[first] == low for known, moments in ways

@@ -1,0 +1,114 @@
+"""Draws a plan: what waits for what, and when each step comes in each case.
+
+    ./cstn draw network FILE
+    ./cstn draw cases FILE [--case CASE] [--csv]
+    ./cstn draw now FILE SESSION [--case CASE]
+    ./cstn draw page FILE
+
+with the options --deadline N, --start HH:MM, --tick SECONDS and --tasks TASKS. docs/draw.md says what each form draws.
+"""
+import io
+import os
+import re
+import sys
+from dataclasses import dataclass, field
+
+from ..explain.asking import Asked, Stopped, read_once
+from .clock import Clock, read_clock
+from .gantt import draw_cases
+from .network import draw_network
+from .plans import Plan, chosen, read_network, read_plan
+from .table import write_table
+from .tasks import Task, read_tasks
+
+FORMS = {"network": 1, "cases": 1, "now": 2, "page": 1}
+VALUES = ("--case", "--deadline", "--start", "--tick", "--tasks")
+
+
+@dataclass
+class Request:
+    """What is asked for: the form, its files, and the options with their values."""
+
+    form: str
+    files: list[str]
+    options: dict[str, str] = field(default_factory=dict)
+    as_table: bool = False
+
+
+def parsed(words: list[str]) -> Request:
+    """The request that words make."""
+    if not words or words[0] not in FORMS:
+        raise Stopped(2, (__doc__ or "").strip())
+    request, left = Request(words[0], []), words[1:]
+    while left:
+        word = left.pop(0)
+        if word == "--csv":
+            request.as_table = True
+        elif word in VALUES and left:
+            request.options[word] = left.pop(0)
+        elif word.startswith("-") and word != "-" or word in VALUES:
+            raise Stopped(2, (__doc__ or "").strip())
+        else:
+            request.files.append(word)
+    if len(request.files) != FORMS[request.form]:
+        raise Stopped(2, (__doc__ or "").strip())
+    if not re.fullmatch(r"\d{1,7}", request.options.get("--deadline", "0")):
+        raise Stopped(2, "N is a number from 0 to 1000000, in ticks")
+    return request
+
+
+def tasks_named(asked: Asked, path: str | None) -> list[Task] | None:
+    """The tasks of a file, or none where none is named."""
+    if path is None:
+        return None
+    try:
+        with open(path, encoding="utf-8") as file:
+            return read_tasks(asked.net, file.read())
+    except (OSError, ValueError) as error:
+        raise Stopped(2, f"TASKS cannot be read: {error}") from error
+
+
+def title_of(path: str) -> str:
+    """The name of a document without its ending and its folder."""
+    name = os.path.basename(path)
+    return re.sub(r"[-_]", " ", name.removesuffix(".graphml")).capitalize() if "." in name else name
+
+
+def drawn(request: Request, plan: Plan) -> str:
+    """The picture, table or page that is asked for."""
+    if request.form == "network":
+        return draw_network(plan)
+    if not plan.cases:
+        raise Stopped(1, plan.why)
+    places = chosen(plan, request.options.get("--case"))
+    return write_table(plan, places) if request.as_table else draw_cases(plan, places)
+
+
+def main(words: list[str]) -> str:
+    """What is written for the words."""
+    request = parsed(words)
+    clock: Clock = read_clock(request.options.get("--start"), request.options.get("--tick"))
+    deadline = request.options.get("--deadline")
+    with read_once(request.files[0]) as (source, path):
+        asked = Asked(path, ["--deadline", deadline] if deadline else [])
+        asked.source = source
+        read_network(asked)
+        tasks = tasks_named(asked, request.options.get("--tasks"))
+        plan = read_plan(asked, title_of(request.files[0]), clock, tasks, request.form != "network")
+        return drawn(request, plan)
+
+
+def run(words: list[str]) -> int:
+    """Calls the command by its words, and answers the status with which it ends."""
+    try:
+        text = main(words)
+        if isinstance(sys.stdout, io.TextIOWrapper):
+            sys.stdout.reconfigure(encoding="utf-8", newline="\n")
+        print(text, end="", flush=True)
+        return 0
+    except Stopped as stopped:
+        print(stopped, file=sys.stderr)
+        return stopped.status
+    except BrokenPipeError:
+        os.dup2(os.open(os.devnull, os.O_WRONLY), 1)
+        return 1
