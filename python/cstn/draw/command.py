@@ -14,10 +14,14 @@ import sys
 from dataclasses import dataclass, field
 
 from ..explain.asking import Asked, Stopped, read_once
+from ..explain.looks import looks
 from .clock import Clock, read_clock
 from .gantt import draw_cases
 from .network import draw_network
+from .now import draw_now
+from .page import write_page
 from .plans import Plan, chosen, read_network, read_plan
+from .sessions import read_session
 from .table import write_table
 from .tasks import Task, read_tasks
 
@@ -61,11 +65,7 @@ def tasks_named(asked: Asked, path: str | None) -> list[Task] | None:
     """The tasks of a file, or none where none is named."""
     if path is None:
         return None
-    try:
-        with open(path, encoding="utf-8") as file:
-            return read_tasks(asked.net, file.read())
-    except (OSError, ValueError) as error:
-        raise Stopped(2, f"TASKS cannot be read: {error}") from error
+    return read_tasks(asked.net, text_of(path, "TASKS"))
 
 
 def title_of(path: str) -> str:
@@ -74,13 +74,32 @@ def title_of(path: str) -> str:
     return re.sub(r"[-_]", " ", name.removesuffix(".graphml")).capitalize() if "." in name else name
 
 
-def drawn(request: Request, plan: Plan) -> str:
+def text_of(path: str, called: str) -> str:
+    """The text of a file, or of the standard input for `-`."""
+    try:
+        with open(0 if path == "-" else path, "rb") as file:
+            return file.read().decode()
+    except (OSError, ValueError) as error:
+        raise Stopped(2, f"{called} cannot be read: {error}") from error
+
+
+def drawn_now(request: Request, asked: Asked, plan: Plan) -> str:
+    """The picture of a session, in the case that is wanted, else in the latest one."""
+    session = read_session(asked, text_of(request.files[1], "SESSION"))
+    return draw_now(plan, session, chosen(session.cases, request.options.get("--case", "latest")))
+
+
+def drawn(request: Request, asked: Asked, plan: Plan) -> str:
     """The picture, table or page that is asked for."""
     if request.form == "network":
         return draw_network(plan)
+    if request.form == "now":
+        return drawn_now(request, asked, plan)
+    if request.form == "page":
+        return write_page(plan, [line for _, _, lines in looks(asked, plan.verdict) for line in lines])
     if not plan.cases:
         raise Stopped(1, plan.why)
-    places = chosen(plan, request.options.get("--case"))
+    places = chosen(plan.cases, request.options.get("--case"))
     return write_table(plan, places) if request.as_table else draw_cases(plan, places)
 
 
@@ -94,8 +113,8 @@ def main(words: list[str]) -> str:
         asked.source = source
         read_network(asked)
         tasks = tasks_named(asked, request.options.get("--tasks"))
-        plan = read_plan(asked, title_of(request.files[0]), clock, tasks, request.form != "network")
-        return drawn(request, plan)
+        plan = read_plan(asked, title_of(request.files[0]), clock, tasks, request.form in ("cases", "page"))
+        return drawn(request, asked, plan)
 
 
 def run(words: list[str]) -> int:

@@ -79,20 +79,20 @@ def read_blame(asked: Asked, text: str) -> Blame:
     return Blame(ids_of(uses), waits, set(refutation.reactions()))
 
 
-def chosen(plan: Plan, wanted: str | None) -> list[int]:
+def chosen(cases: list[Case], wanted: str | None) -> list[int]:
     """The places of the cases that are wanted: all, the latest one, that of a number from 1 on, or those in which a label
     holds."""
-    places = list(range(len(plan.cases)))
+    places = list(range(len(cases)))
     if wanted is None or not places:
         return places
     if wanted in ("latest", "worst"):
-        return [max(places, key=lambda at: (plan.cases[at].end, -at))]
+        return [max(places, key=lambda at: (cases[at].end, -at))]
     if re.fullmatch(r"[1-9]\d{0,5}", wanted):
         found = [int(wanted) - 1] if int(wanted) <= len(places) else []
     else:
         marks = literals(wanted) if re.fullmatch("([¬!]?[A-Za-z])+", wanted) else {"": None}
-        found = [at for at in places if plan.cases[at].holds(marks)]
+        found = [at for at in places if cases[at].holds(marks)]
     if not found:
-        labels = ", ".join(written(it.outcomes) or "-" for it in plan.cases[:64])
+        labels = ", ".join(written(it.outcomes) or "-" for it in cases[:64])
         raise Stopped(2, f"there is no such case; the cases are: {labels}")
     return found

@@ -2,7 +2,8 @@
 tree or `follow` says.
 
     ./cstn explain FILE [PROOF [--only]] [--deadline N] [--json]
-    ./cstn explain --tree FILE [--deadline N] [--json]         --conflict and --tight likewise
+    ./cstn explain --tree FILE [--deadline N] [--json]         --conflict, --tight and --float likewise
+    ./cstn explain --step NAME FILE [--deadline N] [--json]
     ./cstn explain --plain FILE [--deadline N]
 
 PROOF is what a no wrote, of `check`, `run`, `closed`, `tree`, `conflict` or `tight`, or the tree of a yes, or what
@@ -19,22 +20,22 @@ import json
 import os
 import re
 import sys
-from typing import Any
 
 from .asking import Asked, Stopped, read_once
 from .conflicts import tell_sets
 from .documents import Reader, tell_passed_over
 from .following import is_answer, is_followed
-from .limits import ranges, tell_disagreeing, tell_never, tell_repeating, tell_shortest, tell_unlimited
+from .looks import looks
 from .names import harmless, harmless_data
-from .networks import Network, network_in_words, plain_copy, tell_unlabelled, ticks
+from .networks import Network, network_in_words, plain_copy, ticks
 from .proofs import tell_judged_tree, tell_refutation
 from .refusals import tell_refused
 from .sessions import tell_session
 from .shapes import Data
-from .trees import MOST_IN_WORDS, MOST_OF_A_LOOK, size
+from .steps import tell_float, tell_step
+from .trees import MOST_IN_WORDS, size
 
-ASKED = ("--plain", "--tree", "--conflict", "--tight")
+ASKED = ("--plain", "--tree", "--conflict", "--tight", "--float", "--step")
 
 
 def tell_proof(asked: Asked, text: str) -> tuple[int, Data, list[str]]:
@@ -111,29 +112,26 @@ def tell_conflict(asked: Asked) -> tuple[int, Data, list[str]]:
     return told or status, data, lines
 
 
-def look_at_shortest(asked: Asked) -> tuple[list[Data] | None, list[str]]:
-    """The ranges that the plan takes at their shortest, as data and in words; or why they are not told."""
-    net = asked.net
-    if not ranges(net):
-        return [], []
-    if size(net) > MOST_OF_A_LOOK:
-        return None, ["Which ranges the plan takes at their shortest is not told, since it has up to "
-                      f"{1 << len(net.observers)} ways."]
-    tree = asked.tree()
-    return tell_shortest(net, tree) if tree is not None else (None, [])
+def tell_verdict(asked: Asked) -> tuple[str, list[str]]:
+    """Whether the plan can be carried out, as the program says it and in words, unless that takes too many bounds."""
+    said = asked.answer_at("check", cap=asked.cap(1))[1].split("\n")[0]
+    by = f"by its deadline, {asked.net.deadline}"
+    if said.startswith("yes"):
+        return said, [f"Yes: the plan can be carried out {by}, whatever is observed."]
+    if said.startswith("no"):
+        return said, [f"No: the plan cannot be carried out {by}. Why, tells `./cstn explain --conflict FILE`."]
+    return said, [f"Whether the plan can be carried out {by}, is not told, since it takes many bounds: `./cstn check FILE` "
+                  "tells it."]
 
 
 def tell_document(asked: Asked, reader: Reader) -> tuple[Data, list[str]]:
     """What was passed over of a document, what its network says, and what is worth a second look."""
     net = asked.net
     passed, lines = tell_passed_over(reader, False)
-    data: Data = {"passed_over": passed, **net.data}
-    lines += network_in_words(net)
-    looks: tuple[tuple[str, tuple[Any, list[str]]], ...] = (
-        ("tied_to_one_case", tell_unlabelled(net)), ("no_upper_limit", tell_unlimited(net, asked.beyond)),
-        ("shortest", look_at_shortest(asked)), ("disagreeing_reactions", tell_disagreeing(net)),
-        ("never_in_force", tell_never(net)), ("repeating_a_label", tell_repeating(net)))
-    for key, (found, words) in looks:
+    verdict, head = tell_verdict(asked)
+    data: Data = {"verdict": verdict, "passed_over": passed, **net.data}
+    lines = [*head, *lines, *network_in_words(net)]
+    for key, found, words in looks(asked, verdict):
         data[key] = found
         lines += words
     return data, lines
@@ -163,6 +161,8 @@ def parsed(words: list[str]) -> tuple[str, list[str], list[str], bool, bool]:
             raise Stopped(2, "N is a number from 0 to 1000000, in ticks")
     if words[:1] and words[0] in ASKED:
         asked, words = words[0][2:], words[1:]
+    if asked == "step":
+        asked, words = f"step {''.join(words[:1])}", words[1:]
     if alone and (asked or len(words) == 1 and not words[0].startswith("-")):
         raise Stopped(2, "--only goes with PROOF, ANSWER or SESSION.")
     is_form = 1 + alone <= len(words) <= (1 if asked else 2) and not (as_data and asked == "plain")
@@ -184,6 +184,14 @@ def text_of(words: list[str]) -> str | None:
         raise Stopped(2, f"PROOF cannot be read: {error}") from error
 
 
+def told_of(asked: Asked, command: str) -> tuple[int, Data, list[str]]:
+    """What is asked of the program over a document."""
+    if command.startswith("step "):
+        return tell_step(asked, command.removeprefix("step "))
+    forms = {"tight": tell_tight, "tree": tell_tree, "conflict": tell_conflict, "float": tell_float}
+    return forms[command](asked)
+
+
 def tell(asked: Asked, command: str, text: str | None, alone: bool) -> tuple[int, Data, list[str]]:
     """The status, the data and the lines that are the answer over a document."""
     status, saved = asked.answer("save", asked.path, *asked.option)
@@ -198,7 +206,7 @@ def tell(asked: Asked, command: str, text: str | None, alone: bool) -> tuple[int
     asked.net.rows, asked.net.lines, asked.net.waits = reader.rows, reader.lines, reader.waits
     asked.net.is_canonical = asked.is_canonical()
     if command:
-        return {"tight": tell_tight, "tree": tell_tree, "conflict": tell_conflict}[command](asked)
+        return told_of(asked, command)
     data, lines = tell_alone(reader) if alone else tell_document(asked, reader)
     data = {"answer": "document", **data}
     if text is None:

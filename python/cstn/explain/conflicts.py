@@ -18,11 +18,11 @@ def tell_giving_way(asked: Asked, constraints: list[Data],
     found, lines, vain, text = [], [], None, without(asked.saved, ids_of(others) - ids_of(constraints))
     values = {it["constraint"]: it["at_most"] for it in constraints if it["constraint"] is not None}
     with kept(text) as copy, asked.live(copy, [], 0) as live:
-        for number, value, least, said in least_values(live, values, asked.net.deadline):
-            found.append({"constraint": number, "at_most": value, "least": least})
-            lines.append(f"constraint {asked.net.called(number)}: {instead(value, least, said, asked.net.deadline)}")
-            if said is False and not vain:
-                vain = number, without(text, {number})
+        for it in least_values(live, values, asked.net.deadline, asked.later_for(values)):
+            found.append({"constraint": it.number, "at_most": it.value, "least": it.least})
+            lines.append(f"constraint {asked.net.called(it.number)}: {instead(it, asked.net.deadline)}")
+            if it.said is False and not vain and not it.is_later:
+                vain = it.number, without(text, {it.number})
     if lines:
         mended = ", and the other set is mended" if others else ""
         lines.insert(0, f"Where one of these limits alone gives way{mended}, the least value with which the plan can "

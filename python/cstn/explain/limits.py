@@ -179,10 +179,10 @@ def ranges(net: Network) -> list[tuple[int, int, str, str, int, int]]:
 
 def shortest(net: Network, tree: Tree) -> list[tuple[int, int, str, str, int, int, bool]]:
     """The ranges that a plan takes at their shortest, each with whether it does so in every case where it counts."""
-    ways, found = list(ways(tree, {}, {})), []
+    all_ways, found = list(ways(tree, {}, {})), []
     for least, most, first, then, low, high in ranges(net):
         marks = net.forces[least]
-        taken = [moments[then] - moments[first] == low for known, moments in ways
+        taken = [moments[then] - moments[first] == low for known, moments in all_ways
                  if first in moments and then in moments
                  and all(known.get(letter, value) == value for letter, value in marks.items())]
         if any(taken):

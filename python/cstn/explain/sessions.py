@@ -52,7 +52,7 @@ def tell_told_again(asked: Asked, heard: Heard, numbers: list[int]) -> tuple[Dat
             return {}, [TOO_MUCH]
         if said:
             return {}, []
-        limits, lines = giving_way(live, values, deadline)
+        limits, lines = giving_way(live, values, deadline, asked.later_for(values))
         waits, more = awaiting(live, heard)
     return {"limits": limits, "waits": waits}, lines + more
 

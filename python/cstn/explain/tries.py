@@ -3,13 +3,13 @@ do."""
 import re
 import subprocess
 from collections.abc import Callable, Iterator
-from typing import Self
+from typing import NamedTuple, Self
 
 from .following import Heard
 from .shapes import Data
 
 MOST_LIMITS = 12
-CHECKS_OF_A_LIMIT = 21
+CHECKS_OF_A_LIMIT = 23
 
 
 class Live:
@@ -62,38 +62,60 @@ def nearest(met: Callable[[int], bool | None], fails: int, holds: int) -> int | 
     return holds
 
 
-def least_values(live: Live, values: dict[int, int],
-                 deadline: int) -> Iterator[tuple[int, int, int | None, bool | None]]:
-    """For each limit of a value above 0, twelve at most, with that value: the least one with which a yes stands if all
-    else stays, or none, and whether a yes stands with the deadline as its value."""
+class Least(NamedTuple):
+    """The least value of a limit that does, or none; whether a yes stands with the deadline as its value, or none where
+    that is not known; and whether it took a later deadline."""
+
+    number: int
+    value: int
+    least: int | None
+    said: bool | None
+    is_later: bool = False
+
+
+def least_values(live: Live, values: dict[int, int], deadline: int, later: int | None) -> Iterator[Least]:
+    """For each limit of a value above 0, twelve at most, the least value with which a yes stands if all else stays.
+    Where there is none up to the deadline, and a later one is named, it is tried with that."""
     for number, value in [it for it in values.items() if it[1] > 0][:MOST_LIMITS]:
-        def met(tried: int, number: int = number) -> bool | None:
-            return live.is_met(f"change {number} {tried}")
+        found = least_value(live, number, value, deadline)
+        if later is not None and found.least is None and found.said is False:
+            live.say(f"deadline {later}")
+            again = least_value(live, number, value, later)
+            live.say(f"deadline {deadline}")
+            found = again._replace(is_later=True) if again.least is not None else found
+        yield found
 
-        said = met(deadline) if deadline > value else False
-        least = nearest(met, value, deadline) if said else None
-        live.say(f"change {number} {value}")
-        yield number, value, least, said
+
+def least_value(live: Live, number: int, value: int, deadline: int) -> Least:
+    """The least value of a limit up to a deadline; the limit has its own value again afterwards."""
+    def met(tried: int) -> bool | None:
+        return live.is_met(f"change {number} {tried}")
+
+    said = met(deadline) if deadline > value else False
+    least = nearest(met, value, deadline) if said else None
+    live.say(f"change {number} {value}")
+    return Least(number, value, least, said)
 
 
-def instead(value: int, least: int | None, said: bool | None, deadline: int) -> str:
+def instead(found: Least, deadline: int) -> str:
     """The least value of a limit that would do, in words."""
-    if least is not None:
-        return f"{least} in place of {value}"
-    if value >= deadline:
+    if found.least is not None:
+        return f"{found.least} in place of {found.value}{', with a later deadline' if found.is_later else ''}"
+    if found.value >= deadline:
         return f"not tried, since the deadline, {deadline}, limits as much: say a later one by `--deadline N`"
-    if said is False:
+    if found.said is False:
         return f"none up to the deadline, {deadline}: without this limit there is still a no, for another reason"
     return "not known, since a check could not be ended"
 
 
-def giving_way(live: Live, values: dict[int, int], deadline: int) -> tuple[list[Data], list[str]]:
+def giving_way(live: Live, values: dict[int, int], deadline: int,
+               later: int | None) -> tuple[list[Data], list[str]]:
     """How far each limit would have to give way, as data and in words."""
     found, lines = [], []
-    for number, value, least, said in least_values(live, values, deadline):
-        found.append({"constraint": number, "at_most": value, "least": least})
-        stays = ", if all else stays" if least is not None else ""
-        lines.append(f"{number}: {instead(value, least, said, deadline)}{stays}")
+    for it in least_values(live, values, deadline, later):
+        found.append({"constraint": it.number, "at_most": it.value, "least": it.least})
+        stays = ", if all else stays" if it.least is not None else ""
+        lines.append(f"{it.number}: {instead(it, deadline)}{stays}")
     return found, lines
 
 
