@@ -1,6 +1,7 @@
 """All that the page of one plan shows, as data of JSON: reckoned in trials, so that looking changes nothing."""
 from __future__ import annotations
 
+import time
 from collections.abc import Mapping, Sequence
 from dataclasses import dataclass
 from typing import Any
@@ -18,6 +19,8 @@ from cstn.board.ahead import Ahead, overdue, play
 from cstn.board.words import Part, is_least, limit_parts, named, number_of, shown, told
 
 Data = dict[str, Any]
+SECONDS = 1.5
+"""How long a look may take to find until when steps can wait: what it does not come to stands without."""
 ROUNDS = 20
 """How many sets of blamed limits are let go, one after another, to see what would be next."""
 
@@ -30,6 +33,7 @@ class Look:
     outlook: Outlook
     tellings: Sequence[Telling]
     ahead: Ahead
+    latest: Mapping[str, int]
     due: Mapping[str, int]
     lates: Mapping[str, Late]
     ways: Sequence[WayOut]
@@ -43,15 +47,29 @@ def look(follower: Follower, now: int | None, chosen: Mapping[str, bool], *, who
     with follower.what_if() as trial:
         if now is not None:
             trial.tell(Now(now))
-        outlook = trial.outlook(latest=whole)
+        outlook = trial.outlook(latest=False)
+        due = due_before(follower, outlook.now)
+        if not whole:
+            return Look(follower.plan, outlook, tellings, Ahead(), {}, due, {}, (), None, [])
         is_no = outlook.verdict.can is Can.NO
-        ways = trial.ways_out() if whole and is_no else ()
-        lates = {it.letter: trial.late(it.letter) for it in outlook.awaited} if whole and not is_no else {}
-        meanwhile, let_go = let_all_go(trial) if whole and is_no else (None, [])
-    lines = [f"now {outlook.now}", *(f"remove {number}" for number in let_go)]
-    ahead = way_ahead(follower, lines, chosen) if whole else Ahead()
-    due = due_before(follower, outlook.now)
-    return Look(follower.plan, outlook, tellings, ahead, due, lates, ways, meanwhile, let_go)
+        ways = trial.ways_out() if is_no else ()
+        lates = {} if is_no else {it.letter: trial.late(it.letter) for it in outlook.awaited}
+        meanwhile, let_go = let_all_go(trial) if is_no else (None, [])
+        ahead = way_ahead(follower, [f"now {outlook.now}", *(f"remove {number}" for number in let_go)], chosen)
+        latest = {} if is_no else latest_of(trial, outlook, ahead)
+    return Look(follower.plan, outlook, tellings, ahead, latest, due, lates, ways, meanwhile, let_go)
+
+
+def latest_of(trial: Trial, outlook: Outlook, ahead: Ahead) -> dict[str, int]:
+    """Until when each step can wait: the next ones first, and as many as there is time for."""
+    end, found = time.monotonic() + SECONDS, {}
+    left = [it.name for it in trial.plan.steps if it.name not in outlook.done and it.name not in outlook.left_out]
+    for step in sorted(left, key=lambda it: ahead.steps.get(it, outlook.deadline)):
+        if time.monotonic() > end:
+            break
+        if (at := trial.by(step)) is not None:
+            found[step] = at
+    return found
 
 
 def let_all_go(trial: Trial) -> tuple[Next | None, list[int]]:
@@ -144,7 +162,7 @@ def step_data(index: int, step: Step, it: Look) -> Data:
     return {"index": index, "shown": shown(step.name), "start": step.name == "Z", "observes": step.observes,
             "reaction": step.reaction, "label": still_open(step, it), "state": standing(step, it),
             "at": it.outlook.done.get(step.name), "planned": it.ahead.steps.get(step.name),
-            "by": it.outlook.latest.get(step.name)}
+            "by": it.latest.get(step.name)}
 
 
 def result_data(letter: str, it: Look) -> Data:

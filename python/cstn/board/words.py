@@ -43,6 +43,8 @@ def limit_parts(limit: Limit, least: bool, most: int) -> list[Part]:
     if earlier == "Z":
         parts: list[Part] = [{"name": shown(later)}, {"text": " at "}, {"moment": number},
                              {"text": " or later" if least else " or earlier"}]
+    elif least and number == 0:
+        parts = [{"name": shown(later)}, {"text": " not before "}, {"name": shown(earlier)}]
     else:
         parts = [{"name": shown(later)}, {"text": " at least " if least else " at most "}, {"length": number},
                  {"text": " after "}, {"name": shown(earlier)}]

@@ -50,9 +50,7 @@ export function draw(root, ...children) {
     const fold = byKey(root, key);
     if (fold) fold.open = open;
   }
-  for (const [key, left] of before.scrolls) {
-    const part = root.querySelector(`[data-scroll="${key}"]`);
-    if (part) part.scrollLeft = left;
-  }
+  const scrolls = new Map(before.scrolls);
+  for (const part of root.querySelectorAll("[data-scroll]")) part.scrollLeft = scrolls.get(part.dataset.scroll) ?? part.dataset.start;
   if (before.focus) (byKey(root, before.focus) ?? root).focus({ preventScroll: true });
 }

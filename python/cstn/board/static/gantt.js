@@ -3,7 +3,6 @@ import { button, h, name, svg } from "./dom.js";
 
 const ROW = 28;
 const HEAD = 30;
-const LEAST = 620;
 const STEPS = [1, 2, 5, 10, 15, 20, 30, 60, 120, 180, 240, 360, 480, 720, 1440];
 
 /** The moments that stand at the axis: at most ten, and at round numbers. */
@@ -14,8 +13,6 @@ function marks(first, last) {
   for (let at = Math.ceil(first / step) * step; at <= last; at += step) found.push(at);
   return found;
 }
-
-const cut = (text, most) => ([...text].length > most ? `${[...text].slice(0, most - 1).join("")}…` : text);
 
 function span(data, now) {
   const moments = data.steps.flatMap((it) => [it.at, it.planned, it.state === "open" ? it.by : null]).filter((it) => it !== null && it !== undefined);
@@ -52,17 +49,28 @@ function says(step, page) {
   return `${step.shown}:${planned}${step.by === null ? "" : `, can wait until ${page.clock.at(step.by)}`}`;
 }
 
+/** A stripe behind every second row. */
+const stripe = (index, width) => (index % 2 ? svg("rect", { class: "stripe", x: 0, y: HEAD + index * ROW, width, height: ROW }) : null);
+
+const middle = (index) => HEAD + index * ROW + ROW / 2;
+
 function row(step, index, data, page, place) {
-  const y = HEAD + index * ROW + ROW / 2;
-  const late = page.data.late.some((it) => it.step === step.index);
-  const parts = [index % 2 ? svg("rect", { class: "stripe", x: 0, y: y - ROW / 2, width: place.width, height: ROW }) : null,
-    svg("text", { x: 4, y: y + 5 }, cut(step.shown, place.letters)), ...reaction(step, data, place, y)];
+  const y = middle(index);
+  const late = data.late.some((it) => it.step === step.index);
+  const parts = [stripe(index, place.width), ...reaction(step, data, place, y)];
   if (step.at !== null) parts.push(svg("circle", { class: "done", cx: place.x(step.at), cy: y, r: 7 }));
   else {
     if (step.planned !== null && step.by > step.planned) parts.push(bar(place, step.planned, step.by, y, "float"));
     if (step.planned !== null) parts.push(diamond(place.x(step.planned), y, late ? "late" : "planned"));
   }
   return svg("g", {}, svg("title", {}, says(step, page)), ...parts.filter(Boolean));
+}
+
+/** The names beside the picture, which stay where they are while it scrolls. A long one is cut at the edge. */
+function names(shown, place) {
+  const one = (step, index) => [stripe(index, place.names),
+    svg("svg", { x: 0, y: HEAD + index * ROW, width: place.names - 6, height: ROW }, svg("text", { x: 4, y: ROW / 2 + 5 }, step.shown))];
+  return svg("svg", { class: "gantt names", width: place.names, height: place.height + 4, "aria-hidden": "true" }, ...shown.flatMap(one).filter(Boolean));
 }
 
 function rows(data) {
@@ -72,11 +80,11 @@ function rows(data) {
 
 function place(data, now, count) {
   const room = document.documentElement.clientWidth;
-  const width = Math.max(LEAST, Math.min(room < 1224 ? room - 70 : room * 0.56, 980));
-  const names = room < 600 ? 130 : 190;
+  const names = room < 600 ? 110 : 180;
+  const width = Math.max(room < 600 ? 400 : 460, Math.min(room < 1224 ? room - 70 : room * 0.56, 980) - names);
   const { first, last } = span(data, now);
-  const x = (at) => names + ((Math.min(at, last) - first) / (last - first)) * (width - names - 36);
-  return { width, height: HEAD + count * ROW, letters: Math.floor(names / 8.6), first, last, x };
+  const x = (at) => 26 + ((Math.min(at, last) - first) / (last - first)) * (width - 60);
+  return { names, width, height: HEAD + count * ROW, first, last, x };
 }
 
 function picture(data, page) {
@@ -85,14 +93,16 @@ function picture(data, page) {
   const where = place(data, now, shown.length);
   const line = svg("line", { class: "now", x1: where.x(now), x2: where.x(now), y1: HEAD - 6, y2: where.height });
   const word = svg("text", { class: "axis now-text", x: where.x(now), y: HEAD - 2, "text-anchor": "middle" }, "now");
-  return svg("svg", { class: "gantt", width: where.width, height: where.height + 4, viewBox: `0 0 ${where.width} ${where.height + 4}`, role: "img", "aria-label": `The plan as a picture, ${shown.length} steps` },
+  const chart = svg("svg", { class: "gantt", width: where.width, height: where.height + 4, role: "img", "aria-label": `The plan as a picture, ${shown.length} steps` },
     ...frame(data, page, where), ...shown.map((step, index) => row(step, index, data, page, where)), line, word);
+  return h("div", { class: "scroll", "data-scroll": "gantt", "data-start": Math.max(0, where.x(now) - 60), tabindex: 0, role: "region", "aria-label": "The picture, which scrolls" },
+    names(shown, where), chart);
 }
 
 function choices(data, page) {
   if (!data.ahead.length) return null;
   return h("div", { class: "buttons", role: "group", "aria-label": "The picture of which case" }, h("span", {}, "The way ahead, if"),
-    data.ahead.map(({ letter, value }) => button(`case-${letter}`, `${letter} is ${value}`, () => page.choose(letter, !value),
+    data.ahead.map(({ letter, value }) => button(`case-${letter}`, `${letter} is ${value} ⇄`, () => page.choose(letter, !value),
       { "aria-label": `The picture supposes that ${letter} is ${value}; suppose the contrary`, "data-act": "case" })));
 }
 
@@ -108,5 +118,5 @@ function legend() {
 export function drawGantt(data, page) {
   if (!rows(data).length) return null;
   return h("section", { class: "card", id: "gantt" }, h("h2", {}, "The whole plan"), choices(data, page),
-    h("div", { class: "scroll", "data-scroll": "gantt", tabindex: 0, role: "region", "aria-label": "The picture, which scrolls" }, picture(data, page)), legend());
+    picture(data, page), legend());
 }

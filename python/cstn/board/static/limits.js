@@ -82,6 +82,6 @@ export function drawLimits(data, page) {
   const changed = data.limits.filter((it) => it.state).length;
   return h("details", { class: "card", "data-key": "limits", id: "limits" },
     h("summary", {}, `${data.limits.length} limits`, changed ? ` (${changed} not as in the document)` : ""),
-    deadline(data, page), h("h3", {}, "A limit more"), adder(data, page),
-    h("ul", { class: "rows" }, data.limits.map((it) => limitRow(it, page))));
+    h("div", { class: "inside" }, deadline(data, page), h("h3", {}, "A limit more"), adder(data, page),
+      h("h3", {}, "All limits"), h("ul", { class: "rows" }, data.limits.map((it) => limitRow(it, page)))));
 }
