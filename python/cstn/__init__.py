@@ -20,12 +20,13 @@ from cstn.host import Host
 from cstn.journal import Journal, MemoryJournal, Store
 from cstn.outlook import Awaited, Fallen, Late, Outlook, Waiting, WayOut
 from cstn.plan import Limit, Plan, Step
+from cstn.session import Standing, Telling
 from cstn.sqlite import SqliteJournal, SqliteStore
 from cstn.state import Seen
 
 __all__ = [
     "Add", "Awaited", "BadDocument", "Busy", "Can", "Change", "Changed", "Clock", "Contradicts", "CstnError",
     "Deadline", "Did", "Done", "Event", "Expect", "Fallen", "Follower", "Host", "Journal", "Late", "Limit",
-    "MemoryJournal", "Moved", "Next", "NoProgram", "NotKept", "NotYet", "Now", "OutOfRange", "OutOfTime", "Outlook", "Plan", "Receipt",
-    "Refused", "Saw", "Seen", "SqliteJournal", "SqliteStore", "Step", "Store", "TooMany", "Trial", "Unavailable",
-    "Unknown", "Verdict", "Waiting", "WaitsFor", "WayOut"]
+    "MemoryJournal", "Moved", "Next", "NoProgram", "NotKept", "NotYet", "Now", "OutOfRange", "OutOfTime", "Outlook",
+    "Plan", "Receipt", "Refused", "Saw", "Seen", "SqliteJournal", "SqliteStore", "Standing", "Step", "Store", "Telling",
+    "TooMany", "Trial", "Unavailable", "Unknown", "Verdict", "Waiting", "WaitsFor", "WayOut"]

@@ -5,6 +5,7 @@ told before counts once. Without one an event gets a key of its own.
 """
 from __future__ import annotations
 
+from collections.abc import Mapping
 from dataclasses import dataclass, field, fields, replace
 from datetime import datetime
 from typing import Any
@@ -126,9 +127,9 @@ def with_key(event: Event, key: str) -> Event:
 
 def to_data(event: Event) -> dict[str, Any]:
     """An event whose moment is a tick as data of JSON."""
+    values = {f.name: getattr(event, f.name) for f in fields(event) if value_stands(event, f.name)}
     return {"is": NAMES[type(event)]} | {
-        f.name: value if not isinstance(value := getattr(event, f.name), dict) else dict(value)
-        for f in fields(event) if value_stands(event, f.name)}
+        name: dict(value) if isinstance(value, Mapping) else value for name, value in values.items()}
 
 
 def value_stands(event: Event, name: str) -> bool:

@@ -109,7 +109,8 @@ class Followers(unittest.TestCase):
     def test_what_stands_against_it_is_told(self) -> None:
         follower = self.follower()
         follower.did("Sample", 5)
-        for event, recorded in ((Did("Sample", 6), 5), (Saw("i", True, 4), 5)):
+        facts: list[tuple[Event, int]] = [(Did("Sample", 6), 5), (Saw("i", True, 4), 5)]
+        for event, recorded in facts:
             with self.assertRaises(Contradicts) as caught:
                 follower.tell(event)
             self.assertEqual(caught.exception.recorded, recorded)

@@ -145,7 +145,7 @@ class Sqlite(Folder):
         if subprocess.run(["mount", "-t", "tmpfs", "-o", "size=300k", "none", small], check=False,
                           capture_output=True).returncode:
             self.skipTest("no disk can be mounted")
-        self.addCleanup(subprocess.run, ["umount", "-l", small], check=True)
+        self.addCleanup(lambda: subprocess.run(["umount", "-l", small], check=True))
         store = self.store("small/journals.db")
         with Follower(CLINIC, store.journal("a")) as follower:
             follower.did("Sample", 5)
@@ -168,10 +168,10 @@ class Hosts(Folder):
         super().setUp()
         self.path = os.path.join(self.folder, "ward.db")
 
-    def host(self, **words: int) -> Host:
+    def host(self, processes: int = 64) -> Host:
         store = SqliteStore(self.path)
         self.addCleanup(store.close)
-        host = Host(store, **words)
+        host = Host(store, processes=processes)
         self.addCleanup(host.close)
         return host
 

@@ -4,7 +4,7 @@ from datetime import datetime, timedelta, timezone
 
 from cstn.answers import Blame, Can, Done, Edited, Next, Refusal, Until, Verdict, parse
 from cstn.clock import Clock
-from cstn.events import Add, Change, Deadline, Did, Expect, Now, Saw, from_data, line_of, to_data
+from cstn.events import Add, Change, Deadline, Did, Event, Expect, Now, Saw, from_data, line_of, to_data
 from cstn.names import literals, plain, printed, written
 
 ANSWERS = [
@@ -28,7 +28,7 @@ ANSWERS = [
 ]
 NONE = [("did 5 A", "added 8"), ("by A", "by 95 B"), ("next", "next x"), ("add A B 5 -", "yes 5"), ("did 5 A", ""),
         ("did 5 A", "yes"), ("did 5 A", "yes -1"), ("did 5 A", "refused F9 A"), ("blame", "blame x"), ("by A", "by 5")]
-EVENTS = [
+EVENTS: list[tuple[Event, str]] = [
     (Did("A B", 5, "k"), "did 5 A%20B"),
     (Saw("i", False, 5, "k"), "saw 5 i false"),
     (Expect("i", 9, "k"), "await 9 i"),
@@ -72,7 +72,8 @@ class Lines(unittest.TestCase):
                 self.assertEqual(from_data(to_data(event)), event)
 
     def test_what_is_no_event(self) -> None:
-        for data in ({}, {"is": "x"}, {"is": "did"}, {"is": "did", "step": "A", "at": 5, "more": 1}):
+        none: list[dict[str, object]] = [{}, {"is": "x"}, {"is": "did"}, {"is": "did", "step": "A", "at": 5, "more": 1}]
+        for data in none:
             with self.subTest(data=data), self.assertRaises(ValueError):
                 from_data(data)
 

@@ -79,7 +79,7 @@ class Server:
         shutil.rmtree(self.folder)
 
 
-@unittest.skipUnless(PostgresStore and FOLDERS, "needs python3-psycopg and postgresql")
+@unittest.skipUnless(PostgresStore is not None and FOLDERS, "needs python3-psycopg and postgresql")
 class Postgres(unittest.TestCase):
     server: Server
 

@@ -1,9 +1,11 @@
 """Many variants, checked by threads, processes, and two workers of Dask's `distributed`."""
 import contextlib
+import importlib
 import io
 import os
 import unittest
 from concurrent.futures import Executor, ProcessPoolExecutor, ThreadPoolExecutor
+from typing import Any
 from unittest import mock
 
 from cstn import BadDocument, Can, OutOfTime, Plan
@@ -11,9 +13,9 @@ from cstn.sweep import Bar, Outcome, Variant, ranges, sweep, variants
 from tests.support import CLINIC, EMERGENCY, EXAMPLES, TOP, Folder
 
 try:
-    from distributed import Client, LocalCluster
+    distributed: Any = importlib.import_module("distributed")
 except ImportError:
-    Client = LocalCluster = None
+    distributed = None
 
 
 class Sweeps(Folder):
@@ -36,11 +38,12 @@ class Sweeps(Folder):
         with ProcessPoolExecutor(2) as executor:
             self.swept(executor)
 
-    @unittest.skipUnless(Client, "needs python3-distributed")
+    @unittest.skipUnless(distributed, "needs python3-distributed")
     def test_by_workers_of_dask(self) -> None:
         with mock.patch.dict(os.environ, PYTHONPATH=str(TOP)), \
-                LocalCluster(n_workers=2, threads_per_worker=1, processes=True, dashboard_address=None,
-                             local_directory=self.folder) as cluster, Client(cluster) as client:
+                distributed.LocalCluster(n_workers=2, threads_per_worker=1, processes=True, dashboard_address=None,
+                                         local_directory=self.folder) as cluster, \
+                distributed.Client(cluster) as client:
             self.assertEqual(len(client.scheduler_info()["workers"]), 2)
             with client.get_executor() as executor:
                 self.swept(executor)
