@@ -31,7 +31,8 @@ def draw_now(plan: Plan, session: Session, places: list[int]) -> str:
     done, now, panels = set(session.heard.done), session.heard.now, []
     for at in places:
         case = session.cases[at]
-        without = ", without these limits" if session.blamed and session.left else ""
+        limits = "this limit" if len(session.blamed + session.let_go) == 1 else "these limits"
+        without = f", without {limits}" if session.blamed and session.left else ""
         which = f", case {at + 1} of {len(session.cases)}" if len(session.cases) > 1 else ""
         left = "What is left" if case.moments.keys() - done - {"Z"} else "What was done"
         says = f"{left}{without}{which}: {outcomes_in_words(case) or 'the plan'}"
