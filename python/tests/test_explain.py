@@ -23,11 +23,12 @@ HERE = Path(__file__).resolve().parent
 def called(run: Callable[[list[str]], int], case: Case) -> tuple[int, str]:
     """How the call of a case ends, and what it writes."""
     with tempfile.TemporaryDirectory() as folder, given(case) as live:
-        words, out = placed(case, folder), io.StringIO()
+        words, out = placed(case, folder), io.TextIOWrapper(io.BytesIO(), encoding="utf-8", write_through=True)
         with contextlib.redirect_stdout(out), contextlib.redirect_stderr(out), \
                 mock.patch.dict(os.environ, {"CSTN": find()}), mock.patch("os.dup2"):
             status = run([live if it == "-" else it for it in words])
-    return status, out.getvalue().replace(folder + os.sep, "").replace(live, "-")
+        text = out.buffer.getvalue().decode() if isinstance(out.buffer, io.BytesIO) else ""
+    return status, text.replace(folder + os.sep, "").replace(live, "-")
 
 
 @contextlib.contextmanager

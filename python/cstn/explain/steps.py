@@ -64,7 +64,9 @@ def waiting_for(net: Network, name: str) -> list[str]:
     """The steps whose labels ask for what a step observes."""
     letter = net.observed.get(name)
     names = [shown(other) for other in net.names if letter and letter in net.executed[other]]
-    return [f"the labels of {', '.join(names)}, which ask for {letter}"] if names else []
+    if len(names) < 2:
+        return [f"the label of {it}, which asks for {letter}" for it in names]
+    return [f"the labels of {', '.join(names)}, which ask for {letter}"]
 
 
 def tell_step(asked: Asked, called: str) -> tuple[int, Data, list[str]]:
