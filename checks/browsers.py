@@ -1,4 +1,4 @@
-"""A board that is served in a folder of its own, and a browser without a screen that looks at it. Each wait has a limit."""
+"""A board that is served, and a browser without a screen that looks at it. Each wait has a limit."""
 import json
 import os
 import socket
@@ -74,8 +74,8 @@ class Served:
         environment = dict(os.environ, PYTHONPATH=os.path.join(TOP, "python"), CSTN=program())
         words = [*self.documents, "--port", str(self.port), "--journals", os.path.join(self.folder.name, "journals")]
         with open(os.path.join(self.folder.name, "said"), "w+b") as said:
-            self.process = subprocess.Popen([PYTHON, "-P", "-B", "-m", "cstn.board", *words, *self.words], stdin=subprocess.DEVNULL,
-                                            stdout=said, stderr=subprocess.STDOUT, env=environment)
+            self.process = subprocess.Popen([PYTHON, "-P", "-B", "-m", "cstn.board", *words, *self.words], stdout=said,
+                                            stderr=subprocess.STDOUT, stdin=subprocess.DEVNULL, env=environment)
         self.url = until("the board's address", self.said)
         until("the board's answer", lambda: self.ask("api/plans")[0] == 200)
 
@@ -100,10 +100,14 @@ class Served:
         except urllib.error.HTTPError as error:
             return error.code, error.read().decode(errors="replace"), error.headers
 
+    @property
+    def own(self):
+        """What a request of the board's own page says of itself."""
+        return {"Origin": f"http://127.0.0.1:{self.port}", "Content-Type": "application/json"}
+
     def tell(self, plan, **event):
         """Tells an event as the board's own page does."""
-        own = {"Origin": f"http://127.0.0.1:{self.port}", "Content-Type": "application/json"}
-        return self.ask(f"api/plans/{plan}/tell", {"key": os.urandom(8).hex(), **event}, own)
+        return self.ask(f"api/plans/{plan}/tell", {"key": os.urandom(8).hex(), **event}, self.own)
 
     def plans(self):
         """The plans by their titles."""

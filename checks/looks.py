@@ -1,4 +1,4 @@
-"""How a page looks, as far as it can be reckoned: nothing runs out of the window, text can be read, buttons can be hit."""
+"""How a page looks, as far as that can be reckoned: what is outside the window, too faint, too small, or overlaps."""
 
 WIDER = """
 const wide = document.documentElement.scrollWidth > innerWidth;
@@ -39,11 +39,13 @@ return faint;
 """
 
 OVERLAPPING = """
-const boxes = [...document.querySelectorAll(".gantt text:not(.now-text)")].filter((it) => !it.closest(".legend")).map((it) => [it, it.getBoundingClientRect()]);
+const texts = [...document.querySelectorAll(".scroll .gantt:not(.names) text:not(.now-text)")];
+const boxes = texts.map((it) => it.getBoundingClientRect());
 const found = [];
 for (let i = 0; i < boxes.length; i += 1) for (let j = i + 1; j < boxes.length; j += 1) {
-  const [a, b] = [boxes[i][1], boxes[j][1]];
-  if (a.left < b.right - 1 && b.left < a.right - 1 && a.top < b.bottom - 4 && b.top < a.bottom - 4) found.push(`${boxes[i][0].textContent} / ${boxes[j][0].textContent}`);
+  const [a, b] = [boxes[i], boxes[j]];
+  const [beside, above] = [a.left < b.right - 1 && b.left < a.right - 1, a.top < b.bottom - 4 && b.top < a.bottom - 4];
+  if (beside && above) found.push(`${texts[i].textContent} / ${texts[j].textContent}`);
 }
 return found;
 """

@@ -1,11 +1,10 @@
 """A night of 52 steps in a hangar, carried out on the board: nine times it does not go as planned."""
 import json
 import os
-import subprocess
 
-from browsers import TOP, Browser, Served, program, until
+from browsers import TOP, Browser, Served, until
 from looks import look
-from wards import dialog, step, tell, try_it, verdict
+from wards import dialog, followed, step, tell, try_it, verdict
 
 NIGHT = os.path.join(TOP, "examples", "night.graphml")
 TRUE = True
@@ -55,27 +54,27 @@ class Night:
     def not_before(self, page, name, tick):
         """A step is known to come later: a limit is put in on the page."""
         browser = self.browser
-        if not browser.run("return document.querySelector('#limits').open"):
+        if not browser.run("return document.querySelector('#limits details').open"):
             browser.click("the limits", "#limits summary")
         browser.choose("[data-key='add-step']", step(page, name))
         browser.choose("[data-key='add-kind']", "least")
         browser.choose("[data-key='add-from']", step(page, "Z"))
         browser.type("[data-key='add-ticks']", str(tick))
         browser.click("a limit", "[data-key='add']")
-        until("the limit", lambda: any(it["state"] == "added" and it["value"] == tick for it in self.page()["limits"]))
+        browser.says("the limit", "#history", "put in")
 
     def decide(self, what, *, wanted):
         """After a "no" limits give way as far as the board says, one after another, until it fits again."""
         before = self.decided
         for _ in range(DECISIONS):
-            page = self.page()
-            if page["verdict"] == "yes":
+            brief = self.next()
+            if brief["verdict"] == "yes":
                 break
             self.browser.wait("what is to blame", "#no [data-blamed], #no [data-act='give-deadline']")
             kinds = [it for it in ("give", "give-deadline", "remove") if self.browser.all(f"#no [data-act='{it}']")]
             self.browser.click(f"a decision, {what}", f"#no [data-act='{kinds[0]}']")
             self.decided += 1
-            until("the decision", lambda: self.page()["version"] > page["version"])
+            until("the decision", lambda: self.next()["version"] > brief["version"])
         verdict(self.browser, "yes")
         self.tally.check(f"{what}: whether somebody had to decide", self.decided > before, wanted)
 
@@ -167,7 +166,7 @@ def blending(it):
     dialog(it.browser, f"[data-step='{step(page, 'BlendEnd')}']", it.is_at(page["next"]["at"] - 3))
     tell(it.browser)
     it.browser.says("the limit", "#no", "at least")
-    look(it.tally, it.browser, "night-blending")
+    it.browser.picture("night-blending")
     it.decide("the blending that is early", wanted=True)
 
 
@@ -195,8 +194,7 @@ def ended(tally, board, it):
     """The whole night stands in the journal, and `follow` takes it to its end."""
     status, lines, _ = board.ask(f"api/plans/{it.plan}/journal")
     tally.check("the night's journal", status, 200)
-    told = subprocess.run([program(), "follow", NIGHT], input=lines.encode(), capture_output=True, timeout=60, check=False)
-    tally.check("what follow says of the night", (told.returncode, b"refused" in told.stdout, told.stdout.endswith(b"done\n")), (0, False, True))
+    tally.check("what follow says of the night", followed(NIGHT, lines), (0, False, True))
     words = [line.split(" ")[0] for line in lines.splitlines()]
     tally.check("steps that were done", words.count("did") >= 40)
     tally.check("results that came", words.count("saw"), 5)

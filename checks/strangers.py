@@ -11,22 +11,28 @@ from looks import look
 from wards import PATHWAY, did, verdict
 
 EVERY = "".join(chr(it) for it in range(1, 256) if it not in (0x9, 0xA, 0xD)) + "\t"
+OBEYED = re.compile("[\x00-\x1f\x7f-\x9f\u200e\u200f\u2028-\u202e\u2066-\u2069]")
+MADE = "img, iframe, script:not([src]), b[onclick], [onerror], [onload], [style]"
+PRESSED = 8
+MARKUP = re.compile(r"innerHTML|outerHTML|insertAdjacentHTML|document\.write|eval\(|https?://(?!www\.w3\.org)")
 BYTES = [EVERY[at:at + 32] for at in range(0, len(EVERY), 32)]
 NAMES = (
-    "<img src=x onerror=document.title='hurt'>", "<script>document.title='hurt'</script>", "\"'><svg/onload=document.title='hurt'>",
-    "javascript:document.title='hurt'", "{{7*7}}${7*7}<%=7*7%>", "../../api/plans", "a" * 64, "é" * 32, "\U0001f480" * 16,
-    "\u202egnp.exe", "\u2066\u2067turned", "wait", "i", "%0Adid 1 X", "a b  c", "-", "__proto__", "constructor", "&amp;amp;", *BYTES)
+    "<img src=x onerror=document.title='hurt'>", "<script>document.title='hurt'</script>",
+    "\"'><svg/onload=document.title='hurt'>", "javascript:document.title='hurt'", "{{7*7}}${7*7}<%=7*7%>",
+    *BYTES, "../../api/plans", "a" * 64, "é" * 32, "\U0001f480" * 16, "\u202egnp.exe", "\u2066\u2067turned", "wait",
+    "i", "%0Adid 1 X", "a b  c", "-", "__proto__", "constructor", "&amp;amp;")
 
 
 def document(names):
-    """A document of steps with these names, one after another, of which the first observes i and the last waits for it."""
-    nodes = [f'<node id="{quoted(name)}">' + ('<data key="Obs">i</data><data key="Reaction">2</data>' if at == 0 else "") + "</node>"
-             for at, name in enumerate(names)]
-    edges = [f'<edge source="{quoted(after)}" target="{quoted(before)}"><data key="LabeledValues">{{(-1, ⊡)}}</data></edge>'
+    """A document of steps with these names, one after another, of which the first observes i."""
+    observes = ['<data key="Obs">i</data><data key="Reaction">2</data>', *[""] * len(names)]
+    value = '<data key="LabeledValues">{(-1, ⊡)}</data>'
+    nodes = [f'<node id="{quoted(name)}">{more}</node>' for name, more in zip(names, observes)]
+    edges = [f'<edge source="{quoted(after)}" target="{quoted(before)}">{value}</edge>'
              for before, after in zip(names, names[1:])]
     sentence = "<!-- <b onclick=alert(1)>a sentence</b> \u202e \x85 -->"
-    return ('<graphml><graph><data key="Deadline">500</data>\n<node id="Z"/>\n' + "\n".join(nodes) + "\n" + sentence + "\n"
-            + "\n".join(edges) + "\n</graph></graphml>\n")
+    head = '<graphml><graph><data key="Deadline">500</data>\n<node id="Z"/>'
+    return "\n".join([head, *nodes, sentence, *edges, "</graph></graphml>\n"])
 
 
 def quoted(name):
@@ -37,8 +43,8 @@ def accepted(names):
     """The names that the program takes, each alone; XML has no signs for some bytes."""
     found = []
     for name in names:
-        done = subprocess.run([program(), "check", "/dev/stdin"], input=document([name, "last"]).encode(), capture_output=True,
-                              timeout=20, check=False)
+        done = subprocess.run([program(), "check", "/dev/stdin"], input=document([name, "last"]).encode(),
+                              capture_output=True, timeout=20, check=False)
         if done.stdout.startswith(b"yes"):
             found.append(name)
     return found
@@ -61,28 +67,32 @@ def carried_out(tally, pictures, path, names):
         browser.click("the plan", "[data-plan] button")
         verdict(browser, "yes")
         look(tally, browser, "hostile")
-        tally.check("names made no elements", browser.run(
-            "return document.querySelectorAll('img, script:not([src]), b[onclick], [onerror], [onload], [style], iframe').length"), 0)
+        made = browser.run("return document.querySelectorAll(arguments[0]).length", MADE)
+        tally.check("names made no elements", made, 0)
         page = board.page("hostile")
-        for each in page["steps"][1:]:
+        for each in page["steps"][1:PRESSED + 1]:
             did(browser, page, each["shown"])
-        browser.says("all is told", "#history", "more")
-        board.tell(page["id"], kind="saw", letter="i", value=True, at=2)
-        browser.says("the end", "#verdict", "done" if board.page("hostile")["over"] else "fits")
+        for each in page["steps"][PRESSED + 1:]:
+            status = board.tell(page["id"], kind="did", step=each["index"], at=40)[0]
+            tally.check(f"the step {each['shown']!r}", status, 200)
+        board.tell(page["id"], kind="saw", letter="i", value=True, at=40)
+        browser.says("the history", "#history", "more")
         tally.check("the title is the plan's", browser.run("return document.title"), "hostile")
-        tally.check("all that was done", sum(it["state"] == "done" for it in board.page("hostile")["steps"]), len(names) + 1)
-        tally.check("names that turn writing round", [it["shown"] for it in page["steps"] if re.search("[\x00-\x1f\x7f-\x9f\u202a-\u202e\u2066-\u2069]", it["shown"])], [])
+        states = [it["state"] for it in board.page("hostile")["steps"]]
+        tally.check("all that was done", states.count("done"), len(names) + 1)
+        turned = [it["shown"] for it in page["steps"] if OBEYED.search(it["shown"])]
+        tally.check("names that command a screen", turned, [])
         tally.check("the console of a hostile document", browser.console(), [])
 
 
 def heard(tally, _):
     """Which requests are heard, what is answered to others, and what the answers say to a browser."""
     with Served([PATHWAY]) as board:
-        own = {"Origin": f"http://127.0.0.1:{board.port}", "Content-Type": "application/json"}
-        plan, base = board.plans()["clinical-pathway"], f"http://127.0.0.1:{board.port}/"
+        own, plan, base = board.own, board.plans()["clinical-pathway"], f"http://127.0.0.1:{board.port}/"
         path, fact = f"api/plans/{plan}/tell", {"kind": "did", "step": 1, "at": 5, "key": "abcdefgh"}
         for name, wanted, answer in (
-            ("no token", 404, board.ask("", url=base)), ("another token", 404, board.ask("x" * 32 + "/api/plans", url=base)),
+            ("no token", 404, board.ask("", url=base)),
+            ("another token", 404, board.ask("x" * 32 + "/api/plans", url=base)),
             ("another host", 403, board.ask("api/plans", headers={"Host": f"evil.example:{board.port}"})),
             ("a page of another site", 403, board.ask("api/plans", headers={"Origin": "http://evil.example"})),
             ("a browser that says so", 403, board.ask("api/plans", headers={"Sec-Fetch-Site": "cross-site"})),
@@ -90,8 +100,10 @@ def heard(tally, _):
             ("a fact of another site", 403, board.ask(path, fact, own | {"Origin": "null"})),
             ("a form", 403, board.ask(path, b"kind=did", own | {"Content-Type": "application/x-www-form-urlencoded"})),
             ("no JSON", 400, board.ask(path, b"{", own)), ("a list", 400, board.ask(path, b"[]", own)),
-            ("deep JSON", 400, board.ask(path, b"[" * 9000, own)), ("a long body", 413, board.ask(path, b" " * 200000, own)),
-            ("no such plan", 404, board.ask(path.replace(plan, "0" * 16), fact, own)), ("a path", 404, board.ask("static/../web.py")),
+            ("deep JSON", 400, board.ask(path, b"[" * 9000, own)),
+            ("a long body", 413, board.ask(path, b" " * 200000, own)),
+            ("no such plan", 404, board.ask(path.replace(plan, "0" * 16), fact, own)),
+            ("a path", 404, board.ask("static/../web.py")),
             ("no such file", 404, board.ask("static/no.js")), ("a fact", 200, board.ask(path, fact, own)),
             ("the same once more", 200, board.ask(path, fact, own)),
             ("another one with its key", 409, board.ask(path, fact | {"at": 6}, own)), *wrong(board, path, own),
@@ -121,17 +133,18 @@ def headers(tally, board):
     """No script and no style in the markup, and nothing from elsewhere."""
     _, text, found = board.ask("")
     policy = found["Content-Security-Policy"]
-    for words in ("default-src 'none'", "script-src 'self'", "style-src 'self'", "frame-ancestors 'none'", "base-uri 'none'"):
+    for words in ("default-src 'none'", "script-src 'self'", "style-src 'self'", "frame-ancestors 'none'"):
         tally.check(f"the policy has {words}", words in policy)
     tally.check("the policy lets nothing in", re.findall(r"unsafe|https?:|\*", policy), [])
     tally.check("the markup", re.findall(r"<script>|<style|style=|\son\w+=|https?://", text), [])
-    for name, value in (("X-Content-Type-Options", "nosniff"), ("Referrer-Policy", "no-referrer"), ("Cache-Control", "no-store")):
+    for name, value in (("X-Content-Type-Options", "nosniff"), ("Referrer-Policy", "no-referrer"),
+                        ("Cache-Control", "no-store")):
         tally.check(name, found[name], value)
     folder = os.path.join(TOP, "python", "cstn", "board", "static")
     for name in sorted(os.listdir(folder)):
         with open(os.path.join(folder, name), encoding="utf-8") as file:
             code = file.read()
-        tally.check(f"{name} writes no markup", re.findall(r"innerHTML|outerHTML|insertAdjacentHTML|document\.write|eval\(|https?://(?!www\.w3\.org)", code), [])
+        tally.check(f"{name} writes no markup", MARKUP.findall(code), [])
 
 
 def listening(port):

@@ -65,6 +65,7 @@ class Board:
         self.host = Host(store, ahead=None if timing.by_hand else 1, program=program)
         self.lock = threading.Lock()
         self.looks: dict[str, tuple[object, Data]] = {}
+        self.turns: dict[str, threading.Lock] = {}
         self.pending = {short(it.title): it.title for it in documents.values() if it.title not in self.host.plans()}
         if timing.by_hand or timing.start is not None:
             for title in list(self.pending.values()):
@@ -167,14 +168,15 @@ class Board:
         state = (follower.version, now, tuple(sorted(chosen.items())))
         place = f"{plan} {whole}"
         with self.lock:
+            turn = self.turns.setdefault(place, threading.Lock())
+        with turn:
             known = self.looks.get(place)
-        if known is not None and known[0] == state:
-            return known[1]
-        it = look(follower, now, chosen, whole=whole)
-        data = (page(it) if whole else brief(it)) | {"now": it.outlook.now}
-        with self.lock:
+            if known is not None and known[0] == state:
+                return known[1]
+            it = look(follower, now, chosen, whole=whole)
+            data = (page(it) if whole else brief(it)) | {"now": it.outlook.now}
             self.looks[place] = (state, data)
-        return data
+            return data
 
     def page(self, plan: str, chosen: Mapping[str, bool]) -> Data:
         """What the page of a plan shows."""

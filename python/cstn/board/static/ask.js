@@ -1,5 +1,5 @@
 // The dialog that asks before something is told: when it was, and what would follow.
-import { h, name } from "./dom.js";
+import { h, listed, momentField } from "./dom.js";
 import * as talk from "./talk.js";
 import { tell } from "./telling.js";
 import { sentence } from "./words.js";
@@ -9,8 +9,7 @@ const dialog = document.getElementById("ask");
 function next(answer, page) {
   if (answer.over) return "Then all is done.";
   if (!answer.next) return null;
-  const parts = [...answer.next.names, ...answer.next.wait].map((it, i) => [i ? ", " : "", name(it)]);
-  return ["Next at ", page.clock.at(answer.next.at), ": ", parts];
+  return ["Next at ", page.clock.at(answer.next.at), ": ", listed([...answer.next.names, ...answer.next.wait])];
 }
 
 const WORDS = { yes: "It still fits, whatever the results are.", no: "Then nothing fits any more.", full: "The question is too large: not known." };
@@ -18,14 +17,11 @@ const WORDS = { yes: "It still fits, whatever the results are.", no: "Then nothi
 /** What would follow of an event that was not told. */
 export function outcome(answer, page) {
   const blame = answer.blame.map((it) => h("li", {}, sentence(it, page.clock)));
-  const waits = answer.waits.length > 0 && h("p", {}, "It comes too soon, and would wait for ", answer.waits.map((it, i) => [i ? ", " : "", name(it)]), ".");
-  return h("div", { class: `outcome ${answer.verdict}`, "data-outcome": answer.verdict, role: "status" }, h("strong", {}, WORDS[answer.verdict]), waits,
+  const waits = answer.waits.length > 0 && h("p", {}, "It comes too soon, and would wait for ", listed(answer.waits), ".");
+  return h("div", { class: `outcome ${answer.verdict}`, "data-outcome": answer.verdict, role: "status" },
+    h("strong", {}, WORDS[answer.verdict]), waits,
     answer.verdict === "yes" && h("p", {}, next(answer, page)),
     blame.length > 0 && [h("p", {}, "These limits cannot all be kept:"), h("ul", {}, blame)]);
-}
-
-function momentField(page, event) {
-  return h("input", { class: "short", id: "ask-at", value: page.clock.at(event.at).split(" ")[0], autocomplete: "off", inputmode: page.clock.hasTimes() ? "text" : "numeric" });
 }
 
 /** The event that the dialog says at this moment, or words for what is wrong with it. */
@@ -49,7 +45,7 @@ function words(event, about, page) {
 const KINDS = [["true", "came, and is true"], ["false", "came, and is false"], ["late", "is late, and expected at"], ["never", "will not come"]];
 
 function parts(page, about) {
-  const at = momentField(page, about.event);
+  const at = momentField(page.clock, { id: "ask-at", value: page.clock.at(about.event.at).split(" ")[0] });
   const kinds = about.correcting ? KINDS.slice(0, 2) : KINDS;
   const kind = h("select", { id: "ask-kind" }, kinds.map(([value, words]) => h("option", { value }, words)));
   if (about.event.value === false) kind.value = "false";
@@ -84,12 +80,13 @@ export function askAbout(page, about) {
     dialog.close();
     await (about.send ? about.send(asked) : tell(page, asked, words(asked, about, page)));
   };
+  const leave = () => { dialog.close(); about.leave(); };
   dialog.replaceChildren(h("form", { onsubmit: send },
     h("h2", { id: "ask-title" }, about.title),
     h("div", { class: "fields" }, about.letter && h("label", {}, "The result", it.kind), it.moment), it.wrong, it.found,
     h("div", { class: "buttons" }, h("button", { class: "button first", id: "ask-tell" }, about.correcting ? "Correct it" : "Tell it"),
       !about.correcting && h("button", { type: "button", class: "button", id: "ask-try", onclick: tryIt }, "What if?"),
-      about.correcting && h("button", { type: "button", class: "button grave", id: "ask-leave", onclick: () => { dialog.close(); about.leave(); } }, "It did not happen"),
+      about.correcting && h("button", { type: "button", class: "button grave", id: "ask-leave", onclick: leave }, "It did not happen"),
       h("button", { type: "button", class: "button", onclick: () => dialog.close() }, "Close"))));
   dialog.showModal();
   it.at.select();

@@ -9,7 +9,7 @@ const POLL = 5000;
 const OLD = 10000;
 const SAID_FOR = 7000;
 
-const state = { data: null, clock: null, alive: true, chosen: {}, asked: 0, fetched: 0, timer: null, saidTimer: null };
+const state = { data: null, clock: null, alive: true, chosen: {}, wanted: 0, asked: 0, asking: null, fetched: 0, timer: null, saidTimer: null };
 const main = document.getElementById("main");
 const top = document.getElementById("top");
 const said = document.getElementById("said");
@@ -66,16 +66,27 @@ function choose(letter, value) {
   refresh();
 }
 
-/** Asks for what is shown; the answer to an older question is dropped. */
-export async function refresh() {
-  const number = ++state.asked;
-  const plan = openPlan();
+/** Asks for what is shown, one question at a time: what changes meanwhile is asked for once more behind it. */
+export function refresh() {
+  state.wanted += 1;
+  state.asking ??= askOn().finally(() => { state.asking = null; });
+  return state.asking;
+}
+
+async function askOn() {
+  while (state.asked < state.wanted) {
+    state.asked = state.wanted;
+    await ask(openPlan());
+  }
+}
+
+async function ask(plan) {
   try {
     const data = plan ? await talk.plan(plan, state.chosen) : await talk.plans();
-    if (number !== state.asked) return;
+    if (plan !== openPlan()) return;
     Object.assign(state, { data, alive: true, fetched: Date.now(), clock: plan ? new Clock(data.clock) : null });
   } catch (error) {
-    if (number !== state.asked) return;
+    if (plan !== openPlan()) return;
     state.alive = false;
     if (error.data?.error) say(error.message);
   }

@@ -21,6 +21,23 @@ export const svg = (tag, attributes = {}, ...children) => build(document.createE
 /** A name of the document, which may be in any script and of any length. */
 export const name = (text) => h("bdi", { class: "name" }, text);
 
+/** A number, or a moment, in a sentence. */
+export const number = (text, more = {}) => h("b", { class: "number", ...more }, text);
+
+/** Words beside what matters, if there are any. */
+export const quiet = (...words) => (words.some(Boolean) ? h("p", { class: "quiet" }, words) : null);
+
+/** Names in a row, with commas. */
+export const listed = (names) => names.map((it, i) => [i ? ", " : "", name(it)]);
+
+/** A field for a moment. */
+export const momentField = (clock, more) =>
+  h("input", { class: "short", autocomplete: "off", inputmode: clock.hasTimes() ? "text" : "numeric", ...more });
+
+/** A part of a page that is unfolded by its title. */
+export const fold = (key, title, ...children) =>
+  h("details", { "data-key": key }, h("summary", {}, title), h("div", { class: "inside" }, children));
+
 /** A button that says what it does; `key` finds it again after the page was drawn anew. */
 export function button(key, text, act, more = {}) {
   const { kind = "", ...attributes } = more;

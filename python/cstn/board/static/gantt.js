@@ -24,7 +24,8 @@ function frame(data, page, place) {
   const grid = marks(place.first, place.last).map((at) => [
     svg("line", { class: "grid", x1: place.x(at), x2: place.x(at), y1: HEAD - 6, y2: place.height }),
     svg("text", { class: "axis", x: place.x(at), y: 14, "text-anchor": "middle" }, page.clock.at(at))]);
-  const end = data.deadline <= place.last && svg("line", { class: "end", x1: place.x(data.deadline), x2: place.x(data.deadline), y1: HEAD - 6, y2: place.height });
+  const x = place.x(data.deadline);
+  const end = data.deadline <= place.last && svg("line", { class: "end", x1: x, x2: x, y1: HEAD - 6, y2: place.height });
   return [grid, end].flat(2).filter(Boolean);
 }
 
@@ -70,7 +71,8 @@ function row(step, index, data, page, place) {
 function names(shown, place) {
   const one = (step, index) => [stripe(index, place.names),
     svg("svg", { x: 0, y: HEAD + index * ROW, width: place.names - 6, height: ROW }, svg("text", { x: 4, y: ROW / 2 + 5 }, step.shown))];
-  return svg("svg", { class: "gantt names", width: place.names, height: place.height + 4, "aria-hidden": "true" }, ...shown.flatMap(one).filter(Boolean));
+  return svg("svg", { class: "gantt names", width: place.names, height: place.height + 4, "aria-hidden": "true" },
+    ...shown.flatMap(one).filter(Boolean));
 }
 
 function rows(data) {
@@ -93,10 +95,11 @@ function picture(data, page) {
   const where = place(data, now, shown.length);
   const line = svg("line", { class: "now", x1: where.x(now), x2: where.x(now), y1: HEAD - 6, y2: where.height });
   const word = svg("text", { class: "axis now-text", x: where.x(now), y: HEAD - 2, "text-anchor": "middle" }, "now");
-  const chart = svg("svg", { class: "gantt", width: where.width, height: where.height + 4, role: "img", "aria-label": `The plan as a picture, ${shown.length} steps` },
+  const label = `The plan as a picture, ${shown.length} steps`;
+  const chart = svg("svg", { class: "gantt", width: where.width, height: where.height + 4, role: "img", "aria-label": label },
     ...frame(data, page, where), ...shown.map((step, index) => row(step, index, data, page, where)), line, word);
-  return h("div", { class: "scroll", "data-scroll": "gantt", "data-start": Math.max(0, where.x(now) - 60), tabindex: 0, role: "region", "aria-label": "The picture, which scrolls" },
-    names(shown, where), chart);
+  const scrolls = { "data-scroll": "gantt", "data-start": Math.max(0, where.x(now) - 60), tabindex: 0 };
+  return h("div", { class: "scroll", ...scrolls, role: "region", "aria-label": "The picture, which scrolls" }, names(shown, where), chart);
 }
 
 function choices(data, page) {

@@ -1,6 +1,6 @@
 // What was told, the last first, with a way to correct each: the journal is then told anew.
 import { askAbout } from "./ask.js";
-import { button, h } from "./dom.js";
+import { button, fold, h } from "./dom.js";
 import * as talk from "./talk.js";
 import { plain, sentence } from "./words.js";
 
@@ -35,7 +35,8 @@ function tag(entry) {
 function row(entry, page) {
   const moment = entry.at === null ? null : h("span", { class: "number quiet" }, page.clock.at(entry.at), " ");
   return h("li", { class: "row", "data-line": entry.n }, h("div", { class: "says" }, moment, sentence(entry.parts, page.clock), " ", tag(entry)),
-    entry.event && button(`correct-${entry.n}`, "Correct …", () => open(page, entry), { "data-act": "correct", "aria-label": `Correct: ${plain(entry.parts, page.clock)}` }));
+    entry.event && button(`correct-${entry.n}`, "Correct …", () => open(page, entry),
+      { "data-act": "correct", "aria-label": `Correct: ${plain(entry.parts, page.clock)}` }));
 }
 
 export function drawHistory(data, page) {
@@ -44,5 +45,5 @@ export function drawHistory(data, page) {
   const [last, older] = [entries.slice(0, SHOWN), entries.slice(SHOWN)];
   return h("section", { class: "card", id: "history" }, h("h2", {}, "What was told"),
     entries.length ? null : h("p", { class: "quiet" }, "Nothing yet."), h("ol", { class: "rows" }, last.map((it) => row(it, page))),
-    older.length ? h("details", { "data-key": "older" }, h("summary", {}, `${older.length} more`), h("ol", { class: "rows" }, older.map((it) => row(it, page)))) : null);
+    older.length ? fold("older", `${older.length} more`, h("ol", { class: "rows" }, older.map((it) => row(it, page)))) : null);
 }

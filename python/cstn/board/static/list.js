@@ -1,6 +1,6 @@
 // The list of plans: what is next in each, and what is late.
 import { Clock } from "./clock.js";
-import { button, h, name } from "./dom.js";
+import { button, h, listed, name, number } from "./dom.js";
 import * as talk from "./talk.js";
 
 const VERDICTS = { yes: "on plan", no: "does not fit", full: "not known" };
@@ -9,8 +9,7 @@ function nextOf(plan, clock) {
   if (!plan.begun) return h("p", {}, "Not begun.");
   if (plan.over) return h("p", {}, "All is done.");
   if (!plan.next) return h("p", {}, "Nothing fits any more: somebody has to decide.");
-  const parts = [...plan.next.names, ...plan.next.wait].map((it, i) => [i ? ", " : "", name(it)]);
-  return h("p", {}, "Next at ", h("span", { class: "number" }, clock.at(plan.next.at)), ": ", parts);
+  return h("p", {}, "Next at ", number(clock.at(plan.next.at)), ": ", listed([...plan.next.names, ...plan.next.wait]));
 }
 
 function lateOf(plan, clock) {
