@@ -299,5 +299,6 @@ def draw_cases(plan: Plan, places: list[int]) -> str:
     """The picture of some cases, by their places: an overview where they are several, and a panel for each."""
     drawn = places[:MOST_CASES]
     left_out = len(places) - len(drawn)
-    told = [f"{left_out} of {len(places)} cases are left out: `--case` draws one."] if left_out else []
+    told = [plan.left_out] if plan.left_out else []
+    told += [f"{left_out} of {len(places)} cases are left out: `--case` draws one."] if left_out else []
     return draw_panels(plan, [panel_of(plan, at) for at in drawn], told, drawn)

@@ -25,7 +25,8 @@ class Blame:
 
 @dataclass
 class Plan:
-    """A plan that is drawn. Without a case where it is a no, or has too many of them, which `why` says."""
+    """A plan that is drawn. Without a case where it is a no, or has too many of them, which `why` says; `left_out` says
+    what its pictures lack."""
 
     net: Network
     title: str
@@ -35,6 +36,7 @@ class Plan:
     tasks: list[Task] = field(default_factory=list)
     blame: Blame | None = None
     why: str = ""
+    left_out: str = ""
 
 
 def read_network(asked: Asked) -> None:
@@ -65,7 +67,8 @@ def read_plan(asked: Asked, title: str, clock: Clock, tasks: list[Task] | None, 
         plan.why = f"The plan has up to {1 << len(asked.net.observers)} cases, too many for a picture."
     elif with_cases:
         plan.cases = cases_of(asked.net, asked.tree() or [])
-        ask_latest(asked, plan.cases)
+        if not ask_latest(asked, plan.cases):
+            plan.left_out = "How long each step can wait is left out, since that is too much to ask."
     return plan
 
 
