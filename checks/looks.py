@@ -1,4 +1,5 @@
 """How a page looks, as far as that can be reckoned: what is outside the window, too faint, too small, or overlaps."""
+import time
 
 WIDER = """
 const wide = document.documentElement.scrollWidth > innerWidth;
@@ -58,7 +59,7 @@ def look(tally, browser, name):
     """Looks at the page as it stands, narrow and wide, light and dark, and takes pictures."""
     for width in WIDTHS:
         browser.size(width, 900)
-        browser.run("dispatchEvent(new Event('resize'))")
+        time.sleep(0.3)  # The page is drawn anew.
         for scheme in SCHEMES:
             browser.colours(scheme)
             where = f"{name}, {width} pixels, {scheme}"

@@ -21,6 +21,8 @@ HEARD = [
     ("its own page", Asked(HOST, OWN, "same-origin", True, True), True),
     ("a page that is opened", Asked(HOST, None, "none", False, False), True),
     ("a program that asks", Asked(HOST, None, None, False, False), True),
+    ("a link to it", Asked(HOST, None, "cross-site", False, False, True), True),
+    ("a form of another site", Asked(HOST, None, "cross-site", True, True, True), False),
     ("another host", Asked("evil.example", OWN, None, False, False), False),
     ("a host with another port", Asked("127.0.0.1:1", None, None, False, False), False),
     ("another origin", Asked(HOST, "http://evil.example", None, False, False), False),

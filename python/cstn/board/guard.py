@@ -32,6 +32,8 @@ class Asked:
     site: str | None
     writes: bool
     is_json: bool
+    navigates: bool = False
+    """Whether somebody opens it as a page, by a link perhaps."""
 
 
 @dataclass(frozen=True)
@@ -53,6 +55,7 @@ class Guard:
             return "what is told has to come from the board's own page"
         if asked.origin is not None and asked.origin != f"http://{asked.host}":
             return "this page is of another site"
-        if asked.site not in (None, "same-origin", "none") or asked.writes and asked.site == "none":
+        opens = asked.site == "none" or asked.navigates
+        if asked.site not in (None, "same-origin") and (asked.writes or not opens):
             return "this page is of another site"
         return "a request is JSON" if asked.writes and not asked.is_json else None

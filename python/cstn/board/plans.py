@@ -10,7 +10,7 @@ from datetime import datetime, timedelta
 from typing import Any
 
 from cstn.clock import Clock
-from cstn.errors import Moved
+from cstn.errors import CstnError, Moved
 from cstn.events import Event, Now, with_key
 from cstn.follower import Follower, Receipt
 from cstn.host import Host
@@ -194,10 +194,17 @@ class Board:
             if plan in self.pending:
                 plans.append(head | {"clock": unknown_clock(), "late": []})
                 continue
-            data = self.looked(plan, {}, whole=False)
-            plans.append(head | data | {"clock": self.clock(self.follower(plan), data["now"])})
+            plans.append(head | self.brief(plan))
         documents = [{"id": key, "title": shown(it.title)} for key, it in self.documents.items()]
         return {"plans": plans, "documents": documents}
+
+    def brief(self, plan: str) -> Data:
+        """What the list shows of a plan that was begun: where it cannot be asked, why."""
+        try:
+            data = self.looked(plan, {}, whole=False)
+            return data | {"clock": self.clock(self.follower(plan), data["now"])}
+        except CstnError as error:
+            return {"clock": unknown_clock(), "late": [], "error": shown(str(error))}
 
     def journal(self, plan: str) -> str:
         """The lines that were taken, in an order in which `cstn follow` takes them."""

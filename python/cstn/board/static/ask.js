@@ -56,6 +56,12 @@ function parts(page, about) {
   return { at, kind, moment, ...places };
 }
 
+/** Gives the focus back to the button that opened the dialog, which may have been drawn anew. */
+function backTo(key) {
+  const button = key && document.querySelector(`#main [data-key="${CSS.escape(key)}"]`);
+  if (button) button.focus({ preventScroll: true });
+}
+
 /** Opens the dialog about one event. With `letter` it may have come or be late. `correcting` puts it in the place of one that was told, by `send`. */
 export function askAbout(page, about) {
   const it = parts(page, about);
@@ -80,6 +86,7 @@ export function askAbout(page, about) {
     dialog.close();
     await (about.send ? about.send(asked) : tell(page, asked, words(asked, about, page)));
   };
+  const opener = document.activeElement?.dataset.key;
   const leave = () => { dialog.close(); about.leave(); };
   dialog.replaceChildren(h("form", { onsubmit: send },
     h("h2", { id: "ask-title" }, about.title),
@@ -89,5 +96,6 @@ export function askAbout(page, about) {
       about.correcting && h("button", { type: "button", class: "button grave", id: "ask-leave", onclick: leave }, "It did not happen"),
       h("button", { type: "button", class: "button", onclick: () => dialog.close() }, "Close"))));
   dialog.showModal();
+  dialog.addEventListener("close", () => backTo(opener), { once: true });
   it.at.select();
 }

@@ -9,7 +9,7 @@ const POLL = 5000;
 const OLD = 10000;
 const SAID_FOR = 7000;
 
-const state = { data: null, clock: null, alive: true, chosen: {}, wanted: 0, asked: 0, asking: null, fetched: 0, timer: null, saidTimer: null };
+const state = { data: null, clock: null, alive: true, chosen: {}, wanted: 0, asked: 0, asking: null, fetched: 0, forced: false, held: false, timer: null, resizing: null, saidTimer: null };
 const main = document.getElementById("main");
 const top = document.getElementById("top");
 const said = document.getElementById("said");
@@ -33,16 +33,22 @@ function drawTop(data) {
   document.title = plan && data ? data.title : "Plans";
 }
 
+/** Whether somebody writes into a field of the page, which is then not drawn anew under their hands. */
+const isWriting = () => main.contains(document.activeElement) && document.activeElement.matches("input, select");
+
 function drawAll() {
   const data = state.data;
   drawTop(data);
+  tickLater();
+  state.held = isWriting() && !state.forced;
+  if (state.held) return null;
+  state.forced = false;
   const offline = !state.alive && h("section", { class: "card state offline wide", role: "alert" },
     h("strong", {}, "No connection"), h("p", {}, "The board does not answer. What stands here may be old, and nothing is told."));
-  main.className = openPlan() ? "plan" : "list";
+  main.className = `${openPlan() ? "plan" : "list"} ${state.alive ? "" : "stale"}`;
   if (!data) return draw(main, offline || h("p", {}, "One moment .."));
-  const page = { ...state, say, refresh, choose };
-  draw(main, offline, openPlan() ? drawPlan(data, page) : drawList(data, page));
-  tickLater();
+  const page = { ...state, say, refresh: refreshNow, choose };
+  return draw(main, offline, openPlan() ? drawPlan(data, page) : drawList(data, page));
 }
 
 /** Draws the page anew when the next tick begins, and asks anew where it is another answer by then. */
@@ -63,7 +69,7 @@ function tickLater() {
 
 function choose(letter, value) {
   state.chosen = { ...state.chosen, [letter]: value };
-  refresh();
+  refreshNow();
 }
 
 /** Asks for what is shown, one question at a time: what changes meanwhile is asked for once more behind it. */
@@ -71,6 +77,12 @@ export function refresh() {
   state.wanted += 1;
   state.asking ??= askOn().finally(() => { state.asking = null; });
   return state.asking;
+}
+
+/** Asks, and draws whoever writes: what they did themselves has to be seen. */
+function refreshNow() {
+  state.forced = true;
+  return refresh();
 }
 
 async function askOn() {
@@ -106,8 +118,13 @@ function listen() {
   });
 }
 
+main.addEventListener("focusout", () => setTimeout(() => { if (state.held) drawAll(); }, 0));
+window.addEventListener("resize", () => {
+  clearTimeout(state.resizing);
+  state.resizing = setTimeout(drawAll, 100);
+});
 window.addEventListener("hashchange", () => {
-  Object.assign(state, { data: null, chosen: {} });
+  Object.assign(state, { data: null, chosen: {}, forced: true });
   refresh();
   main.focus();
 });

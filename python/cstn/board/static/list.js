@@ -6,6 +6,7 @@ import * as talk from "./talk.js";
 const VERDICTS = { yes: "on plan", no: "does not fit", full: "not known" };
 
 function nextOf(plan, clock) {
+  if (plan.error) return h("p", { class: "wrong" }, plan.error);
   if (!plan.begun) return h("p", {}, "Not begun.");
   if (plan.over) return h("p", {}, "All is done.");
   if (!plan.next) return h("p", {}, "Nothing fits any more: somebody has to decide.");
@@ -24,7 +25,7 @@ function card(plan) {
   return h("li", {}, h("article", { class: "card", "data-plan": plan.id },
     h("div", { class: "row" },
       h("h2", { class: "says" }, name(plan.title)),
-      plan.begun && h("span", { class: `tag ${verdict}` }, plan.over ? "done" : VERDICTS[verdict])),
+      plan.begun && !plan.error && h("span", { class: `tag ${verdict}` }, plan.over ? "done" : VERDICTS[verdict])),
     nextOf(plan, clock), lateOf(plan, clock),
     button(`open-${plan.id}`, "Open", () => { location.hash = `#/plan/${plan.id}`; }, { kind: "first", "aria-label": `Open ${plan.title}` })));
 }

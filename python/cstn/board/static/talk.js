@@ -13,7 +13,7 @@ async function answer(request) {
   try {
     response = await request;
   } catch {
-    throw new Refused("The board does not answer. Nothing was told.", {});
+    throw new Refused("The board does not answer. Once it does, the page shows whether that was told.", {});
   }
   const data = await response.json().catch(() => ({}));
   if (!response.ok) throw new Refused(data.error ?? `The board answered ${response.status}.`, data);
