@@ -1,8 +1,8 @@
 """Cases as text: documents, the words of a call, and the text that is wanted, many in a file.
 
-A case begins with a line `#### NAME`. Then come its files, each behind a line `<<<< NAME`, the call behind `$$$$`, in which
-these names stand for the files and `examples/..` for those of the repository, and behind `>>>> STATUS` what it writes. A
-file with the name `-` is the standard input.
+A case begins with a line `#### NAME`. Then come its files, each behind a line `<<<< NAME`, the call behind `$$$$`, in
+which these names stand for the files and `examples/..` for those of the repository, and behind `>>>> STATUS` what it
+writes. A file with the name `-` is the standard input.
 """
 import os
 import re

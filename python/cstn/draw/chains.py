@@ -2,8 +2,8 @@
 from dataclasses import dataclass
 
 from ..explain.cases import Case
-from ..explain.names import shown
 from ..explain.networks import Network, where
+from .svg import readable
 
 
 @dataclass(frozen=True)
@@ -53,9 +53,9 @@ def waits_for_steps(net: Network, case: Case, name: str) -> list[tuple[int, Link
         ends = source == name != target and target in case.moments and case.holds(net.forces[number])
         if not ends or case.moments[target] - case.moments[name] != most:
             continue
-        after = f"at least {-most} after {shown(target)}" if most < 0 else f"not before {shown(target)}"
+        after = f"at least {-most} after {readable(target)}" if most < 0 else f"not before {readable(target)}"
         if most > 0:
-            after = f"at most {most} before {shown(target)}"
+            after = f"at most {most} before {readable(target)}"
         if target == "Z":
             after = f"not before {-most}"
         found.append((0 if most < 0 else 2 if most == 0 else 4, Link(name, target, after + where(label))))

@@ -2,11 +2,10 @@
 from dataclasses import dataclass, field
 
 from ..explain.cases import Case
-from ..explain.names import shown
 from ..explain.networks import written
 from .chains import Link, chain_of, names_of
 from .plans import Plan
-from .svg import element, fitted, group, picture, text_at, width
+from .svg import element, fitted, group, picture, readable, text_at, width
 from .tasks import Task
 
 MOST_CASES = 64
@@ -93,7 +92,7 @@ def told_of(plan: Plan, panel: Panel, row: Row, chain: dict[str, str]) -> str:
     """What is shown of a row where one points at it."""
     case, lines = panel.case, []
     for name in dict.fromkeys((row.begin, row.end)):
-        line = f"{shown(name)}: {'done at ' if name in panel.done else ''}{plan.clock.says(case.moments[name])}"
+        line = f"{readable(name)}: {'done at ' if name in panel.done else ''}{plan.clock.says(case.moments[name])}"
         if name in case.latest:
             line += f", can wait until {plan.clock.says(case.latest[name])}"
         if name in chain:
@@ -148,7 +147,7 @@ def draw_row(plan: Plan, panel: Panel, row: Row, scale: Scale, y: float) -> tupl
     """A row, and how far it goes to the right."""
     case, chain, middle = panel.case, panel.chain, y + ROW / 2
     fill, kind = colour_of(panel, row, chain)
-    name = fitted(shown(row.name), NAMES, 12, kind == "hot")
+    name = fitted(readable(row.name), NAMES, 12, kind == "hot")
     ink = SOFT if kind == "done" else INK
     parts = [text_at(scale.left - 10, middle + 4, name, anchor="end", bold=kind == "hot", fill=ink)]
     bars, right = draw_bar(panel, row, scale, y, fill, kind)
@@ -209,7 +208,7 @@ def draw_panel(plan: Plan, panel: Panel, scale: Scale, top: float) -> tuple[list
     """A panel: its shapes, where it ends, and how far it goes to the right."""
     rows, y = rows_of(plan, panel.case), top + 18
     parts = [text_at(MARGIN, y, panel.title, 15, bold=True)]
-    told = ", ".join(map(shown, names_of(panel.links)))
+    told = ", ".join(map(readable, names_of(panel.links)))
     for line in wrapped(f"The end waits for: {told}.", scale.left + CHART, 11) if told else []:
         y += 15
         parts.append(text_at(MARGIN, y, line, 11, fill=SOFT))
@@ -239,8 +238,8 @@ def draw_overview(plan: Plan, places: list[int], scale: Scale, top: float) -> tu
     """How long each case takes, with the latest marked."""
     latest = max(plan.cases[at].end for at in places)
     y = top + 18
-    parts = [text_at(MARGIN, y, f"{len(plan.cases)} cases, the latest of which is done at {plan.clock.says(latest)}", 15,
-                     bold=True)]
+    says = f"{len(plan.cases)} cases, the latest of which is done at {plan.clock.says(latest)}"
+    parts = [text_at(MARGIN, y, says, 15, bold=True)]
     y += 30
     parts += draw_axis(plan, scale, y, y + ROW * len(places))
     for at in places:
@@ -277,10 +276,11 @@ def draw_legend(top: float, has_done: bool) -> list[str]:
 def draw_panels(plan: Plan, panels: list[Panel], told: list[str], overview: list[int]) -> str:
     """A picture of some panels, one below the other, with lines of words above them."""
     names = [it.name for panel in panels for it in rows_of(plan, panel.case)]
-    named = max([width(shown(it), 12, True) for it in names] + [60])
+    named = max([width(readable(it), 12, True) for it in names] + [60])
     scale = Scale(MARGIN + 10 + min(NAMES, named), max(it.end for it in panels))
     has_done = any(it.done for it in panels)
-    parts, y, right = [text_at(MARGIN, 30, plan.title, 19, bold=True), *draw_legend(42, has_done)], 72.0, scale.left + CHART + 60
+    parts = [text_at(MARGIN, 30, plan.title, 19, bold=True), *draw_legend(42, has_done)]
+    y, right = 72.0, scale.left + CHART + 60
     for says in told:
         is_no = says.startswith("No:")
         says = says.removeprefix("No: ") if is_no and says != told[0] else says

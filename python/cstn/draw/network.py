@@ -1,11 +1,10 @@
 """The network of a plan as a picture."""
 import math
 
-from ..explain.names import shown
 from .graph import Arrow, Box, Line, arrows_of, boxes_of
 from .layout import Layout, Point, Size, Way, laid_out
 from .plans import Plan
-from .svg import element, fitted, group, number, picture, text_at, width
+from .svg import element, fitted, group, number, picture, readable, text_at, width
 
 MOST_STEPS = 200
 MOST_WIDE = 14
@@ -19,7 +18,7 @@ COLOURS = ("#2563eb", "#047857", "#7c3aed", "#0e7490", "#92400e", "#a21caf", "#4
 
 def box_size(box: Box) -> Size:
     """How large a box is for its words."""
-    wide = max([width(shown(box.name), NAME, True), *(width(it.says, WORDS) for it in box.lines)])
+    wide = max([width(readable(box.name), NAME, True), *(width(it.says, WORDS) for it in box.lines)])
     return Size(min(wide, WIDEST) + 20, 26 + LEAD * len(box.lines))
 
 
@@ -38,11 +37,12 @@ def draw_box(box: Box, middle: Point, colour: str) -> str:
     parts = [element("rect", x=left, y=top, width=size.wide, height=size.high, rx=11 if box.letter else 4,
                      fill=TELLS if box.letter else FILL, stroke=RED if blamed else colour or EDGE,
                      stroke_width=2 if blamed or box.letter else 1.2, class_="observer" if box.letter else "step")]
-    parts.append(text_at(middle.x, top + 17, fitted(shown(box.name), WIDEST, NAME, True), NAME, anchor="middle", bold=True))
+    name = fitted(readable(box.name), WIDEST, NAME, True)
+    parts.append(text_at(middle.x, top + 17, name, NAME, anchor="middle", bold=True))
     for i, line in enumerate(box.lines):
         parts.append(text_at(middle.x, top + 17 + LEAD * (i + 1), fitted(line.says, WIDEST, WORDS), WORDS,
                              anchor="middle", fill=RED if line.is_blamed else SOFT, bold=line.is_blamed))
-    return group(parts, "\n".join([shown(box.name), *(it.says for it in box.lines)]), class_="box")
+    return group(parts, "\n".join([readable(box.name), *(it.says for it in box.lines)]), class_="box")
 
 
 def head(way: Way, colour: str) -> list[str]:
@@ -65,7 +65,7 @@ def draw_arrow(arrow: Arrow, way: Way, colour: str) -> tuple[str, str]:
     line = element("path", d=f"M{points[0]}C{' '.join(points[1:])}", fill="none", stroke=colour,
                    stroke_width=2.2 if arrow.is_blamed else 1.2, stroke_dasharray=dash)
     kind = "arrow blamed" if arrow.is_blamed else "arrow"
-    says = f"{shown(arrow.then)} after {shown(arrow.first)}"
+    says = f"{readable(arrow.then)} after {readable(arrow.first)}"
     told = "\n".join([says, *(it.says for it in arrow.lines)])
     size, parts = words_size(arrow.lines), []
     if way.words and size:

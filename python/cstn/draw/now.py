@@ -1,9 +1,9 @@
 """A session as a picture: what was done, what time it is, and what is left."""
 from ..explain.following import blamed
-from ..explain.names import shown
 from .gantt import Panel, draw_panels, outcomes_in_words
 from .plans import Plan
 from .sessions import Session, next_in_words
+from .svg import readable
 
 
 def told_of(plan: Plan, session: Session) -> list[str]:
@@ -19,7 +19,7 @@ def told_of(plan: Plan, session: Session) -> list[str]:
     moment, names, letters = next_in_words(session)
     if moment is None:
         return ["All is done."] if session.next == "done" else [f"The program says {session.next}."]
-    parts = [f"do {', '.join(map(shown, names))}"] if names else []
+    parts = [f"do {', '.join(map(readable, names))}"] if names else []
     parts += [f"the outcome of {' and '.join(letters)} is awaited"] if letters else []
     done = len(heard.done.keys() - {"Z"})
     return [f"Yes: what is left can be carried out. {done} steps are done. Next, at {plan.clock.says(moment)}: "

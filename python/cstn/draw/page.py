@@ -5,12 +5,11 @@ import hashlib
 from collections.abc import Iterable
 from importlib.resources import files
 
-from ..explain.names import shown
 from ..explain.networks import constraint, counts_where, where
 from .gantt import MOST_CASES, draw_cases
 from .network import draw_network
 from .plans import Blame, Plan, chosen
-from .svg import element, escaped
+from .svg import element, escaped, readable
 
 
 def resource(name: str) -> str:
@@ -55,8 +54,9 @@ def cases_of(plan: Plan) -> list[str]:
     if len(drawn) > 1:
         chooser = element("select", options, id="choice", data_first=str(latest if latest in drawn else 0),
                           aria_label="Case")
-        parts.append(element("p", f'{element("button", "previous", id="before", type="button")} {chooser} '
-                                  f'{element("button", "next", id="behind", type="button")}', class_="choose", hidden=""))
+        before = element("button", "previous", id="before", type="button")
+        behind = element("button", "next", id="behind", type="button")
+        parts.append(element("p", f"{before} {chooser} {behind}", class_="choose", hidden=""))
     if len(plan.cases) > len(drawn):
         parts.append(paragraph(f"{len(plan.cases) - len(drawn)} of {len(plan.cases)} cases are left out: "
                                "./cstn draw cases FILE --case CASE draws one."))
@@ -85,7 +85,7 @@ def steps_of(plan: Plan) -> str:
         lefts = [it.latest[name] - it.moments[name] for it in plan.cases if name in it.latest]
         letter, label = plan.net.observed.get(name), plan.net.labels.get(name, "")
         says = " to ".join(plan.clock.says(it) for it in dict.fromkeys([*moments[:1], *moments[-1:]]))
-        rows.append(row((shown(name), f"only{where(label)[1:]}" if label else "always",
+        rows.append(row((readable(name), f"only{where(label)[1:]}" if label else "always",
                          f"{letter}, {plan.clock.lasts(plan.net.reaction(name))} later" if letter else "", says,
                          plan.clock.lasts(min(lefts)) if lefts else ""), search=True))
     return element("table", element("thead", head) + element("tbody", "\n" + "\n".join(rows) + "\n"))
@@ -96,6 +96,7 @@ def constraints_of(plan: Plan) -> str:
     blame, items = plan.blame or Blame(), []
     for number, parts in enumerate(plan.net.constraints):
         says = f"{plan.net.called(number)}: {constraint(*parts)}{counts_where(plan.net, number)}"
+        says = says.replace("%20", " ")
         items.append(element("li", escaped(says), class_="no" if number in blame.constraints else None, data_search=""))
     return element("ul", "\n" + "\n".join(items) + "\n")
 

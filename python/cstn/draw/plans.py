@@ -83,8 +83,8 @@ def read_blame(asked: Asked, text: str) -> Blame:
 
 
 def chosen(cases: list[Case], wanted: str | None) -> list[int]:
-    """The places of the cases that are wanted: all, the latest one, that of a number from 1 on, or those in which a label
-    holds."""
+    """The places of the cases that are wanted: all, the latest one, that of a number from 1 on, or those in which a
+    label holds."""
     places = list(range(len(cases)))
     if wanted is None or not places:
         return places

@@ -17,8 +17,8 @@ LINE = re.compile(r"(?:> )?((?:did|saw|now|await|add|remove|change|deadline) .*)
 
 @dataclass
 class Session:
-    """A session as it stands now. After a no, `blamed` and `let_go` are the constraints without which the cases are what
-    is left; without any case it is known of none."""
+    """A session as it stands now. After a no, `blamed` and `let_go` are the constraints without which the cases are
+    what is left; without any case it is known of none."""
 
     heard: Heard
     verdict: str
@@ -40,8 +40,8 @@ def lines_of(text: str) -> list[str]:
 
 
 def read_session(asked: Asked, text: str) -> Session:
-    """Tells the program the lines of a session again, and asks what is left. Refused lines tell nothing. After a no, what
-    is left is asked for without the limits that are to blame, one set after another."""
+    """Tells the program the lines of a session again, and asks what is left. Refused lines tell nothing. After a no,
+    what is left is asked for without the limits that are to blame, one set after another."""
     lines = lines_of(text)
     if not lines:
         raise Stopped(2, "SESSION has no line that tells `follow` something, as `did 5 Sample`")

@@ -1,5 +1,5 @@
-"""Pictures as SVG: shapes with their colours written on them, so that no style sheet is needed, and with classes, so that
-one may give them others. The same shapes are the same bytes."""
+"""Pictures as SVG: shapes with their colours written on them, so that no style sheet is needed, and with classes, so
+that one may give them others. The same shapes are the same bytes."""
 import re
 from collections.abc import Sequence
 
@@ -7,7 +7,7 @@ from ..explain.names import OBEYED
 
 FONT = "Helvetica, Arial, 'DejaVu Sans', sans-serif"
 
-# How wide the signs from the space to ~ are in DejaVu Sans, the widest of the fonts above, in hundredths of their height.
+# How wide the signs from the space to ~ are in DejaVu Sans, the widest of these fonts, in hundredths of their height.
 WIDTHS = bytes((
     32, 40, 46, 84, 64, 95, 78, 27, 39, 39, 50, 84, 32, 36, 32, 34, 64, 64, 64, 64, 64, 64, 64, 64, 64, 64, 34, 34, 84,
     84, 84, 53, 100, 68, 69, 70, 77, 63, 58, 77, 75, 29, 29, 66, 56, 86, 75, 79, 60, 79, 69, 63, 61, 73, 68, 99, 69, 61,
@@ -16,6 +16,11 @@ WIDTHS = bytes((
 BOLD = 1.12
 
 Value = str | float | int
+
+
+def readable(name: str) -> str:
+    """A name with its spaces, and a mark in place of each sign that a screen obeys."""
+    return re.sub(f"[{OBEYED}]", "\ufffd", name)
 
 
 def width(text: str, size: float, bold: bool = False) -> float:

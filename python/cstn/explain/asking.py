@@ -132,8 +132,8 @@ class Asked:
         return min(GREATEST_DEADLINE, max(1000, 4 * self.net.deadline))
 
     def later_for(self, values: dict[int, int]) -> int | None:
-        """That later deadline where the deadline limits as much as one of these limits, by their ids, or as one from the
-        start on; else none."""
+        """That later deadline where the deadline limits as much as one of these limits, by their ids, or as one from
+        the start on; else none."""
         limits = [*values.values(), *(most for source, _, most, _ in self.net.constraints if source == "Z")]
         deadline = self.net.deadline
         return self.later() if any(it >= deadline for it in limits) and self.later() > deadline else None

@@ -120,8 +120,8 @@ def tell_verdict(asked: Asked) -> tuple[str, list[str]]:
         return said, [f"Yes: the plan can be carried out {by}, whatever is observed."]
     if said.startswith("no"):
         return said, [f"No: the plan cannot be carried out {by}. Why, tells `./cstn explain --conflict FILE`."]
-    return said, [f"Whether the plan can be carried out {by}, is not told, since it takes many bounds: `./cstn check FILE` "
-                  "tells it."]
+    return said, [f"Whether the plan can be carried out {by}, is not told, since it takes many bounds: "
+                  "`./cstn check FILE` tells it."]
 
 
 def tell_document(asked: Asked, reader: Reader) -> tuple[Data, list[str]]:

@@ -50,9 +50,9 @@ def waited_for(net: Network, case: Case) -> set[str]:
 
 
 def nothing_waits(net: Network, cases: list[Case]) -> list[tuple[str, list[Case], int]]:
-    """Each step with the cases in which no other one waits for it, and in how many it is executed. The end of the plan is
-    left out, the one of them that comes after the most others; and so is one of whose outcome something hangs in another
-    case."""
+    """Each step with the cases in which no other one waits for it, and in how many it is executed. The end of the plan
+    is left out, the one of them that comes after the most others; and so is one of whose outcome something hangs in
+    another case."""
     asked_for = {letter for marks in [*net.executed.values(), *net.forces] for letter in marks}
     found: dict[str, list[Case]] = {}
     for case in cases:

@@ -56,8 +56,9 @@ def tied(net: Network, numbers: list[int]) -> list[str]:
 
 def waits_of(net: Network, name: str) -> list[str]:
     """The outcomes that the label of a step asks for."""
-    return [f"its label: {letter} is to be {str(value).lower()}, and is known {ticks(net.reaction(net.observers[letter]))} "
-            f"after {shown(net.observers[letter])}" for letter, value in literals(net.labels.get(name, "")).items()]
+    found = [(letter, net.observers[letter], value) for letter, value in literals(net.labels.get(name, "")).items()]
+    return [f"its label: {letter} is to be {str(value).lower()}, and is known {ticks(net.reaction(observer))} after "
+            f"{shown(observer)}" for letter, observer, value in found]
 
 
 def waiting_for(net: Network, name: str) -> list[str]:
@@ -98,9 +99,10 @@ def tell_float(asked: Asked) -> tuple[int, Data, list[str]]:
     cases, why = told_cases(asked)
     if not cases:
         return 1, {"answer": "float", "steps": None}, [f"How long each step can wait is not told, since {why}."]
-    lines = ["How long each step can wait, where all before it comes as planned, and what comes after it makes up for it:"]
+    lines = ["How long each step can wait, where all before it comes as planned, and what comes after makes up for it:"]
     steps = []
-    for name in sorted(asked.net.names, key=lambda it: min([c.moments[it] for c in cases if it in c.moments] + [1 << 30])):
+    first = {name: min((it.moments[name] for it in cases if name in it.moments), default=0) for name in asked.net.names}
+    for name in sorted(asked.net.names, key=first.__getitem__):
         groups = moments_of(cases, name)
         if name != "Z" and groups:
             lines.append(f"{shown(name)}: {spread(groups)}")
