@@ -85,6 +85,9 @@ class AsyncFollower:
     async def rest(self) -> bytes:
         return await self.threads.run(self.follower.rest)
 
+    async def lines(self) -> tuple[str, ...]:
+        return await self.threads.run(self.follower.lines)
+
     async def history(self) -> tuple[Telling, ...]:
         return await self.threads.run(self.follower.history)
 

@@ -99,7 +99,7 @@ def is_taken(answer: Answer) -> bool:
 def parse(line: str, text: str) -> Answer:
     """The answer to a line. Raises `ValueError` where the text is none that belongs to it.
 
-    A step may be named `wait` or like a letter: of two readings of `next` the one with awaited letters is taken.
+    A step may be named `wait`: of two readings of `next` the one with awaited letters is taken.
     """
     verb, *rest = line.split(" ")
     words = text.split(" ")

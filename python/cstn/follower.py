@@ -219,6 +219,11 @@ class Follower:
         with self.turn():
             return self.asked(lambda session: session.child.rest())
 
+    def lines(self) -> tuple[str, ...]:
+        """The lines that were taken, in order: told to `follow` over the same document they bring the plan back."""
+        with self.turn():
+            return self.asked(lambda session: tuple(session.state.lines))
+
     def history(self) -> tuple[Telling, ...]:
         """What was told, in order, with corrections applied, and what became of it; of times in a row the last."""
         with self.turn():
@@ -374,7 +379,7 @@ class Follower:
     def following(self) -> Next | Done | Verdict:
         if self.last is not None and self.last[0] == self.version:
             return self.last[1]
-        answer = self.known(lambda session: session.child.ask("next"))
+        answer = self.known(Session.next)
         if not isinstance(answer, Next | Done | Verdict):
             raise Unavailable(f"next was answered {answer}")
         self.last = self.version, answer

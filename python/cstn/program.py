@@ -41,8 +41,8 @@ def find(named: str | None = None) -> str:
     """
     for path in [Path(named)] if named else candidates():
         if path.is_file() and os.access(path, os.X_OK):
-            version(str(path))
-            return str(path)
+            version(str(path.absolute()))
+            return str(path.absolute())
     raise NoProgram(f"no program at {named}" if named else "no program `cstn`: set CSTN to its path")
 
 

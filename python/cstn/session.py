@@ -6,7 +6,7 @@ from dataclasses import dataclass, replace
 from enum import Enum
 
 from cstn import program as programs
-from cstn.answers import Refusal, Verdict, is_taken
+from cstn.answers import Answer, Next, Refusal, Verdict, is_taken
 from cstn.child import Child
 from cstn.errors import Changed, NotYet, Refused, WaitsFor
 from cstn.events import Add, Event, Now, line_of, with_key
@@ -125,6 +125,13 @@ class Session:
                     telling.waits_for, telling.why = error.waits_for, error.says
                 except Refused as error:
                     telling.standing, telling.waits_for, telling.why = Standing.FELL, WaitsFor(), error.says
+
+    def next(self) -> Answer:
+        """What is next. A step may be named `wait`: where the letters behind that are not awaited, these are steps."""
+        answer = self.child.ask("next")
+        if isinstance(answer, Next) and answer.wait and not self.state.awaited().keys() >= set(answer.wait):
+            return Next(answer.at, (*answer.do, "wait", "".join(answer.wait)))
+        return answer
 
     def standings(self) -> dict[str, Standing]:
         """What became of each event so far, by their keys."""

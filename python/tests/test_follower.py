@@ -174,6 +174,19 @@ class Followers(unittest.TestCase):
             self.assertEqual(trial.next(), Next(70, ("Antibiotic",)))
         self.assertEqual((follower.next(), follower.version), (Next(65, (), ("i",)), 2))
 
+    def test_a_step_that_is_named_wait(self) -> None:
+        plan = Plan.read(b'<graphml><graph><data key="Deadline">9</data><node id="A"><data key="Obs">i</data></node>'
+                         b'<node id="wait"/><node id="i"/></graph></graphml>')
+        follower = self.follower(plan)
+        self.assertEqual(follower.next(), Next(0, ("A", "wait", "i")))
+        follower.tell_all([Did("wait", 0), Did("i", 0), Did("A", 0)])
+        self.assertEqual(follower.next(), Next(1, (), ("i",)))
+
+    def test_the_lines_that_bring_it_back(self) -> None:
+        follower = self.follower()
+        follower.tell_all([Saw("i", True, 45), Did("Sample", 5), Now(50)])
+        self.assertEqual(follower.lines(), ("did 5 Sample", "saw 45 i true", "now 50"))
+
     def test_what_is_left(self) -> None:
         follower = self.follower()
         follower.did("Sample", 5)
