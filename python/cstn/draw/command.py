@@ -1,9 +1,10 @@
 """Draws a plan: what waits for what, and when each step comes in each case.
 
     ./cstn draw network FILE
-    ./cstn draw cases FILE [--case CASE] [--csv]
+    ./cstn draw cases FILE [--case CASE]
     ./cstn draw now FILE SESSION [--case CASE]
-    ./cstn draw page FILE
+    ./cstn draw --csv FILE [--case CASE]
+    ./cstn draw --html FILE [SESSION]
 
 with the options --deadline N, --start HH:MM, --tick SECONDS and --tasks TASKS. docs/draw.md says what each form draws.
 """
@@ -15,17 +16,19 @@ from dataclasses import dataclass, field
 
 from ..explain.asking import Asked, Stopped, read_once
 from ..explain.looks import looks
+from ..explain.names import harmless
 from .clock import Clock, read_clock
 from .gantt import draw_cases
 from .network import draw_network
 from .now import draw_now
 from .page import write_page
-from .plans import Plan, chosen, read_network, read_plan
+from .plans import Plan, add_latest, chosen, read_network, read_plan
 from .sessions import read_session
 from .table import write_table
 from .tasks import Task, read_tasks
 
-FORMS = {"network": 1, "cases": 1, "now": 2, "page": 1}
+# Of each form how many files it takes, at least and at most.
+FORMS = {"network": (1, 1), "cases": (1, 1), "now": (2, 2), "--csv": (1, 1), "--html": (1, 2)}
 VALUES = ("--case", "--deadline", "--start", "--tick", "--tasks")
 
 
@@ -36,7 +39,6 @@ class Request:
     form: str
     files: list[str]
     options: dict[str, str] = field(default_factory=dict)
-    as_table: bool = False
 
 
 def parsed(words: list[str]) -> Request:
@@ -46,15 +48,14 @@ def parsed(words: list[str]) -> Request:
     request, left = Request(words[0], []), words[1:]
     while left:
         word = left.pop(0)
-        if word == "--csv":
-            request.as_table = True
-        elif word in VALUES and left:
+        if word in VALUES and left:
             request.options[word] = left.pop(0)
         elif word.startswith("-") and word != "-" or word in VALUES:
             raise Stopped(2, (__doc__ or "").strip())
         else:
             request.files.append(word)
-    if len(request.files) != FORMS[request.form]:
+    least, most = FORMS[request.form]
+    if not least <= len(request.files) <= most:
         raise Stopped(2, (__doc__ or "").strip())
     if not re.fullmatch(r"\d{1,7}", request.options.get("--deadline", "0")):
         raise Stopped(2, "N is a number from 0 to 1000000, in ticks")
@@ -89,18 +90,26 @@ def drawn_now(request: Request, asked: Asked, plan: Plan) -> str:
     return draw_now(plan, session, chosen(session.cases, request.options.get("--case", "latest")))
 
 
+def page_of(request: Request, asked: Asked, plan: Plan) -> str:
+    """The page, with the session where one is named."""
+    add_latest(asked, plan, list(range(len(plan.cases))))
+    told = [line for _, _, lines in looks(asked, plan.verdict) for line in lines]
+    return write_page(plan, told, drawn_now(request, asked, plan) if len(request.files) > 1 else "")
+
+
 def drawn(request: Request, asked: Asked, plan: Plan) -> str:
     """The picture, table or page that is asked for."""
     if request.form == "network":
         return draw_network(plan)
     if request.form == "now":
         return drawn_now(request, asked, plan)
-    if request.form == "page":
-        return write_page(plan, [line for _, _, lines in looks(asked, plan.verdict) for line in lines])
+    if request.form == "--html":
+        return page_of(request, asked, plan)
     if not plan.cases:
         raise Stopped(1, plan.why)
     places = chosen(plan.cases, request.options.get("--case"))
-    return write_table(plan, places) if request.as_table else draw_cases(plan, places)
+    add_latest(asked, plan, places)
+    return write_table(plan, places) if request.form == "--csv" else draw_cases(plan, places)
 
 
 def main(words: list[str]) -> str:
@@ -113,7 +122,7 @@ def main(words: list[str]) -> str:
         asked.source = source
         read_network(asked)
         tasks = tasks_named(asked, request.options.get("--tasks"))
-        plan = read_plan(asked, title_of(request.files[0]), clock, tasks, request.form in ("cases", "page"))
+        plan = read_plan(asked, title_of(request.files[0]), clock, tasks, request.form not in ("network", "now"))
         return drawn(request, asked, plan)
 
 
@@ -126,7 +135,7 @@ def run(words: list[str]) -> int:
         print(text, end="", flush=True)
         return 0
     except Stopped as stopped:
-        print(stopped, file=sys.stderr)
+        print("\n".join(map(harmless, str(stopped).split("\n"))), file=sys.stderr)
         return stopped.status
     except BrokenPipeError:
         os.dup2(os.open(os.devnull, os.O_WRONLY), 1)

@@ -101,17 +101,18 @@ def constraints_of(plan: Plan) -> str:
     return element("ul", "\n" + "\n".join(items) + "\n")
 
 
-def write_page(plan: Plan, looks: list[str]) -> str:
-    """The page."""
+def write_page(plan: Plan, looks: list[str], now: str) -> str:
+    """The page, with a picture of a session or none."""
     style, script = resource("page.css"), resource("page.js")
     policy = f"default-src 'none'; style-src {digest(style)}; script-src {digest(script)}"
-    links = (("cases", "Cases"), ("network", "Network"), ("steps", "Steps"), ("constraints", "Constraints"))
+    links = [("cases", "Cases"), ("network", "Network"), ("steps", "Steps"), ("constraints", "Constraints")]
+    links = [("now", "Now"), *links] if now else links
     search = element("input", id="search", type="search", placeholder="Search a step", aria_label="Search a step")
     nav = element("nav", "".join(element("a", says, href=f"#{name}") for name, says in links) + search
                   + '<span id="count" role="status"></span>', hidden="")
     body = [element("h1", escaped(plan.title)), verdict_of(plan), paragraph(counts_of(plan)),
-            nav, heading("cases", "Cases"), *cases_of(plan), heading("network", "What waits for what"),
-            scrolled(draw_network(plan)), heading("steps", "Steps"), element("div", steps_of(plan), class_="scroll"),
+            nav, *([heading("now", "Now"), scrolled(now)] if now else []), heading("cases", "Cases"), *cases_of(plan),
+            heading("network", "What waits for what"), scrolled(draw_network(plan)), heading("steps", "Steps"), element("div", steps_of(plan), class_="scroll"),
             heading("constraints", "Constraints"), constraints_of(plan)]
     if looks:
         body += [heading("looks", "Worth a second look"), *(paragraph(it) for it in looks)]

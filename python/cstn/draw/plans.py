@@ -67,9 +67,13 @@ def read_plan(asked: Asked, title: str, clock: Clock, tasks: list[Task] | None, 
         plan.why = f"The plan has up to {1 << len(asked.net.observers)} cases, too many for a picture."
     elif with_cases:
         plan.cases = cases_of(asked.net, asked.tree() or [])
-        if not ask_latest(asked, plan.cases):
-            plan.left_out = "How long each step can wait is left out, since that is too much to ask."
     return plan
+
+
+def add_latest(asked: Asked, plan: Plan, places: list[int]) -> None:
+    """Asks how long each step can wait in some cases, by their places."""
+    if not ask_latest(asked, [plan.cases[at] for at in places]):
+        plan.left_out = "How long each step can wait is left out, since that is too much to ask."
 
 
 def read_blame(asked: Asked, text: str) -> Blame:
