@@ -424,10 +424,12 @@ class Follower:
                 if at > (now := self.clock.now()) + self.ahead:
                     raise OutOfRange("clock", f"{at} is in the future: it is {now}, or a clock is wrong")
             event = replace(event, at=at)
+        if isinstance(event, Add) and not is_text(event.says):
+            raise Refused("line", f"no sentence: {event.says!r}")
         if event.key is None:
             return with_key(event, f"#{max(self.version, 1) + 1}")
-        if event.key.startswith("#"):
-            raise Refused("key", f"keys with # are the package's: {event.key!r}")
+        if event.key.startswith("#") or not is_text(event.key):
+            raise Refused("key", f"a key is a text that does not begin with #: {event.key!r}")
         return event
 
     def tell_once(self, event: Event, wait: bool, expect: int | None) -> Receipt:
@@ -500,6 +502,11 @@ def added_by(telling: Telling | None) -> int | None:
     if telling is not None and isinstance(telling.event, Add) and telling.standing is Standing.TAKEN:
         return int(telling.answer.split(" ")[1])
     return None
+
+
+def is_text(value: str) -> bool:
+    """Whether a text can be written: it has no half of a character."""
+    return not any("\ud800" <= c <= "\udfff" for c in value)
 
 
 def moment_of_writing() -> str:

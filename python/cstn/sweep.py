@@ -77,20 +77,27 @@ def at_longest(it: Range) -> list[Limit]:
     return [replace(it.at_least, most=-it.at_most.most)]
 
 
-def variants(plan: Plan, *, deadlines: Sequence[int] = (), one_by_one: bool = True) -> Iterator[Variant]:
-    """A plan as it stands, with all its lengths at their shortest, all at their longest, and each at its longest alone;
-    all of it by each deadline."""
-    found = ranges(plan)
-    changes = [("as planned", list[Limit]())]
-    if found:
-        changes.append(("all at their shortest", [it for one in found for it in at_shortest(one)]))
-        changes.append(("all at their longest", [it for one in found for it in at_longest(one)]))
-    if one_by_one and len(found) > 1:
-        changes += [(f"{one.says} at its longest, {one.at_most.most}", at_longest(one)) for one in found]
+def variants(plan: Plan, *, deadlines: Sequence[int] = (), one_by_one: bool = True,
+             site: str = "") -> Iterator[Variant]:
+    """A plan as it stands, with all its lengths at their shortest, all at their longest, and each of them alone; all of
+    it by each deadline. `site` stands before each name, where plans of several sites are checked together."""
+    changes = list(changes_of_lengths(plan, one_by_one))
     for deadline in deadlines or [plan.deadline]:
         for name, limits in changes:
-            by = f", by {deadline}" if deadlines else ""
-            yield Variant(name + by, plan.saved(limits, deadline))
+            before, behind = f"{site}: " if site else "", f", by {deadline}" if deadlines else ""
+            yield Variant(before + name + behind, plan.saved(limits, deadline))
+
+
+def changes_of_lengths(plan: Plan, one_by_one: bool) -> Iterator[tuple[str, list[Limit]]]:
+    """The limits that make each variant of a plan's lengths, by its name."""
+    found = ranges(plan)
+    yield "as planned", []
+    if found:
+        yield "all at their shortest", [it for one in found for it in at_shortest(one)]
+        yield "all at their longest", [it for one in found for it in at_longest(one)]
+    for one in found if one_by_one and len(found) > 1 else []:
+        yield f"{one.says} at its shortest, {-one.at_least.most}", at_shortest(one)
+        yield f"{one.says} at its longest, {one.at_most.most}", at_longest(one)
 
 
 def check_variant(variant: Variant, cap: int, seconds: float | None, program: str | None) -> Outcome:

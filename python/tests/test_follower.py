@@ -32,6 +32,8 @@ REFUSED: list[tuple[Event, type[Refused], str]] = [
     (Change(-1, 5), Refused, "line"),
     (Deadline(1000001), Refused, "line"),
     (Did("Review", 90, "#9"), Refused, "key"),
+    (Did("Review", 90, "\udc80"), Refused, "key"),
+    (Add("Z", "Sample", 9, {}, "\udc80"), Refused, "line"),
     (Did("Review", 90, "sample"), Contradicts, "key"),
 ]
 

@@ -54,7 +54,10 @@ class Sweeps(Folder):
                          [("Drive to Sensor", -15, 40), ("Sensor to Drill", -2, 40)])
         found = {it.name: Plan.read(it.document) for it in variants(plan)}
         self.assertEqual(list(found), ["as planned", "all at their shortest", "all at their longest",
-                                       "Drive to Sensor at its longest, 40", "Sensor to Drill at its longest, 40"])
+                                       "Drive to Sensor at its shortest, 15", "Drive to Sensor at its longest, 40",
+                                       "Sensor to Drill at its shortest, 2", "Sensor to Drill at its longest, 40"])
+        self.assertEqual([it.name for it in variants(plan, deadlines=[80, 90], one_by_one=False, site="Mars")][::3],
+                         ["Mars: as planned, by 80", "Mars: as planned, by 90"])
         self.assertEqual(found["as planned"].digest, plan.digest)
         self.assertEqual([it.most for it in found["all at their longest"].limits if it.id in (1, 2, 3, 5)],
                          [-40, 40, 40, -40])
