@@ -27,8 +27,9 @@ STAND_INS = [
 class Children(Folder):
     def test_what_is_wrong_is_found(self) -> None:
         for name, text, error in STAND_INS:
+            seconds = 0.5 if error is OutOfTime else 20
             with self.subTest(name), self.assertRaises(error):
-                Child(CLINIC.document, program=self.script(text), seconds=1.5).ask("did 5 Sample")
+                Child(CLINIC.document, program=self.script(text), seconds=seconds).ask("did 5 Sample")
 
     def test_a_refutation_is_passed_over(self) -> None:
         child = Child(CLINIC.document)
@@ -65,12 +66,12 @@ class Replaced(Folder):
         self.assertEqual(follower.next(), Next(70, ("Antibiotic",)))
 
     def test_a_child_that_hangs(self) -> None:
-        follower = self.follower(seconds=0.5)
+        follower = self.follower(seconds=2)
         assert follower.session is not None
         os.kill(follower.session.child.process.pid, signal.SIGSTOP)
         begin = time.monotonic()
         self.assertEqual(follower.saw("i", True, 45).version, 3)
-        self.assertLess(time.monotonic() - begin, 5)
+        self.assertLess(time.monotonic() - begin, 8)
         self.assertEqual((follower.restarts, follower.next()), (1, Next(70, ("Antibiotic",))))
 
     def test_a_program_that_always_hangs(self) -> None:

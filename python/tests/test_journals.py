@@ -89,7 +89,7 @@ class Sqlite(Folder):
 
     def test_a_client_that_does_not_let_go(self) -> None:
         store = self.store()
-        other = SqliteStore(store.path, seconds=0.1)
+        other = SqliteStore(store.path, seconds=0.3)
         self.addCleanup(other.close)
         follower = Follower(CLINIC, other.journal("a"))
         self.addCleanup(follower.close)

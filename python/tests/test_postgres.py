@@ -142,7 +142,7 @@ class Postgres(unittest.TestCase):
              self.server.conninfo], cwd=TOP, stdin=subprocess.PIPE, stdout=subprocess.PIPE)
         self.addCleanup(process.communicate)
         assert process.stdout is not None and process.stdout.readline() == b"held\n"
-        impatient = Follower(CLINIC, self.store(seconds=0.2).journal("held"))
+        impatient = Follower(CLINIC, self.store(seconds=1).journal("held"))
         self.addCleanup(impatient.close)
         self.assertRaises(Busy, impatient.did, "Sample", 5)
         process.kill()
@@ -167,7 +167,7 @@ class Postgres(unittest.TestCase):
             self.assertEqual(follower.outlook().now, 43)
 
     def test_the_server_is_gone_for_a_while(self) -> None:
-        follower = Follower(CLINIC, self.store(seconds=2).journal("gone"))
+        follower = Follower(CLINIC, self.store(seconds=10).journal("gone"))
         self.addCleanup(follower.close)
         follower.did("Sample", 5)
         self.server.stop(signal.SIGQUIT)

@@ -4,6 +4,7 @@ import importlib
 import io
 import os
 import unittest
+import warnings
 from concurrent.futures import Executor, ProcessPoolExecutor, ThreadPoolExecutor
 from typing import Any
 from unittest import mock
@@ -40,6 +41,7 @@ class Sweeps(Folder):
 
     @unittest.skipUnless(distributed, "needs python3-distributed")
     def test_by_workers_of_dask(self) -> None:
+        warnings.simplefilter("ignore", DeprecationWarning)
         with mock.patch.dict(os.environ, PYTHONPATH=str(TOP)), \
                 distributed.LocalCluster(n_workers=2, threads_per_worker=1, processes=True, dashboard_address=None,
                                          local_directory=self.folder) as cluster, \
