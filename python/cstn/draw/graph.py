@@ -89,7 +89,7 @@ def limits_of(net: Network, blame: Blame) -> dict[tuple[str, str], dict[str, Lim
     found: dict[tuple[str, str], dict[str, Limits]] = {}
     behind = {(target, source) for source, target, most, _ in net.constraints if most <= 0}
     for number, (source, target, most, label) in enumerate(net.constraints):
-        if source == target:
+        if source == target or number in net.never:
             continue
         is_later = net.places[source] > net.places[target]
         is_least = most < 0 or most == 0 and (is_later or (source, target) not in behind)
@@ -120,7 +120,10 @@ def boxes_of(plan: Plan) -> list[Box]:
         for label, limit in limits.get((name, "Z"), {}).items():
             box.lines.append(Line(f"by {plan.clock.says(-(limit.least or 0))}{condition(label, net.executed[name])}",
                                   limit.is_blamed))
-        if name != "Z" or box.letter:
+        box.lines += [Line(f"{-most} or more after itself{condition(label)}", number in blame.constraints)
+                      for number, (source, target, most, label) in enumerate(net.constraints)
+                      if source == target == name and most < 0]
+        if name != "Z" or box.lines:
             found.append(box)
     return found
 
@@ -161,7 +164,7 @@ def add_waits(net: Network, blame: Blame, found: dict[tuple[str, str], Arrow], n
         is_implied = letter in net.completed({it: own[it] for it in own if it != letter})
         is_implied = is_implied or any(net.executed[it].get(letter) == value for it in before)
         is_drawn = letter in own and (not is_implied or (observer, name) in found)
-        if observer in ("Z", name) or not is_drawn and not is_blamed:
+        if observer == name or not is_drawn and not is_blamed:
             continue
         arrow = found.setdefault((observer, name), Arrow(observer, name))
         arrow.loose, arrow.asks = False, letter

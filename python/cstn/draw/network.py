@@ -18,7 +18,7 @@ COLOURS = ("#2563eb", "#047857", "#7c3aed", "#0e7490", "#92400e", "#a21caf", "#4
 
 def box_size(box: Box) -> Size:
     """How large a box is for its words."""
-    wide = max([width(readable(box.name), NAME, True), *(width(it.says, WORDS) for it in box.lines)])
+    wide = max([width(readable(box.name), NAME, True), *(width(it.says, WORDS, it.is_blamed) for it in box.lines)])
     return Size(min(wide, WIDEST) + 20, 26 + LEAD * len(box.lines))
 
 
@@ -26,7 +26,7 @@ def words_size(lines: list[Line]) -> Size | None:
     """How large the words of an arrow are."""
     if not lines:
         return None
-    return Size(min(WIDEST, max(width(it.says, WORDS) for it in lines)) + 8, LEAD * len(lines) + 2)
+    return Size(min(WIDEST, max(width(it.says, WORDS, it.is_blamed) for it in lines)) + 8, LEAD * len(lines) + 2)
 
 
 def draw_box(box: Box, middle: Point, colour: str) -> str:
@@ -70,7 +70,7 @@ def draw_arrow(arrow: Arrow, way: Way, colour: str) -> tuple[str, str]:
     size, parts = words_size(arrow.lines), []
     if way.words and size:
         top = way.words.y - size.high / 2
-        parts.append(element("rect", x=way.words.x - size.wide / 2, y=top, width=size.wide, height=size.high,
+        parts.append(element("rect", x=way.words.x - size.wide / 2, y=top, width=size.wide, height=size.high - 2,
                              fill="#ffffff", fill_opacity=0.85, class_="paper"))
         for i, it in enumerate(arrow.lines):
             parts.append(text_at(way.words.x, top + 11.5 + LEAD * i, fitted(it.says, WIDEST, WORDS), WORDS,
