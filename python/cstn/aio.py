@@ -76,8 +76,8 @@ class AsyncFollower:
     async def blame(self) -> tuple[int, ...] | None:
         return await self.threads.run(self.follower.blame)
 
-    async def ways_out(self) -> tuple[WayOut, ...]:
-        return await self.threads.run(self.follower.ways_out)
+    async def ways_out(self, *, seconds: float = 60.0) -> tuple[WayOut, ...]:
+        return await self.threads.run(self.follower.ways_out, seconds=seconds)
 
     async def late(self, letter: str) -> Late:
         return await self.threads.run(self.follower.late, letter)

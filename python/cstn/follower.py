@@ -6,6 +6,7 @@ or hangs is replaced, and another client on another machine sees the same plan.
 from __future__ import annotations
 
 import threading
+import time
 from collections.abc import Callable, Iterable, Iterator
 from contextlib import contextmanager, nullcontext
 from dataclasses import dataclass, replace
@@ -198,11 +199,19 @@ class Follower:
             answer = child.ask("blame")
         return answer.ids if isinstance(answer, Blame) else None
 
-    def ways_out(self) -> tuple[WayOut, ...]:
+    def ways_out(self, *, seconds: float = 60.0) -> tuple[WayOut, ...]:
         """After a "no", for each blamed limit, the deadline and each outcome that is awaited later than now, the
-        number that would do if all else stays. In a process of its own: up to 22 checks for each, beside `blame`."""
+        number that would do if all else stays. In a process of its own: up to 22 checks for each, beside `blame`.
+
+        After `seconds` no further number is looked for, and what was not looked for is not in the answer.
+        """
+        until, found = time.monotonic() + seconds, list[WayOut]()
         with self.copied() as (child, state):
-            return tuple(search.ways_out(child, state)) if child.verdict().can is Can.NO else ()
+            for way in search.ways_out(child, state) if child.verdict().can is Can.NO else ():
+                found.append(way)
+                if time.monotonic() > until:
+                    break
+        return tuple(found)
 
     def late(self, letter: str) -> Late:
         """Until when an awaited outcome may be late. In a process of its own: up to 22 checks.

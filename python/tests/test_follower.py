@@ -151,6 +151,7 @@ class Followers(unittest.TestCase):
         self.assertEqual(follower.late("i"), Late("i", 95, False))
         follower.tell(Expect("i", 97))
         self.assertEqual(follower.blame(), (2,))
+        self.assertEqual(len(follower.ways_out(seconds=0)), 1)
         ways = follower.ways_out()
         self.assertEqual([(way.is_now, way.would_do) for way in ways], [(90, 92), (360, None), (97, 95)])
         self.assertEqual((ways[0].limit and ways[0].limit.id, ways[1].is_deadline, ways[2].letter), (2, True, "i"))
