@@ -43,7 +43,7 @@ class Receipt:
     - `waits_for`: it came too soon, is kept, and is told again by itself when that has come;
     - `added`: the id of the limit that it added;
     - `taken`: the keys of events that had waited for it;
-    - `fallen`: the keys of events that it made impossible.
+    - `fallen`: the keys of events that it made impossible; of one that was told before and fell since, its own.
     """
 
     key: str
@@ -480,8 +480,11 @@ class Follower:
             verdict = Verdict(Can.UNKNOWN)
         tellings = self.asked(lambda session: session.tellings)
         own = tellings.get(key)
-        changed = [] if before is None else [(other, it.standing) for other, it in tellings.items()
-                                             if other != key and before.get(other) is not it.standing]
+        if before is None:
+            changed = [(key, own.standing)] if own is not None and own.standing is Standing.FELL else []
+        else:
+            changed = [(other, it.standing) for other, it in tellings.items()
+                       if other != key and before.get(other) is not it.standing]
         return Receipt(key, self.version, verdict, before is None, own.waits_for if own else WaitsFor(), added_by(own),
                        tuple(other for other, standing in changed if standing is Standing.TAKEN),
                        tuple(other for other, standing in changed if standing is Standing.FELL))

@@ -78,6 +78,8 @@ class Followers(unittest.TestCase):
         follower.did("Antibiotic", 91, "a")
         follower.did("Sample", 5)
         self.assertEqual(follower.saw("i", False, 45).fallen, ("a",))
+        again = follower.did("Antibiotic", 91, "a")
+        self.assertEqual((again.again, again.fallen, again.waits_for), (True, ("a",), WaitsFor()))
         self.assertIn("rules Antibiotic out", follower.outlook().fallen[0].why)
         self.assertEqual(follower.outlook().left_out, ("Antibiotic",))
 
