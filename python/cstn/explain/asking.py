@@ -160,10 +160,10 @@ class Asked:
                 for at in range(len(found))]
         return [{"yes": True, "no": False}.get(it) for it in told]
 
-    def live(self, text: str, lines: list[str], now: int) -> Live:
-        """A session over a document that was told these lines, to be asked for as many limits as are tried."""
+    def live(self, text: str, lines: list[str], now: int, limits: int) -> Live:
+        """A session over a document that was told these lines, to be asked for so many limits, twelve at most."""
         words = [self.program, "follow", text, "--deadline", str(self.net.deadline)]
-        return Live([*words, *self.cap(CHECKS_OF_A_LIMIT * MOST_LIMITS + len(lines))], lines, now)
+        return Live([*words, *self.cap(CHECKS_OF_A_LIMIT * min(max(1, limits), MOST_LIMITS) + len(lines))], lines, now)
 
     def is_canonical(self) -> bool:
         """Whether the document stands as `save` and `rest` write one."""

@@ -17,9 +17,9 @@ def tell_giving_way(asked: Asked, constraints: list[Data],
     """
     found, lines, vain, text = [], [], None, without(asked.saved, ids_of(others) - ids_of(constraints))
     values = {it["constraint"]: it["at_most"] for it in constraints if it["constraint"] is not None}
-    with kept(text) as copy, asked.live(copy, [], 0) as live:
+    with kept(text) as copy, asked.live(copy, [], 0, sum(it > 0 for it in values.values())) as live:
         for it in least_values(live, values, asked.net.deadline, asked.later_for(values)):
-            found.append({"constraint": it.number, "at_most": it.value, "least": it.least})
+            found.append(it.data())
             lines.append(f"constraint {asked.net.called(it.number)}: {instead(it, asked.net.deadline)}")
             if it.said is False and not vain and not it.is_later:
                 vain = it.number, without(text, {it.number})

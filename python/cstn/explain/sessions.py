@@ -46,7 +46,7 @@ def tell_told_again(asked: Asked, heard: Heard, numbers: list[int]) -> tuple[Dat
     the same lines, as data and in words."""
     known, deadline = asked.net.constraints, heard.deadline if heard.deadline is not None else asked.net.deadline
     values = {it: heard.values.get(it, known[it][2] if it < len(known) else 0) for it in numbers}
-    with asked.live(asked.path, heard.journal, heard.now) as live:
+    with asked.live(asked.path, heard.journal, heard.now, len(values) + len(heard.awaited)) as live:
         said = live.is_met(f"now {heard.now}")
         if said is None:
             return {}, [TOO_MUCH]

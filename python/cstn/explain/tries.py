@@ -50,27 +50,32 @@ class Live:
         return {"yes": True, "no": False}.get(said.split(" ")[0])
 
 
-def nearest(met: Callable[[int], bool | None], fails: int, holds: int) -> int | None:
-    """Between a value that does not do and one that does, the nearest to the first that does, or none where an answer
-    is missing."""
+def nearest(met: Callable[[int], bool | None], fails: int, holds: int) -> tuple[int, bool]:
+    """Between a value that does not do and one that does, the nearest to the first that does, and whether that is sure:
+    it is not where an answer is missing, since then a nearer one may do."""
+    is_sure = True
     while abs(holds - fails) > 1:
         middle = (fails + holds) // 2
         said = met(middle)
-        if said is None:
-            return None
+        is_sure = is_sure and said is not None
         fails, holds = (fails, middle) if said else (middle, holds)
-    return holds
+    return holds, is_sure
 
 
 class Least(NamedTuple):
     """The least value of a limit that does, or none; whether a yes stands with the deadline as its value, or none where
-    that is not known; and whether it took a later deadline."""
+    that is not known; whether it took a later deadline; and whether it is sure that no lesser one does."""
 
     number: int
     value: int
     least: int | None
     said: bool | None
     is_later: bool = False
+    is_sure: bool = True
+
+    def data(self) -> Data:
+        """The limit as data."""
+        return {"constraint": self.number, "at_most": self.value, "least": self.least, "sure": self.is_sure}
 
 
 def least_values(live: Live, values: dict[int, int], deadline: int, later: int | None) -> Iterator[Least]:
@@ -92,15 +97,16 @@ def least_value(live: Live, number: int, value: int, deadline: int) -> Least:
         return live.is_met(f"change {number} {tried}")
 
     said = met(deadline) if deadline > value else False
-    least = nearest(met, value, deadline) if said else None
+    least, is_sure = nearest(met, value, deadline) if said else (None, True)
     live.say(f"change {number} {value}")
-    return Least(number, value, least, said)
+    return Least(number, value, least, said, is_sure=is_sure)
 
 
 def instead(found: Least, deadline: int) -> str:
     """The least value of a limit that would do, in words."""
     if found.least is not None:
-        return f"{found.least} in place of {found.value}{', with a later deadline' if found.is_later else ''}"
+        says = f"{found.least} in place of {found.value}{', with a later deadline' if found.is_later else ''}"
+        return says if found.is_sure else f"{says}; whether a little less would do is not known"
     if found.value >= deadline:
         return f"not tried, since the deadline, {deadline}, limits as much: say a later one by `--deadline N`"
     if found.said is False:
@@ -113,7 +119,7 @@ def giving_way(live: Live, values: dict[int, int], deadline: int,
     """How far each limit would have to give way, as data and in words."""
     found, lines = [], []
     for it in least_values(live, values, deadline, later):
-        found.append({"constraint": it.number, "at_most": it.value, "least": it.least})
+        found.append(it.data())
         stays = ", if all else stays" if it.least is not None else ""
         lines.append(f"{it.number}: {instead(it, deadline)}{stays}")
     return found, lines
@@ -131,7 +137,7 @@ def awaiting(live: Live, heard: Heard) -> tuple[list[Data], list[str]]:
             return live.is_met(f"await {tried} {letter}")
 
         first = next((it for it in (heard.now, heard.now + 1) if it < moment and met(it)), None)
-        latest = nearest(met, moment, first) if first is not None else None
+        latest = nearest(met, moment, first)[0] if first is not None else None
         live.say(f"await {moment} {letter}")
         if latest is not None:
             found.append({"letter": letter, "awaited": moment, "latest": latest})
