@@ -480,14 +480,15 @@ class Follower:
             verdict = Verdict(Can.UNKNOWN)
         tellings = self.asked(lambda session: session.tellings)
         own = tellings.get(key)
-        if before is None:
-            changed = [(key, own.standing)] if own is not None and own.standing is Standing.FELL else []
-        else:
-            changed = [(other, it.standing) for other, it in tellings.items()
-                       if other != key and before.get(other) is not it.standing]
+        changed = dict[str, Standing]()
+        if before is not None:
+            changed = {other: it.standing for other, it in tellings.items()
+                       if other != key and before.get(other) is not it.standing}
+        elif own is not None and own.standing is Standing.FELL:
+            changed = {key: own.standing}
         return Receipt(key, self.version, verdict, before is None, own.waits_for if own else WaitsFor(), added_by(own),
-                       tuple(other for other, standing in changed if standing is Standing.TAKEN),
-                       tuple(other for other, standing in changed if standing is Standing.FELL))
+                       tuple(other for other, standing in changed.items() if standing is Standing.TAKEN),
+                       tuple(other for other, standing in changed.items() if standing is Standing.FELL))
 
 
 class Trial(Follower):
