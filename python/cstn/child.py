@@ -51,7 +51,7 @@ class Child:
         if first.startswith("document "):
             self.close()
             raise programs.refused_document(first, document)
-        if first != "follow 1":
+        if first != programs.FOLLOW:
             self.fail(f"no session: {first[:200]!r}")
         verdict = self.parsed("check", self.line())
         if not isinstance(verdict, Verdict):

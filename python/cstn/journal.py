@@ -16,8 +16,7 @@ from cstn.clock import Clock
 from cstn.errors import Changed, Moved
 from cstn.events import Event, from_data, to_data
 from cstn.plan import Plan
-
-LINES = "follow 1"
+from cstn.program import FOLLOW
 
 
 class Journal(Protocol):
@@ -110,7 +109,7 @@ class Head:
         return Clock(datetime.fromisoformat(self.origin), timedelta(seconds=self.tick))
 
     def text(self) -> str:
-        return dumped({"head": {"lines": LINES} | {k: v for k, v in vars(self).items() if v is not None}})
+        return dumped({"head": {"lines": FOLLOW} | {k: v for k, v in vars(self).items() if v is not None}})
 
 
 @dataclass(frozen=True)
@@ -149,7 +148,7 @@ def parsed(version: int, text: str) -> Entry:
     """The entry that a text means. Raises `Changed` where it means none, or is of another version of lines."""
     try:
         data = json.loads(text)
-        if (head := data.get("head")) is not None and head.pop("lines") == LINES and version == 1:
+        if (head := data.get("head")) is not None and head.pop("lines") == FOLLOW and version == 1:
             return Head(**head)
         if "tell" in data:
             return Told(from_data(data["tell"]), data["answer"], data["when"])

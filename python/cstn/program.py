@@ -15,6 +15,8 @@ from cstn.errors import BadDocument, NoProgram, OutOfTime, Unavailable
 
 LINES = "1"
 """The version of the program's lines that this package reads."""
+FOLLOW = "follow 1"
+"""The version of the lines of `follow`, as a session writes it first."""
 CAP, MOST_CAP = 65536, 4194304
 """How many bounds a check may derive: by default, and at most."""
 SECONDS = 10.0
