@@ -147,6 +147,13 @@ class Browser:
     def __exit__(self, *_):
         self.driver.quit()
 
+    def afresh(self):
+        """As if it was just started: no page, and nothing in the console."""
+        self.driver.get("about:blank")
+        self.driver.get_log("browser")
+        self.size(1600, 1000)
+        self.colours("light")
+
     def size(self, width, height):
         self.driver.execute_cdp_cmd("Emulation.setDeviceMetricsOverride",
                                     {"width": width, "height": height, "deviceScaleFactor": 1, "mobile": False})

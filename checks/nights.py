@@ -2,7 +2,7 @@
 import json
 import os
 
-from browsers import TOP, Browser, Served, until
+from browsers import TOP, Served, until
 from looks import look
 from wards import dialog, followed, step, tell, try_it, verdict
 
@@ -70,6 +70,7 @@ class Night:
             brief = self.next()
             if brief["verdict"] == "yes":
                 break
+            self.browser.wait("the page of this version", f"#verdict[data-version='{brief['version']}']")
             self.browser.wait("what is to blame", "#no [data-blamed], #no [data-act='give-deadline']")
             kinds = [it for it in ("give", "give-deadline", "remove") if self.browser.all(f"#no [data-act='{it}']")]
             self.browser.click(f"a decision, {what}", f"#no [data-act='{kinds[0]}']")
@@ -79,9 +80,9 @@ class Night:
         self.tally.check(f"{what}: whether somebody had to decide", self.decided > before, wanted)
 
 
-def night(tally, pictures):
+def night(tally, browser):
     words = ("--tick", "60", "--start", "22:00", "--by-hand")
-    with Served([NIGHT], *words) as board, Browser(pictures) as browser:
+    with Served([NIGHT], *words) as board:
         browser.open(board.url)
         browser.click("the plan", "[data-plan] button")
         verdict(browser, "yes")

@@ -6,7 +6,7 @@ import subprocess
 import tempfile
 from html import escape
 
-from browsers import TOP, Browser, Served, program, until
+from browsers import TOP, Served, program, until
 from looks import look
 from wards import PATHWAY, did, verdict
 
@@ -50,7 +50,7 @@ def accepted(names):
     return found
 
 
-def hostile(tally, pictures):
+def hostile(tally, browser):
     """Each step of a hostile document is shown as it is called, and told by its button."""
     names = accepted(NAMES)
     tally.check("names that the program takes", len(names) >= len(NAMES) - 1)
@@ -58,11 +58,11 @@ def hostile(tally, pictures):
         path = os.path.join(folder, "hostile.graphml")
         with open(path, "w", encoding="utf-8", newline="") as file:
             file.write(document(names))
-        carried_out(tally, pictures, path, names)
+        carried_out(tally, browser, path, names)
 
 
-def carried_out(tally, pictures, path, names):
-    with Served([path]) as board, Browser(pictures) as browser:
+def carried_out(tally, browser, path, names):
+    with Served([path]) as board:
         browser.open(board.url)
         browser.click("the plan", "[data-plan] button")
         verdict(browser, "yes")

@@ -52,9 +52,9 @@ def verdict(browser, wanted):
     browser.wait(f"the verdict {wanted}", f"#verdict[data-verdict='{wanted}']")
 
 
-def pathway(tally, pictures):
+def pathway(tally, browser):
     """A late result, asked about before it is told, a restart in the middle, and a late antibiotic."""
-    with Served([PATHWAY]) as board, Browser(pictures) as browser:
+    with Served([PATHWAY]) as board:
         browser.open(board.url)
         browser.says("the list", "[data-plan]", "Sample")
         look(tally, browser, "list")
@@ -122,7 +122,7 @@ def late_antibiotic(tally, board, browser, page):
     it_is(browser, "250")
     did(browser, page, "Discharge")
     browser.says("the end", "#verdict", "All is done")
-    look(tally, browser, "done")
+    browser.picture("done")
 
 
 def correct(tally, board, browser):
@@ -156,9 +156,9 @@ def followed(document, lines):
     return told.returncode, b"refused" in told.stdout, told.stdout.endswith(b"done\n")
 
 
-def two(tally, pictures):
+def two(tally, one):
     """Two browsers see the same, and one fact that both tell counts once."""
-    with Served([PATHWAY]) as board, Browser(pictures) as one, Browser(pictures) as other:
+    with Served([PATHWAY]) as board, Browser(one.pictures) as other:
         for browser in (one, other):
             browser.open(board.url)
             browser.click("the plan", "[data-plan] button")
@@ -181,10 +181,10 @@ def two(tally, pictures):
             tally.check("the console of two", browser.console(), [])
 
 
-def keyboard(tally, pictures):
+def keyboard(tally, browser):
     """The whole way by keys alone: to the plan, a step, a dialog and back."""
     from selenium.webdriver.common.keys import Keys
-    with Served([PATHWAY]) as board, Browser(pictures) as browser:
+    with Served([PATHWAY]) as board:
         browser.open(board.url)
         browser.says("the list", "[data-plan]", "Sample")
         press(browser, Keys, "Open clinical-pathway")
@@ -225,9 +225,9 @@ def press(browser, keys, label, *then):
     browser.keys(*(then or (keys.ENTER,)))
 
 
-def clock(tally, pictures):
+def clock(tally, browser):
     """Ticks that pass by themselves: a plan that is begun, is due, and is late."""
-    with Served([PATHWAY], "--tick", "1") as board, Browser(pictures) as browser:
+    with Served([PATHWAY], "--tick", "1") as board:
         browser.open(board.url)
         browser.says("the list", "[data-plan]", "Not begun")
         browser.click("the plan", "[data-plan] button")

@@ -20,7 +20,7 @@ try:
     from waitress.server import create_server
     import flask  # noqa: F401
 except ImportError:
-    sys.exit("cstn board: Flask and waitress are missing; on Debian: apt-get install python3-flask python3-waitress")
+    sys.exit(f"cstn board: no Flask or no waitress for {sys.executable}: install python3-flask and python3-waitress")
 
 from cstn.errors import BadDocument, CstnError
 from cstn.plan import Plan

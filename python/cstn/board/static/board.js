@@ -9,7 +9,7 @@ const POLL = 5000;
 const OLD = 10000;
 const SAID_FOR = 7000;
 
-const state = { data: null, clock: null, alive: true, chosen: {}, wanted: 0, asked: 0, asking: null, fetched: 0, forced: false, held: false, timer: null, resizing: null, saidTimer: null };
+const state = { data: null, clock: null, alive: true, chosen: {}, wanted: 0, asked: 0, asking: null, fetched: 0, forced: false, held: false, pressed: false, timer: null, resizing: null, saidTimer: null };
 const main = document.getElementById("main");
 const top = document.getElementById("top");
 const said = document.getElementById("said");
@@ -40,7 +40,7 @@ function drawAll() {
   const data = state.data;
   drawTop(data);
   tickLater();
-  state.held = isWriting() && !state.forced;
+  state.held = state.pressed || (isWriting() && !state.forced);
   if (state.held) return null;
   state.forced = false;
   const offline = !state.alive && h("section", { class: "card state offline wide", role: "alert" },
@@ -118,7 +118,23 @@ function listen() {
   });
 }
 
-main.addEventListener("focusout", () => setTimeout(() => { if (state.held) drawAll(); }, 0));
+function drawHeld() {
+  setTimeout(() => { if (state.held) drawAll(); }, 0);
+}
+
+/** While a button is held down the page stays as it is: one that was drawn anew meanwhile would not be pressed. */
+function watchHands() {
+  const press = () => { state.pressed = true; };
+  const release = () => {
+    state.pressed = false;
+    drawHeld();
+  };
+  main.addEventListener("pointerdown", press);
+  main.addEventListener("keydown", (event) => { if (event.key === " ") press(); });
+  for (const kind of ["pointerup", "pointercancel", "keyup", "blur"]) window.addEventListener(kind, release);
+  main.addEventListener("focusout", drawHeld);
+}
+
 window.addEventListener("resize", () => {
   clearTimeout(state.resizing);
   state.resizing = setTimeout(drawAll, 100);
@@ -128,5 +144,6 @@ window.addEventListener("hashchange", () => {
   refresh();
   main.focus();
 });
+watchHands();
 setInterval(() => { if (!state.alive) refresh(); }, POLL);
 listen();

@@ -5,10 +5,11 @@ const ROW = 28;
 const HEAD = 30;
 const STEPS = [1, 2, 5, 10, 15, 20, 30, 60, 120, 180, 240, 360, 480, 720, 1440];
 
-/** The moments that stand at the axis: at most ten, and at round numbers. */
-function marks(first, last) {
+/** The moments that stand at the axis: at round numbers, and no more than there is room for. */
+function marks(first, last, room) {
   const length = last - first;
-  const step = STEPS.find((it) => length / it <= 10) ?? Math.ceil(length / 10 / 1440) * 1440;
+  const most = Math.max(2, Math.min(10, Math.floor(room / 64)));
+  const step = STEPS.find((it) => length / it <= most) ?? Math.ceil(length / most / 1440) * 1440;
   const found = [];
   for (let at = Math.ceil(first / step) * step; at <= last; at += step) found.push(at);
   return found;
@@ -21,7 +22,7 @@ function span(data, now) {
 }
 
 function frame(data, page, place) {
-  const grid = marks(place.first, place.last).map((at) => [
+  const grid = marks(place.first, place.last, place.width - 60).map((at) => [
     svg("line", { class: "grid", x1: place.x(at), x2: place.x(at), y1: HEAD - 6, y2: place.height }),
     svg("text", { class: "axis", x: place.x(at), y: 14, "text-anchor": "middle" }, page.clock.at(at))]);
   const x = place.x(data.deadline);

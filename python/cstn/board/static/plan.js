@@ -15,7 +15,8 @@ const VERDICTS = {
 
 function verdict(data) {
   const [title, words] = data.over ? ["All is done", "Nothing is left of this plan."] : VERDICTS[data.verdict];
-  return h("section", { class: `card state wide ${data.verdict}`, id: "verdict", "data-verdict": data.verdict },
+  const state = { "data-verdict": data.verdict, "data-version": data.version };
+  return h("section", { class: `card state wide ${data.verdict}`, id: "verdict", ...state },
     h("strong", {}, title), h("p", {}, words));
 }
 
