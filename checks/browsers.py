@@ -12,6 +12,7 @@ import urllib.request
 TOP = os.path.dirname(os.path.dirname(os.path.realpath(__file__)))
 PYTHON = "/usr/bin/python3"
 PATIENCE = 20.0
+HIGHEST = 2400
 CHROMIUM, DRIVER = "/usr/bin/chromium", "/usr/bin/chromedriver"
 ARGUMENTS = ("--headless=new", "--no-sandbox", "--disable-gpu", "--disable-dev-shm-usage", "--hide-scrollbars",
              "--no-first-run", "--disable-background-networking", "--disable-component-update", "--lang=en")
@@ -211,7 +212,7 @@ class Browser:
         """A picture of the whole page."""
         width, height = self.run("return [innerWidth, innerHeight]")
         whole = self.run("return document.documentElement.scrollHeight")
-        self.size(width, min(max(whole, 600), 4000))
+        self.size(width, min(max(whole, 600), HIGHEST))
         time.sleep(0.15)
         self.driver.save_screenshot(os.path.join(self.pictures, f"{name}.png"))
         self.size(width, height)

@@ -51,21 +51,21 @@ for (let i = 0; i < boxes.length; i += 1) for (let j = i + 1; j < boxes.length; 
 return found;
 """
 
-WIDTHS = (320, 1600)
-SCHEMES = ("light", "dark")
+SCHEMES = {320: ("light", "dark"), 1600: ("dark", "light")}
+"""How wide the window is, and in which order it is light and dark: the last one is in the picture."""
 
 
 def look(tally, browser, name):
     """Looks at the page as it stands, narrow and wide, light and dark, and takes pictures."""
-    for width in WIDTHS:
+    for width, schemes in SCHEMES.items():
         browser.size(width, 900)
         time.sleep(0.3)  # The page is drawn anew.
-        for scheme in SCHEMES:
+        for scheme in schemes:
             browser.colours(scheme)
             where = f"{name}, {width} pixels, {scheme}"
             tally.check(f"{where}: nothing is outside", browser.run(WIDER), [])
             tally.check(f"{where}: text can be read", browser.run(FAINT), [])
-            browser.picture(f"{name}-{width}-{scheme}")
+        browser.picture(f"{name}-{width}-{scheme}")
         tally.check(f"{name}, {width} pixels: what is pressed is large", browser.run(SMALL), [])
         tally.check(f"{name}, {width} pixels: words of the picture do not overlap", browser.run(OVERLAPPING), [])
     browser.size(1600, 1000)

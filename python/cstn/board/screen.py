@@ -48,14 +48,14 @@ def look(follower: Follower, now: int | None, chosen: Mapping[str, bool], *, who
         if now is not None:
             trial.tell(Now(now))
         outlook = trial.outlook(latest=False)
-        due = due_before(follower, outlook.now)
+        due = due_before(trial, outlook.now)
         if not whole:
             return Look(follower.plan, outlook, tellings, Ahead(), {}, due, {}, (), None, [])
         is_no = outlook.verdict.can is Can.NO
         ways = trial.ways_out() if is_no else ()
         lates = {} if is_no else {it.letter: trial.late(it.letter) for it in outlook.awaited}
         meanwhile, let_go = let_all_go(trial) if is_no else (None, [])
-        ahead = way_ahead(follower, [f"now {outlook.now}", *(f"remove {number}" for number in let_go)], chosen)
+        ahead = way_ahead(trial, chosen)
         latest = {} if is_no else latest_of(trial, outlook, ahead)
     return Look(follower.plan, outlook, tellings, ahead, latest, due, lates, ways, meanwhile, let_go)
 
@@ -88,23 +88,20 @@ def let_all_go(trial: Trial) -> tuple[Next | None, list[int]]:
     return (answer, gone) if isinstance(answer, Next) else (None, [])
 
 
-def way_ahead(follower: Follower, lines: Sequence[str], chosen: Mapping[str, bool]) -> Ahead:
-    """How the plan goes on after some lines more; nothing where that takes too long."""
+def way_ahead(trial: Trial, chosen: Mapping[str, bool]) -> Ahead:
+    """How the plan goes on, after a "no" without what was let go; nothing where that takes too long."""
     try:
-        with follower.copied() as (child, _):
-            for line in lines:
-                child.ask(line)
-            return play(child, chosen, 2 * len(follower.plan.steps))
+        with trial.copied() as (child, _):
+            return play(child, chosen, 2 * len(trial.plan.steps))
     except CstnError:
         return Ahead()
 
 
-def due_before(follower: Follower, now: int) -> dict[str, int]:
+def due_before(trial: Trial, now: int) -> dict[str, int]:
     """Which steps were wanted before now, by what was told but the time that has passed."""
-    plan, allowed = follower.plan, follower.allowed
-    with follower.copied() as (_, state):
-        lines = [line for line in state.lines if not line.startswith("now ")]
+    plan, allowed = trial.plan, trial.allowed
     try:
+        lines = trial.asked(lambda session: [it for it in session.state.lines if not it.startswith("now ")])
         child = Child(plan.document, plan.asked_deadline, cap=allowed.cap, seconds=allowed.seconds,
                       program=plan.program)
     except CstnError:
