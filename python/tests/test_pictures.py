@@ -10,6 +10,7 @@ from xml.etree import ElementTree
 
 from cstn.draw.command import main
 from cstn.draw.svg import width
+from cstn.explain.asking import Stopped
 from cstn.program import find
 
 EXAMPLES = Path(__file__).resolve().parents[2] / "examples"
@@ -110,6 +111,16 @@ class Pictures(unittest.TestCase):
             text = main(["cases", file.name])
             self.assertEqual(text.count('class="case"'), 64)
             self.assertIn("64 of 128 cases are left out", text)
+
+    def test_too_many_cases(self) -> None:
+        with tempfile.NamedTemporaryFile("w", suffix=".graphml", encoding="utf-8") as file:
+            file.write(night(12, 3))
+            file.flush()
+            with self.assertRaisesRegex(Stopped, "up to 4096 cases"):
+                main(["cases", file.name])
+            text = self.check(["cases", file.name, "--case", "a!c"], ["Step0of1", "Step1of0", "Step2of0"])
+            self.assertIn("a true, b false, c false", text)
+            self.assertNotIn("Step0of0", text)
 
     @unittest.skipUnless(HAS_GRAPHVIZ, "Graphviz is not here")
     def test_page(self) -> None:

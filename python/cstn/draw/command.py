@@ -22,7 +22,7 @@ from .gantt import draw_cases
 from .network import draw_network
 from .now import draw_now
 from .page import write_page
-from .plans import Plan, add_latest, chosen, read_network, read_plan
+from .plans import Plan, add_case, add_latest, chosen, read_network, read_plan
 from .sessions import read_session
 from .table import write_table
 from .tasks import Task, read_tasks
@@ -105,6 +105,7 @@ def drawn(request: Request, asked: Asked, plan: Plan) -> str:
         return drawn_now(request, asked, plan)
     if request.form == "--html":
         return page_of(request, asked, plan)
+    add_case(asked, plan, request.options.get("--case"))
     if not plan.cases:
         raise Stopped(1, plan.why)
     places = chosen(plan.cases, request.options.get("--case"))

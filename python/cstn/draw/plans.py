@@ -3,7 +3,7 @@ import re
 from dataclasses import dataclass, field
 
 from ..explain.asking import Asked, Stopped, ids_of
-from ..explain.cases import Case, ask_latest, cases_of
+from ..explain.cases import Case, ask_latest, cases_of, played
 from ..explain.documents import Reader
 from ..explain.networks import Network, literals, written
 from ..explain.refusals import tell_refused
@@ -11,6 +11,9 @@ from ..explain.refutations import Refutation
 from ..explain.trees import MOST_IN_WORDS, size
 from .clock import Clock
 from .tasks import Task, tasks_of
+
+
+LABEL = re.compile("([¬!]?[A-Za-z])+")
 
 
 @dataclass
@@ -64,10 +67,19 @@ def read_plan(asked: Asked, title: str, clock: Clock, tasks: list[Task] | None, 
     elif status:
         plan.why = f"Whether the plan can be carried out is not known: the program says {plan.verdict}."
     elif size(asked.net) > MOST_IN_WORDS:
-        plan.why = f"The plan has up to {1 << len(asked.net.observers)} cases, too many for a picture."
+        plan.why = (f"The plan has up to {1 << len(asked.net.observers)} cases, too many for a picture: "
+                    "`--case LABEL` draws one, in which all letters that LABEL does not name are false.")
     elif with_cases:
         plan.cases = cases_of(asked.net, asked.tree() or [])
     return plan
+
+
+def add_case(asked: Asked, plan: Plan, wanted: str | None) -> None:
+    """The one case in which a label holds, and what it does not name is false, of a plan with too many cases."""
+    is_wide = plan.verdict.startswith("yes") and not plan.cases
+    if is_wide and wanted and LABEL.fullmatch(wanted):
+        case = played(asked, literals(wanted))
+        plan.cases = [case] if case else []
 
 
 def add_latest(asked: Asked, plan: Plan, places: list[int]) -> None:
@@ -97,7 +109,7 @@ def chosen(cases: list[Case], wanted: str | None) -> list[int]:
     if re.fullmatch(r"[1-9]\d{0,5}", wanted):
         found = [int(wanted) - 1] if int(wanted) <= len(places) else []
     else:
-        marks = literals(wanted) if re.fullmatch("([¬!]?[A-Za-z])+", wanted) else {"": None}
+        marks = literals(wanted) if LABEL.fullmatch(wanted) else {"": None}
         found = [at for at in places if cases[at].holds(marks)]
     if not found:
         labels = ", ".join(written(it.outcomes) or "-" for it in cases[:64])

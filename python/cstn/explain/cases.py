@@ -8,12 +8,15 @@ from collections.abc import Iterator
 from dataclasses import dataclass, field
 
 from .asking import Asked
-from .names import typed
+from .names import printed, typed
 from .networks import Network, written
 from .shapes import Marks, Tree
+from .tries import Live
 
 # A session is told all steps of a case and asked for each; these are the constraints times the questions of all.
 MOST_ASKED = 400000
+
+NEXT = re.compile(r"next (\d+)(?: do ([^ ]+(?: [^ ]+)*?))?(?: wait ([A-Za-z]+))?")
 
 
 @dataclass
@@ -58,6 +61,27 @@ def ways(items: Tree, known: Marks, moments: dict[str, int]) -> Iterator[tuple[M
             return
         moments.update(dict.fromkeys(item["names"], item["at"]))
     yield known, moments
+
+
+def played(asked: Asked, outcomes: Marks) -> Case | None:
+    """The case in which these letters come out so, and all others false, as `follow` names what is next: for a plan
+    that has too many cases for a tree. None where the session did not come to its end."""
+    case, said = Case({}, {"Z": 0}, {}), ""
+    words = [asked.program, "follow", asked.path, "--deadline", str(asked.net.deadline)]
+    with Live(words, [], 0) as live:
+        for _ in range(len(asked.net.names) + len(asked.net.observers) + 1):
+            said = live.say("next")
+            found = NEXT.fullmatch(said)
+            if not found:
+                break
+            moment = int(found[1])
+            for letter in found[3] or "":
+                case.outcomes[letter], case.known[letter] = outcomes.get(letter, False), moment
+                live.say(f"saw {moment} {letter} {str(bool(case.outcomes[letter])).lower()}")
+            if not found[3]:
+                case.moments.update((printed(name), moment) for name in found[2].split(" "))
+                live.say(f"did {moment} {found[2]}")
+    return case if said == "done" else None
 
 
 def told_lines(case: Case) -> list[tuple[int, int, str]]:
