@@ -22,7 +22,7 @@ use Rattle.cstn_top.specs.Answers.{LabelledAnswer, on_labelled}
 use Rattle.cstn_reply.specs.declared.output.Outcome.TheVariants.{Document}
 use Rattle.cstn_request.specs.Documents.{parts_of, HasLabelled, IsNoDocument}
 use Rattle.cstn_top.proofs.DocumentNames.{document_names}
-use Rattle.cstn_top.proofs.Standing.{IsOfDocument}
+use Rattle.cstn_top.proofs.Documents.{IsOfDocument}
 use Rattle.cstn_top.proofs.Documents.{labelled_says, labelled_talks}
 use Rattle.cstn_top.proofs.Edited.{document_named}
 
