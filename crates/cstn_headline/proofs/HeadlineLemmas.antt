@@ -31,6 +31,7 @@ use Rattle.cstn_top.specs.commands.Run.{run_bounds, AnswersLeast, WroteRun}
 use Rattle.cstn_top.specs.commands.Edit.{IsVerdictOn, EditEnds, WroteEdits}
 use Rattle.cstn_request.specs.Documents.{AreEmpty, AreUnlabelled}
 use Rattle.cstn_reply.specs.Statuses.{status_of}
+use Rattle.cstn_reply.specs.Written.{LiveState}
 use Rattle.cstn_reply.specs.declared.status.Status.{Status}
 use Rattle.cstn_reply.specs.declared.status.Status.TheVariants.{Good as IsYesStatus, Bad as IsNoStatus, Full as IsFullStatus}
 use Rattle.cstn_reply.specs.declared.output.Outcome.{Outcome}
@@ -45,7 +46,7 @@ use Rattle.cstn_top.proofs.Documents.{labelled_says}
 use Rattle.cstn_top.proofs.Labels.{labelled_then}
 use Rattle.cstn_top.proofs.Meanings.{VerdictsLabelled}
 use Rattle.cstn_top.proofs.records.Check.{check_tells}
-use Rattle.cstn_top.proofs.Endings.{end_status}
+use Rattle.cstn_top.proofs.Endings.{EndsAs, end_status}
 use Rattle.cstn_headline.proofs.EditSessions.{last_is}
 use Rattle.cstn_headline.proofs.Dispatch.{proved}
 use Rattle.cstn_headline.proofs.Dispatched.{WroteEvidence, IsEnded}
@@ -117,10 +118,10 @@ check_decides cap m status Unfinished at never = absurd never
 check_decides cap m status Script at never = absurd never
 check_decides cap m status Wide at never = absurd never
 
-pub check_is_decided : (d : Document) (cap : ℕ) (c : Checked d cap) → ((c.status ≡ IsFullStatus) × (cap < load d)) ⊎ (Decides c.status (HasStrategy d) × (load d ≤ cap))
-check_is_decided d cap c =
-    let ended = ends (check d.asked cap) (d.bytes ∷ []) c in
-    check_decides cap (network d) c.status ended.2.0.outcome ended.2.2 (tells ended.0 ended.2.0 ended.2.1)
+-- the outcome of a check of a document that ended
+pub check_said : (d : Document) (cap : ℕ) (before : LiveState) (status : Status) → EndsAs (plan_at (check d.asked cap) (d.bytes ∷ [])) before status →
+    (o : Outcome) × (status ≡ status_of o) × VerdictsLabelled cap (network d) o
+check_said d cap before status ended = (ended.2.0.outcome, ended.2.2, tells ended.0 ended.2.0 ended.2.1)
   where
     tells : (live : List ℕ) (said : Said) → IsOutput (plan_at (check d.asked cap) (d.bytes ∷ [])) live said → VerdictsLabelled cap (network d) said.outcome
     tells live said output = by_said (labelled_says (of_lowered (checked cap)) d.bytes d.asked.deadline live said output)
@@ -130,6 +131,11 @@ check_is_decided d cap c =
         by_said (inr has) =
             of_document d (λ names m. VerdictsLabelled cap m said.outcome)
             (labelled_then d.bytes d.asked.deadline (λ names m. IsOutput (checked cap names (lowered m)) live said) (λ names m. VerdictsLabelled cap m said.outcome) has (check_tells cap live said))
+
+pub check_is_decided : (d : Document) (cap : ℕ) (c : Checked d cap) → ((c.status ≡ IsFullStatus) × (cap < load d)) ⊎ (Decides c.status (HasStrategy d) × (load d ≤ cap))
+check_is_decided d cap c =
+    let said = check_said d cap c.before c.status (ends (check d.asked cap) (d.bytes ∷ []) c) in
+    check_decides cap (network d) c.status said.0 said.1 said.2
 
 -- ---- `run`
 

@@ -21,6 +21,9 @@ pub mod EditSessions
 pub mod LabelledDeadlines
 pub mod HeadlineCalls
 pub mod HeadlineLemmas
+-- The headline for networks.
+pub mod SameStrategies
+pub mod NetworkChecks
 -- What is written is accepted when it is handed in again.
 pub mod OneOutput
 pub mod Replayed

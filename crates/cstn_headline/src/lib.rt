@@ -4,6 +4,7 @@
 mod evidence_laws;
 mod headline_laws;
 mod laws;
+mod networks;
 
 pub use evidence_laws::evidence_is_accepted;
 pub use headline_laws::{calls_are_told, calls_tell, the_headline};
@@ -11,3 +12,4 @@ pub use laws::{
     edit_sessions_are_true, evidence_passes, followed_refutations_pass, followed_rests_decide,
     least_deadlines_are_lowered, outputs_are_one,
 };
+pub use networks::check_network;
