@@ -12,7 +12,7 @@ use Rattle.cstn_element.specs.Results.{Refusal as DocumentRefusal}
 use Rattle.cstn_graphml.specs.Document.{Parts}
 use Rattle.cstn_graphml.specs.Networks.{labelled_of, IsFit}
 use Rattle.cstn_save.specs.Canonical.{canonical}
-use Rattle.cstn_save.specs.ReadBack.{AreNamesOf}
+use Rattle.cstn_save.specs.Names.{AreNamesOf}
 use Rattle.cstn_history.specs.Continuations.{Can}
 use Rattle.cstn_history.proofs.Decides.{can_both}
 use Rattle.cstn_request.specs.Requests.{Asked, check}

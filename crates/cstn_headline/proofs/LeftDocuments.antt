@@ -20,7 +20,8 @@ use Rattle.cstn_lift.specs.WellFormed.{IsLabelled}
 use Rattle.cstn_lift.proofs.LoweredLemmas.{observer_back, observer_found}
 use Rattle.cstn_graphml.specs.Networks.{labelled_of}
 use Rattle.cstn_save.specs.Canonical.{timed_observations}
-use Rattle.cstn_save.specs.ReadBack.{drawn, parts, AreNamesOf}
+use Rattle.cstn_save.specs.ReadBack.{drawn, parts}
+use Rattle.cstn_save.specs.Names.{AreNamesOf}
 use Rattle.cstn_save.proofs.SameLemmas.{labelled_back}
 use Rattle.cstn_history.specs.Histories.{History, IsHistory, is_told, edited}
 use Rattle.cstn_history.specs.Rest.{is_left, sight_left, left, rest, number_of, reaction_after, reaction_by}

@@ -14,7 +14,8 @@ use Rattle.cstn_element.specs.Results.{Refusal as DocumentRefusal}
 use Rattle.cstn_graphml.specs.Document.{Parts, document}
 use Rattle.cstn_graphml.specs.Networks.{labelled_of, IsFit}
 use Rattle.cstn_save.specs.Canonical.{canonical}
-use Rattle.cstn_save.specs.ReadBack.{parts, AreNamesOf}
+use Rattle.cstn_save.specs.ReadBack.{parts}
+use Rattle.cstn_save.specs.Names.{AreNamesOf}
 use Rattle.cstn_log.specs.Cuts.{part}
 use Rattle.cstn_check.specs.Growth.{is_refuted, log_of, load_of}
 use Rattle.cstn_check.specs.Decisions.{verdict}

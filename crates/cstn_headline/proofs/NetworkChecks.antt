@@ -11,7 +11,8 @@ use Rattle.cstn_lift.specs.WellFormed.{IsLabelled}
 use Rattle.cstn_text.specs.Numbers.{number_read, printed_number}
 use Rattle.cstn_check.specs.Growth.{observed, load_of, most_entries}
 use Rattle.cstn_save.specs.Canonical.{canonical}
-use Rattle.cstn_save.specs.ReadBack.{parts, AreNamesOf, AreSameButIds}
+use Rattle.cstn_save.specs.ReadBack.{parts, AreSameButIds}
+use Rattle.cstn_save.specs.Names.{AreNamesOf}
 use Rattle.cstn_graphml.specs.Document.{document}
 use Rattle.cstn_graphml.specs.Networks.{labelled_of, network_of, IsFit}
 use Rattle.cstn_request.specs.Limits.{usual_cap, most_document}

@@ -9,7 +9,7 @@ use Rattle.cstn_lift.specs.Strategies.{IsLabelledConsistent}
 use Rattle.cstn_lift.specs.WellFormed.{IsLabelled}
 use Rattle.cstn_text.specs.Numbers.{printed_number}
 use Rattle.cstn_save.specs.Canonical.{canonical}
-use Rattle.cstn_save.specs.ReadBack.{AreNamesOf}
+use Rattle.cstn_save.specs.Names.{AreNamesOf}
 use Rattle.cstn_request.specs.Limits.{usual_cap, most_document}
 use Rattle.cstn_reply.specs.declared.status.Status.{Status}
 use Rattle.cstn_reply.specs.declared.status.Status.TheVariants.{Good, Bad, Full, ReadFault, WriteFault, Memory}

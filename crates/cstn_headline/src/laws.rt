@@ -6,7 +6,7 @@ ghost use Rattle.cstn_net.specs.Limits.{most_constraints, most_load};
 ghost use Rattle.cstn_net.specs.Networks.{Network, Constraint, IsWellFormed, Observes, count};
 ghost use Rattle.cstn_lines.specs.Pieces.{is_past};
 ghost use Rattle.cstn_check.specs.declared.verdicts.Verdict.TheVariants.{No};
-ghost use Rattle.cstn_save.specs.ReadBack.{AreNamesOf};
+ghost use Rattle.cstn_save.specs.Names.{AreNamesOf};
 ghost use Rattle.cstn_follow.specs.Following.{Following, begun, verdict_now};
 ghost use Rattle.cstn_edit.specs.Editing.{Editing, begun_editing, edit_turn, last_checked};
 ghost use Rattle.cstn_reply.specs.Sessions.{more};
