@@ -18,7 +18,7 @@ use Rattle.cstn_lift.specs.Strategies.{IsLabelledConsistent}
 use Rattle.cstn_check.specs.Growth.{load_of}
 use Rattle.cstn_lines.specs.Pieces.{lines_of}
 use Rattle.cstn_request.specs.Requests.{Request, check, run, edit, replay}
-use Rattle.cstn_reply.specs.Texts.{Said}
+use Rattle.cstn_reply.specs.Texts.{Said, yes_line}
 use Rattle.cstn_top.specs.Plans.{IsOutput}
 use Rattle.cstn_top.specs.Answers.{LabelledAnswer, of_lowered, on_labelled, by_text}
 use Rattle.cstn_top.specs.commands.Check.{checked}
@@ -38,10 +38,10 @@ use Rattle.cstn_reply.specs.declared.output.Outcome.{Outcome}
 use Rattle.cstn_reply.specs.declared.output.Outcome.TheVariants.{Good, Bad, Words, Document as IsRefusedOutcome, Full, Unfinished, Script, Wide}
 use Rattle.cstn_request.specs.Documents.{parts_of, HasLabelled, HasNetwork, IsNoDocument, IsRefused}
 use Rattle.cstn_edit.specs.Editing.{begun_editing, last_checked}
-use Rattle.cstn_run.specs.Meanings.{IsCarriedThrough}
+use Rattle.cstn_run.specs.Meanings.{said_to, WasNamed, IsCarriedThrough}
 use Rattle.cstn_refute.specs.Texts.{told as told_by}
 use Rattle.cstn_headline.specs.EditSessions.{IsNoCheck, IsAtLastCheck}
-use Rattle.cstn_headline.specs.Headline.{Document, network, printed_names, HasStrategy, load, edited, Call, Checked, Ran, Replayed, Edited, Decides, IsEditedVerdict, IsExecutedOver}
+use Rattle.cstn_headline.specs.Headline.{Document, network, printed_names, HasStrategy, load, edited, Call, Checked, Ran, Replayed, Edited, Decides, IsEditedVerdict, WasWritten, IsExecutedOver}
 use Rattle.cstn_top.proofs.Documents.{labelled_says}
 use Rattle.cstn_top.proofs.Labels.{labelled_then}
 use Rattle.cstn_top.proofs.Meanings.{VerdictsLabelled}
@@ -145,17 +145,25 @@ run_is_least d has =
     subst (λ (r : Result Parts DocumentRefusal). IfSome (parts_of r) (λ parts. IsFit parts → IsLabelledYes (load d) (labelled_of parts) → AnswersLeast (map printed_name parts.names) (labelled_of parts) (run_bounds (labelled_of parts)))) d.reads
     ((proved (run d.asked (load d))).least (d.bytes ∷ [])) d.fit (has, within)
 
-executed_over : (names : List (List ℕ)) (m : Labelled) (lines : List (List ℕ)) → IsCarriedThrough names m (run_bounds m) lines → IsExecutedOver names m lines
-executed_over names m lines through = record {
+-- where answers are least, what was named is written
+is_written : (names : List (List ℕ)) (m : Labelled) (lines : List (List ℕ)) (x t : ℕ) → AnswersLeast names m (run_bounds m) → WasNamed names m (run_bounds m) lines x t → WasWritten names m lines x t
+is_written names m lines x t least was =
+    let told = least.moments was.before was.next was.state t was.leads was.moment was.accepted in
+    record { was = was; named = told.named; says = told.says; there = (told.exactly x).1 was.named }
+
+executed_over : (names : List (List ℕ)) (m : Labelled) (lines : List (List ℕ)) (text : List ℕ) → AnswersLeast names m (run_bounds m) → text ≡ yes_line (load_of (lowered m)) ++ (said_to names m (run_bounds m) lines).text → IsCarriedThrough names m (run_bounds m) lines → IsExecutedOver names m lines text
+executed_over names m lines text least text_is through = record {
+  text_is = text_is;
   each = λ s x agrees inside executed.
       let at = through.led.named s x agrees inside executed in
-      (through.led.table s x, (through.timely.named x (through.led.table s x)).0 at, through.timely.on_time.named s x (through.led.table s x) agrees at);
+      let t = through.led.table s x in
+      (t, is_written names m lines x t least ((through.timely.named x t).0 at), through.timely.on_time.named s x t agrees at);
   no_other = λ s x t agrees was. (through.timely.on_time.named s x t agrees ((through.timely.named x t).1 was)).executed;
   meets = λ s c from to agrees has force one two. through.led.meets s c from to agrees has force ((through.timely.named c.from from).1 one) ((through.timely.named c.to to).1 two);
 }
 
-pub run_is_executed : YesAccepted → NoAccepted → (d : Document) (cap : ℕ) (c : Ran d cap) → c.status ≡ IsYesStatus → IsExecutedOver (printed_names d) (network d) (lines_of c.live)
-run_is_executed yes_text no_text d cap c good = by_wrote (of_document d carries ((call_tells yes_text no_text (run d.asked cap) (d.bytes ∷ []) c).carried_out good)).1
+pub run_is_executed : YesAccepted → NoAccepted → (d : Document) (cap : ℕ) (c : Ran d cap) → c.status ≡ IsYesStatus → IsExecutedOver (printed_names d) (network d) (lines_of c.live) c.text
+run_is_executed yes_text no_text d cap c good = by_wrote tells.0 tells.1
   where
     carries : List (List ℕ) → Labelled → Type 0
     carries ns l = IsLabelledYes cap l × WroteRun c.before.left (Some c.old) (Some (c.old ++ c.text)) (map printed_name ns) l (run_bounds l) (IsCarriedThrough (map printed_name ns) l (run_bounds l))
@@ -163,8 +171,18 @@ run_is_executed yes_text no_text d cap c good = by_wrote (of_document d carries 
     printed : List (List ℕ)
     printed = map printed_name d.parts.names
 
-    by_wrote : WroteRun c.before.left (Some c.old) (Some (c.old ++ c.text)) printed (network d) (run_bounds (network d)) (IsCarriedThrough printed (network d) (run_bounds (network d))) → IsExecutedOver printed (network d) (lines_of c.live)
-    by_wrote w = executed_over printed (network d) (lines_of c.live) (subst (λ (xs : List ℕ). IsCarriedThrough printed (network d) (run_bounds (network d)) (lines_of xs)) (w.all c.live c.live_is) w.of_lines)
+    tells : carries d.parts.names (network d)
+    tells = of_document d carries ((call_tells yes_text no_text (run d.asked cap) (d.bytes ∷ []) c).carried_out good)
+
+    said : List ℕ → List ℕ
+    said xs = yes_line (load d) ++ (said_to printed (network d) (run_bounds (network d)) (lines_of xs)).text
+
+    by_wrote : IsLabelledYes cap (network d) → WroteRun c.before.left (Some c.old) (Some (c.old ++ c.text)) printed (network d) (run_bounds (network d)) (IsCarriedThrough printed (network d) (run_bounds (network d))) →
+        IsExecutedOver printed (network d) (lines_of c.live) c.text
+    by_wrote yes' w =
+        executed_over printed (network d) (lines_of c.live) c.text (run_is_least d yes'.0)
+        (append_cancel_left c.old c.text (said c.live) (same_Some (c.old ++ c.text) (c.old ++ said c.live) (w.wrote ∙ ap (λ (xs : List ℕ). Some (c.old ++ said xs)) (w.all c.live c.live_is))))
+        (subst (λ (xs : List ℕ). IsCarriedThrough printed (network d) (run_bounds (network d)) (lines_of xs)) (w.all c.live c.live_is) w.of_lines)
 
 -- ---- the derivation
 

@@ -12,6 +12,7 @@ use Rattle.cstn_lines.specs.Pieces.{lines_of}
 use Rattle.cstn_graphml.specs.Document.{Parts, document}
 use Rattle.cstn_graphml.specs.Networks.{labelled_of, IsFit}
 use Rattle.cstn_check.specs.Growth.{load_of}
+use Rattle.cstn_exec.specs.Running.{moment_line}
 use Rattle.cstn_exec.specs.Sound.{AgreesHanded}
 use Rattle.cstn_request.specs.Requests.{Asked, Request, check, run, edit, replay, files_of}
 use Rattle.cstn_reply.specs.Written.{LiveState}
@@ -24,7 +25,8 @@ use Rattle.cstn_request.specs.Documents.{AreEmpty}
 use Rattle.cstn_request.specs.Files.{file_at}
 use Rattle.cstn_reply.specs.declared.status.Status.{Status}
 use Rattle.cstn_reply.specs.declared.status.Status.TheVariants.{Good, Bad, Full, Script}
-use Rattle.cstn_run.specs.Meanings.{end_of, WasNamed}
+use Rattle.cstn_run.specs.Meanings.{end_of, said_to, GuideSays, WasNamed}
+use Rattle.cstn_reply.specs.Texts.{yes_line}
 use Rattle.cstn_change.specs.ChangeLines.{network_after}
 use Rattle.cstn_headline.specs.EditSessions.{IsNoCheck}
 
@@ -112,12 +114,21 @@ pub record Edited (d : Document) (cap : ℕ) (edits : List (List ℕ)) : Type 0 
   pub lines_are : lines_of call.live ≡ edits ++ codes "check" ∷ later
   pub last : All IsNoCheck later
 
--- Over these lines a run was carried out. In each scenario that agrees with the outcomes that were handed in and are known,
--- each time-point whose label holds was named in an answer, at the least moment that any labelled strategy allows, and no
--- other; and the named moments meet each constraint whose label holds.
-pub record IsExecutedOver (names : List (List ℕ)) (m : Labelled) (lines : List (List ℕ)) : Type 0 where
+-- x was named at t in what was written: an answer to a line that hands in t names it
+pub record WasWritten (names : List (List ℕ)) (m : Labelled) (lines : List (List ℕ)) (x t : ℕ) : Type 0 where
+  pub was : WasNamed names m (run_bounds m) lines x t
+  pub named : List ℕ
+  pub says : GuideSays names m (run_bounds m) was.before was.next (moment_line names t named)
+  pub there : Contains named x
+
+-- Over these lines a run was carried out, and this text was written: the line that says yes, and the answers to the lines. In each
+-- scenario that agrees with the outcomes that were handed in and are known, each time-point whose label holds was named in an
+-- answer, at the least moment that any labelled strategy allows, and no other; and the named moments meet each constraint whose
+-- label holds.
+pub record IsExecutedOver (names : List (List ℕ)) (m : Labelled) (lines : List (List ℕ)) (text : List ℕ) : Type 0 where
+  pub text_is : text ≡ yes_line (load_of (lowered m)) ++ (said_to names m (run_bounds m) lines).text
   pub each : (s : Scenario) (x : ℕ) → AgreesHanded m (end_of names m (run_bounds m) lines) s → x < count m.base → IsExecuted m s x →
-      (t : ℕ) × WasNamed names m (run_bounds m) lines x t × IsLabelledLeast m s x t
+      (t : ℕ) × WasWritten names m lines x t × IsLabelledLeast m s x t
   pub no_other : (s : Scenario) (x t : ℕ) → AgreesHanded m (end_of names m (run_bounds m) lines) s → WasNamed names m (run_bounds m) lines x t → IsExecuted m s x
   pub meets : (s : Scenario) (c : Constraint) (from to : ℕ) → AgreesHanded m (end_of names m (run_bounds m) lines) s → Contains m.base.constraints c → IsInForce m s c →
       WasNamed names m (run_bounds m) lines c.from from → WasNamed names m (run_bounds m) lines c.to to → (pos to -ℤ pos from) ≤ℤ c.most

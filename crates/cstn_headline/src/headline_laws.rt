@@ -19,15 +19,16 @@ use cstn_io::Source;
 /// For every labelled network of a document, `check` ends with Good exactly where a dynamic strategy exists and with Bad exactly
 /// where none does, or with Full, where the log of the lowered network has more entries than the cap. After yes, over any lines,
 /// each moment that `run` accepts is answered with exactly the time-points whose label holds and whose least moment it is in any
-/// dynamic strategy; and where a run ends with Good, each time-point whose label holds was executed at its least moment, and
-/// every constraint whose label holds is met, in every scenario that agrees with the outcomes that were handed in. After no the
+/// dynamic strategy; and where a run ends with Good, each time-point whose label holds was named in what was written, at its least
+/// moment, and every constraint whose label holds is met, in every scenario that agrees with the outcomes that were handed in. After no the
 /// written derivation passes `replay`, whose Good implies that no strategy exists. After any edit lines, each of the grammar and
 /// none too long or too late, the verdict of the last check is that of the network as edited by the lines before it, or Full,
 /// where its log has more entries than the cap.
 pub fn the_headline()
     ensures check { (d : Document) (cap : ℕ) (c : Checked d cap) → ((c.status ≡ Full) × (cap < load d)) ⊎ (Decides c.status (HasStrategy d) × (load d ≤ cap)) }
     ensures least { (d : Document) → HasStrategy d → AnswersLeast (printed_names d) (network d) (run_bounds (network d)) }
-    ensures executed { (d : Document) (cap : ℕ) (c : Ran d cap) → c.status ≡ Good → IsExecutedOver (printed_names d) (network d) (lines_of c.live) }
+    ensures executed { (d : Document) (cap : ℕ) (c : Ran d cap) → c.status ≡ Good
+        → IsExecutedOver (printed_names d) (network d) (lines_of c.live) c.text }
     ensures derivation { (d : Document) (cap : ℕ) (c : Checked d cap) → c.status ≡ Bad → (file : List ℕ) (r : Replayed d file c.text) → r.status ≡ Good }
     ensures replay { (d : Document) (file text : List ℕ) (r : Replayed d file text) → r.status ≡ Good → HasStrategy d → ⊥ }
     ensures edits { (d : Document) (cap : ℕ) (edits : List (List ℕ)) (e : Edited d cap edits) → IsEditedVerdict cap (edited d edits) e.call.status }
