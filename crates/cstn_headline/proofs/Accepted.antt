@@ -14,7 +14,8 @@ use Rattle.cstn_reply.specs.Texts.{Said}
 use Rattle.cstn_reply.specs.declared.output.Outcome.TheVariants.{Document}
 use Rattle.cstn_request.specs.Documents.{HasNetwork, IsRefused}
 use Rattle.cstn_check.specs.Decisions.{verdict}
-use Rattle.cstn_headline.proofs.Standing.{NoAccepted, IsOfDocument, StandsFor, not_above, never_decided}
+use Rattle.cstn_headline.proofs.Standing.{NoAccepted, StandsFor, not_above, never_decided}
+use Rattle.cstn_top.proofs.Documents.{IsOfDocument}
 use Rattle.cstn_top.proofs.Documents.{document_says, document_then}
 
 -- what is said of a verdict stands for it, where what follows yes does

@@ -32,8 +32,8 @@ use Rattle.cstn_top.specs.Verdicts.{IsLabelledYes, IsLabelledNo}
 use Rattle.cstn_top.specs.commands.Follow.{follow_turn}
 use Rattle.cstn_headline.proofs.LeftDocuments.{renumbered, read_back, lowered_same, left_unseen, names_of_left}
 use Rattle.cstn_headline.proofs.LeftReplayed.{AreUnseen, DocumentsBack, text_of, named_still, unseen_still}
-use Rattle.cstn_headline.proofs.Proved.{IsRight}
-use Rattle.cstn_top.proofs.records.Check.{check_proved}
+use Rattle.cstn_top.proofs.Handled.{IsRight}
+use Rattle.cstn_top.proofs.records.Check.{check_handled}
 
 module _ (backs : DocumentsBack) where
   -- what holds of the document of a labelled network holds of it under other ids
@@ -82,7 +82,7 @@ module _ (backs : DocumentsBack) where
 
     right : (o : Outcome) → said.outcome ≡ o → IsRight None o (check asked checks) (bytes ∷ [])
     right o is = subst (λ (x : Outcome). IsRight None x (check asked checks) (bytes ∷ [])) is
-        ((check_proved asked checks).right None (bytes ∷ []) live said (λ xs told. absurd (cc)) output)
+        ((check_handled asked checks).right None (bytes ∷ []) live said (λ xs told. absurd (cc)) output)
 
     pub checked_yes : said.outcome ≡ Good → Can s.network s.history
     checked_yes is =

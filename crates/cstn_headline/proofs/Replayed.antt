@@ -22,9 +22,9 @@ use Rattle.cstn_reply.specs.declared.output.Outcome.{Outcome}
 use Rattle.cstn_reply.specs.declared.output.Outcome.TheVariants.{Good, Bad, Document}
 use Rattle.cstn_request.specs.Documents.{parts_of, HasLabelled}
 use Rattle.cstn_headline.proofs.Standing.{YesAccepted, NoAccepted}
-use Rattle.cstn_top.proofs.records.Check.{check_proved}
-use Rattle.cstn_top.proofs.records.Run.{run_proved}
-use Rattle.cstn_top.proofs.records.Closed.{closed_proved}
+use Rattle.cstn_headline.proofs.records.Check.{check_proved}
+use Rattle.cstn_headline.proofs.records.Run.{run_proved}
+use Rattle.cstn_headline.proofs.records.Closed.{closed_proved}
 use Rattle.cstn_headline.proofs.OneOutput.{OneJudgement}
 use Rattle.cstn_headline.proofs.Dispatched.{IsEvidence}
 

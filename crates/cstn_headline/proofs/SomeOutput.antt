@@ -53,7 +53,7 @@ use Rattle.cstn_top.specs.commands.Host.{on_documents, on_verdicts, attended}
 use Rattle.cstn_reply.specs.declared.output.Outcome.TheVariants.{Document, Script, Wide}
 use Rattle.cstn_check.specs.Decisions.{verdict, IsYes}
 use Rattle.cstn_check.proofs.Deciding.{Tells, verdict_tells}
-use Rattle.cstn_headline.proofs.Standing.{IsOfDocument}
+use Rattle.cstn_top.proofs.Documents.{IsOfDocument}
 use Rattle.cstn_tree.specs.Unfolded.{observed}
 use Rattle.cstn_exec.specs.Guides.{begun}
 use Rattle.cstn_run.specs.Sessions.{guide_turn, guide_ending}

@@ -9,8 +9,8 @@ use Rattle.cstn_headline.specs.Headline.{Call}
 use Rattle.cstn_top.specs.Told.{IsTold}
 use Rattle.cstn_headline.specs.Told.{IsToldOf}
 use Rattle.cstn_headline.proofs.Standing.{YesAccepted, NoAccepted}
-use Rattle.cstn_top.proofs.Endings.{Answered, request_tells, complete_at}
-use Rattle.cstn_headline.proofs.Calls.{evidence_at, carried_at, left_at, ended_at}
+use Rattle.cstn_top.proofs.Endings.{Answered, request_tells}
+use Rattle.cstn_headline.proofs.Calls.{complete_at, evidence_at, carried_at, left_at, ended_at}
 use Rattle.cstn_headline.proofs.Dispatch.{proved}
 use Rattle.cstn_top.proofs.Dispatched.{IsRanged}
 use Rattle.cstn_top.specs.Dispatch.{command_of}

@@ -19,7 +19,8 @@ use Rattle.cstn_top.proofs.Trees.{Unfolds, unfolds, tree_decides, tree_proof}
 use Rattle.cstn_headline.proofs.Dispatched.{IsComplete, IsEvidence}
 use Rattle.cstn_top.specs.Accepted.{IsNoText}
 use Rattle.cstn_tree.specs.Unfolded.{observed}
-use Rattle.cstn_headline.proofs.Standing.{NoAccepted, IsOfDocument, Stands, StandsFor}
+use Rattle.cstn_headline.proofs.Standing.{NoAccepted, Stands, StandsFor}
+use Rattle.cstn_top.proofs.Documents.{IsOfDocument}
 use Rattle.cstn_headline.proofs.Proved.{IsProved}
 use Rattle.cstn_top.proofs.Meanings.{network_then, on_network}
 use Rattle.cstn_headline.proofs.Accepted.{plan_stands, network_shown}
