@@ -13,7 +13,7 @@ use Rattle.cstn_reply.specs.declared.status.Status.{Status}
 use Rattle.cstn_headline.proofs.Standing.{YesAccepted, NoAccepted}
 use Rattle.cstn_top.proofs.Endings.{Answered}
 use Rattle.cstn_top.proofs.Dispatched.{IsRanged}
-use Rattle.cstn_headline.proofs.Dispatched.{IsEvidence, WroteEvidence, IsCarriedOut, IsLeftUnfinished, IsEnded}
+use Rattle.cstn_headline.proofs.Dispatched.{IsEvidence, WroteEvidence, IsCarriedOut, IsLeftUnfinished, IsEnded, IsComplete}
 use Rattle.cstn_reply.specs.declared.status.Status.TheVariants.{Good as IsGoodStatus, Unfinished as IsUnfinishedStatus}
 use Rattle.cstn_headline.proofs.Dispatch.{proved}
 

@@ -67,7 +67,7 @@ pub asks_check : NumbersBack → (release : Release) (words : List (List ℕ)) (
     request_of release words ≡ Some (check (file_asked file) cap)
 asks_check back release words file cap (inl (same, usual)) =
     ap (request_of release) same ∙ ap (λ (c : ℕ). Some (check (file_asked file) c)) (sym usual)
-asks_check back release words file cap (inr (same, (some, few))) =
+asks_check back release words file cap (inr (same, some, few)) =
     ap (request_of release) same ∙ ap (capped_check file) (cap_within back cap some few)
 
 -- the file is the only one that they name
@@ -140,7 +140,7 @@ LoweredWell = (m : Labelled) → IsLabelled m → length (lowered m).constraints
 module _ (numbers : NumbersBack) (entries : EntriesBounded) (backs : DocumentsBack) (fits : DocumentsFit) (same : SameButIds) (well : LoweredWell) where
   module _ (m : Labelled) (names : List (List ℕ)) (is : IsNamedNetwork m names) (file : List ℕ) (short : length (canonical m names) ≤ most_document) where
     -- the document of the network, as it is asked for
-    of_network : Document
+    abbrev of_network : Document
     of_network = record {
       asked = file_asked file;
       bytes = canonical m names;

@@ -98,7 +98,7 @@ drawn_there : (one other : List Constraint) → map drawn one ≡ map drawn othe
 drawn_there one other same c there = map_from drawn other (drawn c) (subst (λ (ds : List DrawnConstraint). Contains ds (drawn c)) same (contains_map drawn one c there))
 
 module _ (m : Labelled) (names : List (List ℕ)) (same : AreSameButIds (labelled_of (parts m names)).base m.base) where
-  read : Labelled
+  abbrev read : Labelled
   read = labelled_of (parts m names)
 
   read_like : IsLike m read
