@@ -11,7 +11,7 @@ use Rattle.cstn_reply.specs.Written.{LiveState, is_output, is_file_fault, is_liv
 use Rattle.cstn_reply.specs.Statuses.{status_of}
 use Rattle.cstn_reply.specs.declared.status.Status.{Status}
 use Rattle.cstn_headline.proofs.Standing.{YesAccepted, NoAccepted}
-use Rattle.cstn_top.proofs.Endings.{Answered}
+use Rattle.cstn_top.proofs.Endings.{Answered, EndsAs, end_status}
 use Rattle.cstn_top.proofs.Dispatched.{IsRanged}
 use Rattle.cstn_headline.proofs.Dispatched.{IsEvidence, WroteEvidence, IsCarriedOut, IsLeftUnfinished, IsEnded, IsComplete}
 use Rattle.cstn_reply.specs.declared.status.Status.TheVariants.{Good as IsGoodStatus, Unfinished as IsUnfinishedStatus}

@@ -74,7 +74,7 @@ asks_check back release words file cap (inr (same, some, few)) =
 pub may_ask_it : NumbersBack → (release : Release) (words : List (List ℕ)) (file : List ℕ) (cap : ℕ) (may : List ℕ → Bool) → AskCheck words file cap → IsTrue (may file) →
     IsTrue (list_all may (names_of (request_of release words)))
 may_ask_it back release words file cap may asks is =
-    subst (λ (r : Option Request). IsTrue (list_all may (names_of r))) (sym (asks_check back release words file cap asks)) (rw (true_is (may file) is) tt)
+    subst (λ (r : Option Request). IsTrue (list_all may (names_of r))) (sym (asks_check back release words file cap asks)) (rw (true_is (may file) is) refl)
   where
     true_is : (b : Bool) → IsTrue b → b ≡ true
     true_is b holds = cc

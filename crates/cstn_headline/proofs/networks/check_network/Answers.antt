@@ -10,7 +10,9 @@ run-requires g c = record {
 }
 
 pub returns : goal.returns
-returns g c =
-    told_decided c.numbers_have_one_text.ensures.back c.growth_is_bounded.ensures.load c.documents_are_read_back.ensures.back c.documents_are_read_back.ensures.fit
-    c.documents_are_read_back.ensures.same_but_ids c.lowered_is_well_formed.ensures.well_formed c.args.release (map string_bytes c.args.words.now)
-    (g.F.Shelf.files c.args.shelf.now) (view g.S.Source.left g.S.Source.faults) _ _ _ _ _ c.run.ensures.told
+returns g c = record {
+  decided =
+      told_decided c.numbers_have_one_text.ensures.back c.growth_is_bounded.ensures.load c.documents_are_read_back.ensures.back c.documents_are_read_back.ensures.fit
+      c.documents_are_read_back.ensures.same_but_ids c.lowered_is_well_formed.ensures.well_formed c.args.release (map string_bytes c.args.words.now)
+      (g.F.Shelf.files c.args.shelf.now) (view g.S.Source.left g.S.Source.faults) _ _ _ _ _ c.run.ensures.told;
+}
