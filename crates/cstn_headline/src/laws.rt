@@ -114,7 +114,8 @@ pub fn followed_refutations_pass()
     documents_are_read_back();
 }
 
-/// `check` of the document that `rest` answers says yes only where some table continues what has happened, and no only where none does. What nothing observes has a reaction of 1 tick, as in each document.
+/// `check` of the document that `rest` answers says yes only where some table continues what has happened, and no only where none
+/// does. What nothing observes has a reaction of 1 tick, as in each document.
 pub fn followed_rests_decide()
     ensures yes { (cap checks : ℕ) (names : List (List ℕ)) (m : Labelled) (lines : List (List ℕ)) (s u : Following) (bytes live : List ℕ) (asked : Asked)
         (said : Said) → IsLabelled m → length (lowered m).constraints ≤ most_constraints → AreNamesOf m.base names
