@@ -13,6 +13,7 @@ TOP = os.path.dirname(os.path.dirname(os.path.realpath(__file__)))
 PYTHON = "/usr/bin/python3"
 PATIENCE = 20.0
 HIGHEST = 2400
+MEMORY = "/dev/shm"  # Each fact is synced: a disk that others keep busy would make each of them wait.
 CHROMIUM, DRIVER = "/usr/bin/chromium", "/usr/bin/chromedriver"
 ARGUMENTS = ("--headless=new", "--no-sandbox", "--disable-gpu", "--disable-dev-shm-usage", "--hide-scrollbars",
              "--no-first-run", "--disable-background-networking", "--disable-component-update", "--lang=en")
@@ -56,7 +57,7 @@ class Served:
     """A board over documents, with its journals in a folder that goes with it."""
 
     def __init__(self, documents, *words):
-        self.folder = tempfile.TemporaryDirectory()
+        self.folder = tempfile.TemporaryDirectory(dir=MEMORY if os.access(MEMORY, os.W_OK) else None)
         self.documents, self.words, self.process = list(documents), list(words), None
         with socket.socket() as free:
             free.bind(("127.0.0.1", 0))

@@ -63,6 +63,15 @@ class Night:
         browser.click("a limit", "[data-key='add']")
         browser.says("the limit", "#history", "put in")
 
+    def way_out(self):
+        """The button that is pressed after a "no": what was put in is known, so what the document says gives way."""
+        page = self.page()
+        known = {it["id"] for it in page["limits"] if it["state"] == "added"}
+        ways = [it for it in page["blame"]["limits"] if it["id"] not in known]
+        gives = [f"give-{it['id']}" for it in ways if it["needed"] is not None]
+        later = ["give-deadline"] if page["blame"]["deadline"] else []
+        return [*gives, *later, *(f"remove-{it['id']}" for it in ways)][0]
+
     def decide(self, what, *, wanted):
         """After a "no" limits give way as far as the board says, one after another, until it fits again."""
         before = self.decided
@@ -72,8 +81,7 @@ class Night:
                 break
             self.browser.wait("the page of this version", f"#verdict[data-version='{brief['version']}']")
             self.browser.wait("what is to blame", "#no [data-blamed], #no [data-act='give-deadline']")
-            kinds = [it for it in ("give", "give-deadline", "remove") if self.browser.all(f"#no [data-act='{it}']")]
-            self.browser.click(f"a decision, {what}", f"#no [data-act='{kinds[0]}']")
+            self.browser.click(f"a decision, {what}", f"#no [data-key='{self.way_out()}']")
             self.decided += 1
             until("the decision", lambda: self.next()["version"] > brief["version"])
         verdict(self.browser, "yes")

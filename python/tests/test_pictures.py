@@ -16,7 +16,8 @@ from cstn.program import find
 EXAMPLES = Path(__file__).resolve().parents[2] / "examples"
 SVG = "{http://www.w3.org/2000/svg}"
 HAS_GRAPHVIZ = shutil.which("dot") is not None
-PATHWAY, EMERGENCY = str(EXAMPLES / "clinical-pathway.graphml"), str(EXAMPLES / "emergency-department.graphml")
+PATHWAY, EMERGENCY, NIGHT = (str(EXAMPLES / f"{it}.graphml") for it in (
+    "clinical-pathway", "emergency-department", "night"))
 
 
 def night(letters: int, steps: int) -> str:
@@ -79,12 +80,26 @@ class Pictures(unittest.TestCase):
         return text
 
     def test_cases(self) -> None:
-        for words in ([PATHWAY], [EMERGENCY, "--start", "22:00"], [EMERGENCY, "--case", "latest"]):
-            self.check(["cases", *words], ["Antibiotic"] if words == [PATHWAY] else ["HandOver", "Leave"])
+        self.check(["cases", PATHWAY], ["Sample", "Antibiotic", "65, until 90"])
+        self.check(["cases", EMERGENCY, "--start", "22:00"], ["HandOver", "Leave"])
+        tasks = ["--tasks", str(EXAMPLES / "night.tasks")]
+        self.check(["cases", NIGHT, "--case", "latest", "--start", "22:00", *tasks], ["Asking the maker", "ToolCheck"])
+
+    def test_sessions(self) -> None:
+        with tempfile.NamedTemporaryFile("w", encoding="utf-8") as file:
+            file.write("did 5 Sample\nsaw 40 i true\nnow 100\n")
+            file.flush()
+            self.check(["now", PATHWAY, file.name], ["now 100", "Antibiotic", "100, until 230"])
+            file.seek(0)
+            file.truncate()
+            file.write("did 14 Docked LogBegin\ndid 18 PowerOn CabinBegin\ndid 26 Safe WheelInsp\nsaw 31 w true\n")
+            file.flush()
+            self.check(["now", NIGHT, file.name, "--start", "22:00"], ["now 22:31", "WheelInsp", "22:26"])
 
     @unittest.skipUnless(HAS_GRAPHVIZ, "Graphviz is not here")
     def test_networks(self) -> None:
         self.check(["network", PATHWAY], ["Sample", "Antibiotic", "65 to 90", "i true", "by 360"])
+        self.check(["network", NIGHT], ["Docked", "LeakTest", "tells l 20 ticks later", "15 to 90"])
         self.check(["network", EMERGENCY, "--start", "08:00"], ["Troponin", "tells t 50 min later", "by 12:00"])
         self.assertIn("120 or more", self.check(["network", PATHWAY, "--deadline", "100"], ["Review"]))
 

@@ -84,7 +84,7 @@ function rows(data) {
 function place(data, now, count) {
   const room = document.documentElement.clientWidth;
   const names = room < 600 ? 110 : 180;
-  const width = Math.max(room < 600 ? 400 : 460, Math.min(room < 1224 ? room - 70 : room * 0.56, 980) - names);
+  const width = Math.max(room < 600 ? 400 : 460, Math.min(room < 1224 ? room - 70 : room * 0.535, 980) - names);
   const { first, last } = span(data, now);
   const x = (at) => 26 + ((Math.min(at, last) - first) / (last - first)) * (width - 60);
   return { names, width, height: HEAD + count * ROW, first, last, x };

@@ -141,7 +141,8 @@ function files(data) {
 export function drawPlan(data, state) {
   const page = { ...state, data };
   if (!data.begun) return notBegun(data, page);
+  const todo = [drawNo(data, page), next(data, page), byHand(data, page), others(data, page)].filter(Boolean);
   return [verdict(data),
-    h("div", { class: "column" }, drawNo(data, page), next(data, page), byHand(data, page), others(data, page)),
-    h("div", { class: "column" }, drawGantt(data, page), drawHistory(data, page), drawLimits(data, page), files(data))];
+    todo.length > 0 && h("div", { class: "column" }, todo),
+    h("div", { class: todo.length ? "column" : "column wide" }, drawGantt(data, page), drawHistory(data, page), drawLimits(data, page), files(data))];
 }
