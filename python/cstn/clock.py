@@ -18,22 +18,24 @@ class Clock:
     def __post_init__(self) -> None:
         if self.tick <= timedelta(0):
             raise ValueError("a tick lasts longer than nothing")
-        aware(self.origin)
+        in_utc(self.origin)
 
     def tick_of(self, when: datetime) -> int:
         """The tick that has begun at a moment, below 0 before the origin."""
-        return (aware(when) - self.origin) // self.tick
+        return (in_utc(when) - in_utc(self.origin)) // self.tick
 
     def time_of(self, tick: int) -> datetime:
-        """The moment at which a tick begins."""
-        return self.origin + tick * self.tick
+        """The moment at which a tick begins, in the time zone of the origin."""
+        return (in_utc(self.origin) + tick * self.tick).astimezone(self.origin.tzinfo)
 
     def now(self) -> int:
         """The tick that it is by the system's clock."""
         return self.tick_of(datetime.now(timezone.utc))
 
 
-def aware(when: datetime) -> datetime:
-    if when.tzinfo is None:
+def in_utc(when: datetime) -> datetime:
+    """The same moment in UTC. Between two of one time zone Python counts the hours that its clocks show, and so one
+    too few or too many where these are put forward or back."""
+    if when.utcoffset() is None:
         raise TypeError("a datetime without a time zone is no moment")
-    return when
+    return when.astimezone(timezone.utc)

@@ -307,6 +307,8 @@ class Follower:
     def begin_with(self, head: Head) -> None:
         if head.plan != self.plan.digest:
             raise Changed("the journal is of another document or another deadline")
+        if head.clock is not None and self.clock not in (None, head.clock):
+            raise Changed(f"the journal is of another clock, whose tick 0 was at {head.origin}")
         self.head = head
         self.clock = self.clock or head.clock
 

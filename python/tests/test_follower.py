@@ -280,6 +280,16 @@ class Journals(unittest.TestCase):
         with Follower(Plan.read(CLINIC.document.replace(b"<!-- Nobody", b"<!-- No one")), journal) as same:
             self.assertEqual(same.next(), Next(65, (), ("i",)))
 
+    def test_of_another_clock(self) -> None:
+        journal, origin = MemoryJournal(), datetime(2026, 11, 30, 22, tzinfo=timezone.utc)
+        with Follower(CLINIC, journal, clock=Clock(origin), ahead=None) as follower:
+            follower.did("Sample", 5)
+        elsewhere = Clock(origin.astimezone(timezone(timedelta(hours=2))))
+        with Follower(CLINIC, journal, clock=elsewhere) as same:
+            self.assertEqual(same.next(), Next(65, (), ("i",)))
+        for other in (Clock(origin + timedelta(minutes=1)), Clock(origin, timedelta(seconds=30))):
+            self.assertRaises(Changed, Follower(CLINIC, journal, clock=other).next)
+
     def test_that_are_none(self) -> None:
         for entries in (["garbage"], ["{}"], ["[]"], ['{"head":{"lines":"follow 2"}}'], ['{"tell":{},"answer":""}'],
                         ['{"tell":{"is":"did","step":"Sample","at":5,"key":"s"},"answer":"yes 1","when":""}']):

@@ -1,6 +1,6 @@
 """Names, labels, lines and answers."""
 import unittest
-from datetime import datetime, timedelta, timezone
+from datetime import datetime, timedelta, timezone, tzinfo
 
 from cstn.answers import Blame, Can, Done, Edited, Next, Refusal, Until, Verdict, parse
 from cstn.clock import Clock
@@ -39,6 +39,20 @@ EVENTS: list[tuple[Event, str]] = [
     (Change(3, -90, "k"), "change 3 -90"),
     (Deadline(90), "deadline 90"),
 ]
+
+
+class PutBack(tzinfo):
+    """A time zone whose clocks are put back from 3 to 2 on 25 October 2026."""
+
+    def utcoffset(self, when: datetime | None) -> timedelta:
+        return timedelta(hours=1) + self.dst(when)
+
+    def dst(self, when: datetime | None) -> timedelta:
+        is_summer = when is not None and when.replace(tzinfo=None) < datetime(2026, 10, 25, 3)
+        return timedelta(hours=1 if is_summer else 0)
+
+    def tzname(self, when: datetime | None) -> str:
+        return "there"
 
 
 class Lines(unittest.TestCase):
@@ -85,3 +99,9 @@ class Lines(unittest.TestCase):
         self.assertRaises(TypeError, clock.tick_of, datetime(2026, 11, 30))
         self.assertRaises(TypeError, Clock, datetime(2026, 11, 30))
         self.assertRaises(ValueError, Clock, clock.origin, timedelta(0))
+
+    def test_a_night_in_which_clocks_are_put_back(self) -> None:
+        clock = Clock(datetime(2026, 10, 24, 22, tzinfo=PutBack()))
+        morning = datetime(2026, 10, 25, 6, tzinfo=clock.origin.tzinfo)
+        self.assertEqual((clock.tick_of(morning), clock.tick_of(morning.astimezone(timezone.utc))), (540, 540))
+        self.assertEqual(clock.time_of(540).isoformat(), "2026-10-25T06:00:00+01:00")
