@@ -26,7 +26,7 @@ class SqliteStore:
     """The journals and documents of a file, which is made where there is none. Locks stand in a folder beside it.
 
     For any number of threads and of processes on one machine; the folder is not to be one of a network. Raises
-    `NotKept` where it cannot be opened.
+    `NotKept` where it cannot be opened, `Busy`.
     """
 
     def __init__(self, path: str | Path, *, seconds: float = SECONDS) -> None:
@@ -35,12 +35,22 @@ class SqliteStore:
         self.lock = threading.RLock()
         try:
             os.makedirs(self.locks, exist_ok=True)
-            self.connection = sqlite3.connect(self.path, timeout=seconds, isolation_level=None, check_same_thread=False)
-            for pragma in ("journal_mode=wal", "synchronous=full"):
-                self.connection.execute("pragma " + pragma).fetchall()
-            self.connection.executescript(TABLES)
+            with locked(os.path.join(self.locks, "opening"), seconds, self.path):
+                self.connection = self.opened()
         except (OSError, sqlite3.Error) as error:
             raise NotKept(f"{self.path} cannot be opened: {error}") from error
+
+    def opened(self) -> sqlite3.Connection:
+        """A connection, with the tables made. One at a time: sqlite does not wait while a file turns to writing ahead."""
+        connection = sqlite3.connect(self.path, timeout=self.seconds, isolation_level=None, check_same_thread=False)
+        try:
+            for pragma in ("journal_mode=wal", "synchronous=full"):
+                connection.execute("pragma " + pragma).fetchall()
+            connection.executescript(TABLES)
+        except BaseException:
+            connection.close()
+            raise
+        return connection
 
     def journal(self, plan: str) -> SqliteJournal:
         return SqliteJournal(self, plan)
@@ -93,20 +103,30 @@ class SqliteJournal:
     @contextmanager
     def held(self) -> Iterator[None]:
         """Holds the plan against other threads and processes. Raises `Busy` after the store's seconds, `NotKept`."""
-        try:
-            file = open(self.lock_path, "ab")
-        except OSError as error:
-            raise NotKept(f"the lock cannot be had: {error}") from error
-        with file:
-            self.lock(file.fileno())
+        with locked(self.lock_path, self.store.seconds, repr(self.plan)):
             yield
 
-    def lock(self, file: int) -> None:
-        until = time.monotonic() + self.store.seconds
-        while True:
-            try:
-                return fcntl.flock(file, fcntl.LOCK_EX | fcntl.LOCK_NB)
-            except BlockingIOError:
-                if time.monotonic() > until:
-                    raise Busy(f"another client holds {self.plan!r}") from None
-                time.sleep(0.005)
+
+@contextmanager
+def locked(path: str, seconds: float, what: str) -> Iterator[None]:
+    """Holds the lock of a file, which who dies lets go of. Raises `Busy`, `NotKept`."""
+    try:
+        file = open(path, "ab")
+    except OSError as error:
+        raise NotKept(f"the lock cannot be had: {error}") from error
+    with file:
+        until = time.monotonic() + seconds
+        while not is_locked(file.fileno()):
+            if time.monotonic() > until:
+                raise Busy(f"another client holds {what}")
+            time.sleep(0.005)
+        yield
+
+
+def is_locked(file: int) -> bool:
+    """Whether this client has the lock now."""
+    try:
+        fcntl.flock(file, fcntl.LOCK_EX | fcntl.LOCK_NB)
+        return True
+    except BlockingIOError:
+        return False

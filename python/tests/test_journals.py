@@ -73,6 +73,22 @@ class Sqlite(Folder):
                 self.assertEqual({it.event for it in follower.history()}, set(patient.truth))
                 self.assertEqual(follower.outlook().waiting, ())
 
+    def test_many_open_a_new_store_at_once(self) -> None:
+        path = os.path.join(self.folder, "new.db")
+        code = ("import sys; from cstn import SqliteStore\n"
+                "print('ready', flush=True); sys.stdin.read(); print(SqliteStore(sys.argv[1]).plans())")
+        clients = [subprocess.Popen([sys.executable, "-B", "-c", code, path], cwd=TOP, stdin=subprocess.PIPE, text=True,
+                                    stdout=subprocess.PIPE, stderr=subprocess.STDOUT) for _ in range(6)]
+        for client in clients:
+            self.addCleanup(client.kill)
+            assert client.stdout is not None
+            self.assertEqual(client.stdout.readline(), "ready\n")
+        for client in clients:
+            assert client.stdin is not None
+            client.stdin.close()
+            client.stdin = None
+        self.assertEqual([client.communicate(timeout=120)[0] for client in clients], ["[]\n"] * len(clients))
+
     def test_a_client_sees_what_another_one_told(self) -> None:
         store = self.store()
         one, two = (Follower(CLINIC, store.journal("a")) for _ in range(2))
