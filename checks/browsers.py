@@ -11,7 +11,8 @@ import urllib.request
 
 TOP = os.path.dirname(os.path.dirname(os.path.realpath(__file__)))
 PYTHON = "/usr/bin/python3"
-PATIENCE = 20.0
+PATIENCE = 90.0
+SETTLING = 10.0
 HIGHEST = 2400
 MEMORY = "/dev/shm"  # Each fact is synced: a disk that others keep busy would make each of them wait.
 CHROMIUM, DRIVER = "/usr/bin/chromium", "/usr/bin/chromedriver"
@@ -62,7 +63,11 @@ class Served:
         with socket.socket() as free:
             free.bind(("127.0.0.1", 0))
             self.port = free.getsockname()[1]
-        self.start()
+        try:
+            self.start()
+        except BaseException:
+            self.__exit__()
+            raise
 
     def __enter__(self):
         return self
@@ -89,8 +94,9 @@ class Served:
         return first.strip() if first.startswith("http://") and first.endswith("\n") else None
 
     def kill(self):
-        self.process.kill()
-        self.process.wait()
+        if self.process is not None:
+            self.process.kill()
+            self.process.wait()
 
     def ask(self, path, body=None, headers=(), url=None):
         """The status and the text of a request, as a program sends it."""
@@ -185,6 +191,13 @@ class Browser:
 
     def run(self, script, *arguments):
         return self.driver.execute_script(script, *arguments)
+
+    def found(self, script):
+        """What a script goes on finding that should not be, once the page was drawn anew."""
+        end = time.monotonic() + SETTLING
+        while (found := self.run(script)) and time.monotonic() < end:
+            time.sleep(0.1)
+        return found
 
     def click(self, what, selector):
         """Clicks an element once it can be clicked; one that was drawn anew meanwhile is looked for again."""

@@ -63,10 +63,10 @@ def look(tally, browser, name):
         for scheme in schemes:
             browser.colours(scheme)
             where = f"{name}, {width} pixels, {scheme}"
-            tally.check(f"{where}: nothing is outside", browser.run(WIDER), [])
-            tally.check(f"{where}: text can be read", browser.run(FAINT), [])
+            tally.check(f"{where}: nothing is outside", browser.found(WIDER), [])
+            tally.check(f"{where}: text can be read", browser.found(FAINT), [])
         browser.picture(f"{name}-{width}-{scheme}")
-        tally.check(f"{name}, {width} pixels: what is pressed is large", browser.run(SMALL), [])
-        tally.check(f"{name}, {width} pixels: words of the picture do not overlap", browser.run(OVERLAPPING), [])
+        tally.check(f"{name}, {width} pixels: what is pressed is large", browser.found(SMALL), [])
+        tally.check(f"{name}, {width} pixels: words of the picture do not overlap", browser.found(OVERLAPPING), [])
     browser.size(1600, 1000)
     browser.colours("light")

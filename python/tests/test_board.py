@@ -102,7 +102,7 @@ class Boards(unittest.TestCase):
         readers = [news.listen() for _ in range(MOST)]
         self.assertIsNone(news.listen())
         news.say("plan")
-        self.assertTrue(readers[0] is not None and readers[0].get(timeout=1) == "plan")
+        self.assertTrue(readers[0] is not None and readers[0].get(timeout=60) == "plan")
         assert readers[0] is not None
         stream = news.stream(readers[0], lambda: False)
         self.assertEqual(next(stream), b"retry: 1000\n\n")
@@ -140,7 +140,7 @@ class Boards(unittest.TestCase):
         self.assertRaises(Moved, board.correct, plan, seen | {"instead": None})
 
     def test_clocks(self) -> None:
-        begun = datetime.now(timezone.utc) - timedelta(seconds=630)
+        begun = datetime.now(timezone.utc) - timedelta(seconds=601)
         board = self.board(Timing(60, begun, by_hand=False))
         plan = next(iter(board.titles()))
         page = board.page(plan, {})

@@ -1,7 +1,6 @@
 """A process that hangs, ends or answers what is no answer; and followers over such processes."""
 import os
 import signal
-import time
 import unittest
 from dataclasses import replace
 
@@ -66,12 +65,11 @@ class Replaced(Folder):
         self.assertEqual(follower.next(), Next(70, ("Antibiotic",)))
 
     def test_a_child_that_hangs(self) -> None:
-        follower = self.follower(seconds=2)
+        follower = self.follower(seconds=60)
         assert follower.session is not None
+        follower.session.child.seconds = 0.5
         os.kill(follower.session.child.process.pid, signal.SIGSTOP)
-        begin = time.monotonic()
         self.assertEqual(follower.saw("i", True, 45).version, 3)
-        self.assertLess(time.monotonic() - begin, 8)
         self.assertEqual((follower.restarts, follower.next()), (1, Next(70, ("Antibiotic",))))
 
     def test_a_program_that_always_hangs(self) -> None:

@@ -20,7 +20,7 @@ EVENTS: list[Event] = [Did("Antibiotic", 91, "a"), Did("Sample", 5, "s"), Add("Z
 
 def worker(*words: str, events: list[Event]) -> subprocess.CompletedProcess[str]:
     return subprocess.run([sys.executable, "-B", "-m", "tests.worker", *words], cwd=TOP, input=as_json(events),
-                          text=True, capture_output=True, timeout=60, check=False)
+                          text=True, capture_output=True, timeout=300, check=False)
 
 
 class Sqlite(Folder):
@@ -87,7 +87,7 @@ class Sqlite(Folder):
             assert client.stdin is not None
             client.stdin.close()
             client.stdin = None
-        self.assertEqual([client.communicate(timeout=120)[0] for client in clients], ["[]\n"] * len(clients))
+        self.assertEqual([client.communicate(timeout=300)[0] for client in clients], ["[]\n"] * len(clients))
 
     def test_a_client_sees_what_another_one_told(self) -> None:
         store = self.store()

@@ -21,6 +21,8 @@ except ImportError:
 
 FOLDERS = [path.parent for path in sorted(Path("/usr/lib/postgresql").glob("*/bin/initdb"))]
 """Where Debian's servers are, one for each version."""
+PATIENCE = 300
+"""How many seconds a wait may take on a machine that has other work."""
 
 
 def unprivileged() -> str | None:
@@ -48,7 +50,7 @@ class Server:
 
     def call(self, name: str, *words: str) -> None:
         done = subprocess.run([str(FOLDERS[-1] / name), *words], user=self.user, cwd=self.folder, text=True,
-                              capture_output=True, timeout=60, check=False)
+                              capture_output=True, timeout=PATIENCE, check=False)
         if done.returncode:
             raise RuntimeError(f"{name}: {done.stdout}{done.stderr}")
 
@@ -57,7 +59,7 @@ class Server:
             self.process = subprocess.Popen(
                 [str(FOLDERS[-1] / "postgres"), "-D", self.data, "-k", self.folder, "-c", "listen_addresses=", "-c",
                  "fsync=off", "-c", "shared_buffers=16MB"], user=self.user, cwd=self.folder, stdout=log, stderr=log)
-        until = time.monotonic() + 30
+        until = time.monotonic() + PATIENCE
         while subprocess.run([str(FOLDERS[-1] / "pg_isready"), "-q", "-h", self.folder, "-U", "cstn"],
                              check=False).returncode:
             if time.monotonic() > until:
@@ -71,12 +73,20 @@ class Server:
     def stop(self, how: signal.Signals = signal.SIGINT) -> None:
         if self.process is not None:
             self.process.send_signal(how)
-            self.process.wait(30)
-            self.process = None
+            try:
+                self.process.wait(PATIENCE)
+            except subprocess.TimeoutExpired:
+                self.process.kill()
+                self.process.wait()
+                raise
+            finally:
+                self.process = None
 
     def close(self) -> None:
-        self.stop()
-        shutil.rmtree(self.folder)
+        try:
+            self.stop()
+        finally:
+            shutil.rmtree(self.folder)
 
 
 @unittest.skipUnless(PostgresStore is not None and FOLDERS, "needs python3-psycopg and postgresql")
@@ -127,7 +137,7 @@ class Postgres(unittest.TestCase):
             answered = [first.stdout.readline().strip() for _ in range(1 if name.startswith("early") else 6)]
             first.kill()
             answered += first.communicate()[0].split("\n")[:-1]
-            _, errors = second.communicate(timeout=60)
+            _, errors = second.communicate(timeout=PATIENCE)
             self.assertEqual((second.returncode, errors), (0, ""))
             with Follower(patient.plan, self.store().journal(name)) as follower:
                 self.assertLessEqual({key for key in answered if key and not key.startswith("refused")},
@@ -142,7 +152,7 @@ class Postgres(unittest.TestCase):
              self.server.conninfo], cwd=TOP, stdin=subprocess.PIPE, stdout=subprocess.PIPE)
         self.addCleanup(process.communicate)
         assert process.stdout is not None and process.stdout.readline() == b"held\n"
-        impatient = Follower(CLINIC, self.store(seconds=1).journal("held"))
+        impatient = Follower(CLINIC, self.store(seconds=4).journal("held"))
         self.addCleanup(impatient.close)
         self.assertRaises(Busy, impatient.did, "Sample", 5)
         process.kill()

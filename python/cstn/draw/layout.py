@@ -7,7 +7,7 @@ from typing import Any
 from ..explain.asking import Stopped
 
 INCH = 72
-SECONDS = 60
+SECONDS = 300
 
 
 @dataclass(frozen=True)
