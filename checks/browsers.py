@@ -98,10 +98,10 @@ class Served:
             self.process.kill()
             self.process.wait()
 
-    def ask(self, path, body=None, headers=(), url=None):
+    def ask(self, path, body=None, headers=(), url=None, method=None):
         """The status and the text of a request, as a program sends it."""
         sent = None if body is None else body if isinstance(body, bytes) else json.dumps(body).encode()
-        asked = urllib.request.Request((url or self.url) + path, sent, dict(headers))
+        asked = urllib.request.Request((url or self.url) + path, sent, dict(headers), method=method)
         try:
             with urllib.request.urlopen(asked, timeout=PATIENCE) as answer:
                 return answer.status, answer.read().decode(), answer.headers

@@ -98,6 +98,7 @@ def heard(tally, _):
             ("a browser that says so", 403, board.ask("api/plans", headers={"Sec-Fetch-Site": "cross-site"})),
             ("a fact without an origin", 403, board.ask(path, fact, {"Content-Type": "application/json"})),
             ("a fact of another site", 403, board.ask(path, fact, own | {"Origin": "null"})),
+            ("the head alone", 405, board.ask("api/events", method="HEAD")),
             ("a form", 403, board.ask(path, b"kind=did", own | {"Content-Type": "application/x-www-form-urlencoded"})),
             ("no JSON", 400, board.ask(path, b"{", own)), ("a list", 400, board.ask(path, b"[]", own)),
             ("deep JSON", 400, board.ask(path, b"[" * 9000, own)),

@@ -202,6 +202,7 @@ def keyboard(tally, browser):
         until("the focus after the dialog", lambda: focus(browser) == "Result i is late, or came at another time")
         press(browser, Keys, "It is now", "70", Keys.ENTER)
         browser.says("the clock", "#top .time", "70")
+        browser.says("how late the result is", "[data-letter='i']", "late by 10 ticks")
         press(browser, Keys, "i is false")
         browser.says("the result is told", "#history", "i is false")
         tally.check("the console by keys", browser.console(), [])

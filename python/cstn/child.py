@@ -79,6 +79,8 @@ class Child:
         data = line.encode() + b"\n"
         if b"\n" in data[:-1] or len(data) > LONGEST_LINE + 1:
             raise ValueError("no line can say this")
+        if not self.finalizer.alive:
+            raise Unavailable("the process was ended")
         try:
             os.write(self.into, data)
         except BrokenPipeError:

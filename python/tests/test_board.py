@@ -1,11 +1,14 @@
 """The board without a browser: who is heard, what is read, and what a page is given."""
+import importlib.util
 import tempfile
 import unittest
 from datetime import datetime, timedelta, timezone
 from pathlib import Path
 from typing import Any
+from unittest import mock
 
-from cstn import Add, Change, Deadline, Did, Event, Expect, Moved, Now, OutOfRange, Saw, SqliteStore
+from cstn import (Add, Change, Deadline, Did, Event, Expect, Follower, Moved, Now, OutOfRange, OutOfTime, Saw,
+                  SqliteStore)
 from cstn.board.guard import Asked, Guard
 from cstn.board.news import MOST, News
 from cstn.board.plans import Board, Document, Timing
@@ -14,6 +17,7 @@ from cstn.board.words import is_least, limit_parts, shown
 from cstn.plan import Limit
 from tests.support import CLINIC
 
+SERVED = all(importlib.util.find_spec(name) for name in ("flask", "waitress"))
 HOST = "127.0.0.1:8322"
 OWN = f"http://{HOST}"
 
@@ -22,6 +26,8 @@ HEARD = [
     ("a page that is opened", Asked(HOST, None, "none", False, False), True),
     ("a program that asks", Asked(HOST, None, None, False, False), True),
     ("a link to it", Asked(HOST, None, "cross-site", False, False, True), True),
+    ("its own page behind a server with TLS", Asked("ward.example", "https://ward.example", "same-origin", True, True),
+     True),
     ("a form of another site", Asked(HOST, None, "cross-site", True, True, True), False),
     ("another host", Asked("evil.example", OWN, None, False, False), False),
     ("a host with another port", Asked("127.0.0.1:1", None, None, False, False), False),
@@ -68,12 +74,12 @@ class Boards(unittest.TestCase):
     def board(self, timing: Timing = Timing()) -> Board:
         store = SqliteStore(Path(self.folder.name) / "journals")
         self.addCleanup(store.close)
-        board = Board(store, {CLINIC.digest: Document("ward", CLINIC)}, timing)
+        board = Board(store, {"ward": Document("ward", CLINIC)}, timing)
         self.addCleanup(board.close)
         return board
 
     def test_who_is_heard(self) -> None:
-        guard = Guard("token", frozenset({HOST}))
+        guard = Guard("token", frozenset({HOST, "ward.example"}))
         for name, asked, heard in HEARD:
             self.assertEqual(guard.why_not(asked) is None, heard, name)
         for token in ("", "tokem", "tokenn", "tökén"):
@@ -149,15 +155,46 @@ class Boards(unittest.TestCase):
         self.assertEqual(page["history"], [])
         self.assertRaises(OutOfRange, board.tell, plan, {"kind": "did", "step": 1, "at": 90, "key": "abcdefgh"})
 
+    def test_what_is_not_found_in_time_is_not_shown(self) -> None:
+        board = self.board()
+        plan = next(iter(board.titles()))
+        for at, event in enumerate(({"kind": "did", "step": 1, "at": 5}, {"kind": "await", "letter": "i", "at": 120})):
+            board.tell(plan, event | {"key": f"abcdefg{at}"})
+        too_long = {name: mock.Mock(side_effect=OutOfTime("too long")) for name in ("ways_out", "blame", "by", "late")}
+        with mock.patch.multiple(Follower, **too_long):
+            page = board.page(plan, {})
+        self.assertEqual((page["verdict"], page["blame"], page["next"], len(page["history"])), ("no", None, None, 2))
+
+    def test_a_clock_that_ran_on_for_weeks(self) -> None:
+        board = self.board(Timing(1, datetime.now(timezone.utc) - timedelta(days=20), by_hand=False))
+        page = board.page(next(iter(board.titles())), {})
+        self.assertEqual((page["now"], page["verdict"]), (1_000_000, "no"))
+
     def test_plans_are_found_again(self) -> None:
         board = self.board()
-        made = board.begin(CLINIC.digest, "bed 7")
+        made = board.begin("ward", "bed 7")
         board.tell(made, {"kind": "did", "step": 1, "at": 5, "key": "abcdefgh"})
         for title in ("bed 7", "", " ", "x" * 81, "a\nb"):
-            self.assertRaises(Wrong, board.begin, CLINIC.digest, title)
+            self.assertRaises(Wrong, board.begin, "ward", title)
         again = self.board()
         self.assertEqual(sorted(again.titles().values()), ["bed 7", "ward"])
         self.assertEqual(again.page(made, {})["steps"][1]["at"], 5)
+
+    @unittest.skipUnless(SERVED, "needs python3-flask and python3-waitress")
+    def test_how_it_is_started(self) -> None:
+        from cstn.board.__main__ import documents, hosts, token_of
+        folder = Path(self.folder.name)
+        token = token_of(folder)
+        self.assertEqual((token_of(folder), len(token), [it.name for it in folder.iterdir()]), (token, 32, ["token"]))
+        (folder / "token").write_text("")
+        self.assertRaises(ValueError, token_of, folder)
+        self.assertEqual(hosts("0.0.0.0", 8322, ["ward.example"]), {
+            "127.0.0.1:8322", "localhost:8322", "[::1]:8322", "ward.example:8322", "ward.example"})
+        files = [folder / "bed 1.graphml", folder / "bed 2.graphml"]
+        for file in files:
+            file.write_bytes(CLINIC.document)
+        self.assertEqual(list(documents(files, None)), ["bed 1", "bed 2"])
+        self.assertRaises(ValueError, documents, [files[0], files[0]], None)
 
 
 if __name__ == "__main__":

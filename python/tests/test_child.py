@@ -47,6 +47,11 @@ class Children(Folder):
         self.assertRaises(ValueError, child.ask, "did 5 " + "A" * 4096)
         self.assertEqual(child.ask("next"), Next(0, ("Sample",)))
 
+    def test_one_that_was_ended_is_not_asked(self) -> None:
+        child = Child(CLINIC.document)
+        child.close()
+        self.assertRaises(Unavailable, child.ask, "next")
+
 
 class Replaced(Folder):
     def follower(self, **words: float) -> Follower:

@@ -8,10 +8,12 @@ Each FILE is a document. Its address, with a token in it, is printed first.
 from __future__ import annotations
 
 import argparse
+import contextlib
 import os
 import secrets
 import signal
 import sys
+import tempfile
 from datetime import datetime, timedelta
 from pathlib import Path
 from types import FrameType
@@ -33,6 +35,8 @@ from cstn.board.web import make_app
 
 THREADS = MOST + 8
 PORT = 8322
+TOKEN = 32
+"""How many signs a token has at least."""
 
 
 def arguments() -> argparse.Namespace:
@@ -74,17 +78,17 @@ def nearest(clock: str, now: datetime) -> datetime:
 
 
 def documents(files: list[Path], deadline: int | None) -> dict[str, Document]:
-    """The documents by their digests. Raises `BadDocument`, `OSError`, `ValueError`."""
+    """The documents by their titles. Raises `BadDocument`, `OSError`, `ValueError`."""
     found: dict[str, Document] = {}
     for file in files:
         title = "".join(it if it.isprintable() else "_" for it in file.stem)[:MOST_TITLE]
-        if title in (it.title for it in found.values()):
+        if title in found:
             raise ValueError(f"two documents are called {title}")
         try:
             plan = Plan.load(file, deadline=deadline)
         except BadDocument as error:
             raise ValueError(f"{file}: {error}") from error
-        found[plan.digest] = Document(title, plan)
+        found[title] = Document(title, plan)
     return found
 
 
@@ -92,16 +96,24 @@ def token_of(folder: Path) -> str:
     """The token of the folder, which stays, so that a page that is open goes on after a restart."""
     file = folder / "token"
     if not file.exists():
-        with open(os.open(file, os.O_WRONLY | os.O_CREAT | os.O_EXCL, 0o600), "w", encoding="ascii") as made:
+        with tempfile.NamedTemporaryFile("w", dir=folder, encoding="ascii") as made:
             made.write(secrets.token_urlsafe(24))
-    return file.read_text(encoding="ascii").strip()
+            made.flush()
+            os.fsync(made.fileno())
+            with contextlib.suppress(FileExistsError):
+                os.link(made.name, file)
+    token = file.read_text(encoding="ascii").strip()
+    if len(token) < TOKEN:
+        raise ValueError(f"{file} has no token of {TOKEN} signs: remove it, and another one is made")
+    return token
 
 
 def hosts(address: str, port: int, names: list[str]) -> frozenset[str]:
-    """The names under which the board may be asked for. Of a board that listens everywhere those of `--name` count."""
+    """The names under which the board may be asked for: those of `--name` also as they stand, for a server before it. Of a
+    board that listens everywhere these alone count."""
     known = {"127.0.0.1", "localhost", "[::1]", f"[{address}]" if ":" in address else address, *names}
     known -= {"0.0.0.0", "[::]"}
-    return frozenset(f"{it}:{port}" for it in known) | (frozenset(known) if port == 80 else frozenset())
+    return frozenset(f"{it}:{port}" for it in known) | frozenset(known if port == 80 else names)
 
 
 def serve(told: argparse.Namespace) -> None:

@@ -53,7 +53,7 @@ class Guard:
             return "this board has another address"
         if asked.origin is None and asked.writes:
             return "what is told has to come from the board's own page"
-        if asked.origin is not None and asked.origin != f"http://{asked.host}":
+        if asked.origin is not None and asked.origin not in (f"http://{asked.host}", f"https://{asked.host}"):
             return "this page is of another site"
         opens = asked.site == "none" or asked.navigates
         if asked.site not in (None, "same-origin") and (asked.writes or not opens):

@@ -16,6 +16,7 @@ from cstn.follower import Follower, Receipt
 from cstn.host import Host
 from cstn.journal import Store
 from cstn.plan import Plan
+from cstn.refusals import MOST
 
 from cstn.board.news import News
 from cstn.board.reading import Wrong, event_of, key_of
@@ -91,7 +92,7 @@ class Board:
 
     def begin(self, document: str, title: str) -> str:
         """Begins a plan of a document under a title. Raises `Wrong`."""
-        found = next((it for key, it in self.documents.items() if document in (key, it.title)), None)
+        found = self.documents.get(document)
         if found is None:
             raise Wrong("no such document")
         if not title.strip() or len(title) > MOST_TITLE or not title.isprintable():
@@ -148,10 +149,10 @@ class Board:
     # ---- what is shown ----
 
     def now(self, follower: Follower) -> int | None:
-        """The tick that it is by the wall clock, at least 0; None where time passes by hand."""
+        """The tick that it is by the wall clock, of those that a plan may have; None where time passes by hand."""
         if self.timing.by_hand or follower.clock is None:
             return None
-        return max(0, follower.clock.now())
+        return min(max(0, follower.clock.now()), MOST)
 
     def clock(self, follower: Follower, now: int) -> Data:
         clock, running = follower.clock, self.now(follower) is not None
@@ -208,8 +209,7 @@ class Board:
 
     def journal(self, plan: str) -> str:
         """The lines that were taken, in an order in which `cstn follow` takes them."""
-        with self.follower(plan).copied() as (_, state):
-            return "".join(line + "\n" for line in state.lines)
+        return "".join(line + "\n" for line in self.follower(plan).lines())
 
     def close(self) -> None:
         self.news.stop()

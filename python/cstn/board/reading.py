@@ -7,10 +7,10 @@ from typing import Any
 
 from cstn.events import Add, Change, Deadline, Did, Event, Expect, Now, Saw
 from cstn.plan import Limit, Plan
+from cstn.refusals import MOST
 
 from cstn.board.words import is_least
 
-MOST = 1_000_000
 MOST_VALUE = 1_000_000_000
 KEY = re.compile(r"[0-9A-Za-z_-]{8,64}")
 

@@ -2,13 +2,14 @@
 from __future__ import annotations
 
 import time
-from collections.abc import Mapping, Sequence
+from collections.abc import Callable, Mapping, Sequence
 from dataclasses import dataclass
-from typing import Any
+from functools import partial
+from typing import Any, TypeVar
 
 from cstn.answers import Can, Done, Next
 from cstn.child import Child
-from cstn.errors import CstnError
+from cstn.errors import CstnError, OutOfTime, Unavailable
 from cstn.events import Change, Did, Event, Expect, Now, Saw
 from cstn.follower import Follower, Trial
 from cstn.outlook import Late, Outlook, WayOut
@@ -19,6 +20,7 @@ from cstn.board.ahead import Ahead, overdue, play
 from cstn.board.words import Part, is_least, limit_parts, named, number_of, shown, told
 
 Data = dict[str, Any]
+Found = TypeVar("Found")
 SECONDS = 1.5
 """How long a look may take to find until when steps can wait: what it does not come to stands without."""
 ROUNDS = 20
@@ -35,8 +37,9 @@ class Look:
     ahead: Ahead
     latest: Mapping[str, int]
     due: Mapping[str, int]
-    lates: Mapping[str, Late]
-    ways: Sequence[WayOut]
+    lates: Mapping[str, Late | None]
+    ways: Sequence[WayOut] | None
+    """None where they could not be found in time."""
     meanwhile: Next | None
     let_go: Sequence[int]
 
@@ -52,12 +55,20 @@ def look(follower: Follower, now: int | None, chosen: Mapping[str, bool], *, who
         if not whole:
             return Look(follower.plan, outlook, tellings, Ahead(), {}, due, {}, (), None, [])
         is_no = outlook.verdict.can is Can.NO
-        ways = trial.ways_out() if is_no else ()
-        lates = {} if is_no else {it.letter: trial.late(it.letter) for it in outlook.awaited}
-        meanwhile, let_go = let_all_go(trial) if is_no else (None, [])
+        ways = tried(trial.ways_out) if is_no else ()
+        lates = {} if is_no else {it.letter: tried(partial(trial.late, it.letter)) for it in outlook.awaited}
+        meanwhile, let_go = (tried(partial(let_all_go, trial)) if is_no else None) or (None, list[int]())
         ahead = way_ahead(trial, chosen)
         latest = {} if is_no else latest_of(trial, outlook, ahead)
     return Look(follower.plan, outlook, tellings, ahead, latest, due, lates, ways, meanwhile, let_go)
+
+
+def tried(question: Callable[[], Found]) -> Found | None:
+    """What a question answers; nothing where that takes too long, or no process answers: the rest is shown without."""
+    try:
+        return question()
+    except (OutOfTime, Unavailable):
+        return None
 
 
 def latest_of(trial: Trial, outlook: Outlook, ahead: Ahead) -> dict[str, int]:
@@ -67,7 +78,7 @@ def latest_of(trial: Trial, outlook: Outlook, ahead: Ahead) -> dict[str, int]:
     for step in sorted(left, key=lambda it: ahead.steps.get(it, outlook.deadline)):
         if time.monotonic() > end:
             break
-        if (at := trial.by(step)) is not None:
+        if (at := tried(partial(trial.by, step))) is not None:
             found[step] = at
     return found
 
@@ -195,7 +206,7 @@ def all_limits(it: Look) -> list[Limit]:
 
 def blame_data(it: Look) -> Data | None:
     """What a "no" blames, and how far each must give way: those of the document first, for what was put in is known."""
-    if it.outlook.verdict.can is not Can.NO:
+    if it.outlook.verdict.can is not Can.NO or it.ways is None:
         return None
     originals = {limit.id: limit for limit in it.plan.limits}
     limits, deadline = [], None

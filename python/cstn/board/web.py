@@ -42,8 +42,10 @@ def make_app(board: Board, guard: Guard) -> Flask:
 
 def heard(guard: Guard) -> Response | None:
     """Nothing where a request is heard, else the answer to one that is not."""
+    if request.method not in ("GET", "POST"):
+        abort(405)
     asked = Asked(request.headers.get("Host", ""), request.headers.get("Origin"), request.headers.get("Sec-Fetch-Site"),
-                  request.method not in ("GET", "HEAD"), request.mimetype == "application/json",
+                  request.method != "GET", request.mimetype == "application/json",
                   request.headers.get("Sec-Fetch-Mode") == "navigate")
     if not guard.is_token(request.path.split("/")[1]):
         abort(404)

@@ -9,7 +9,7 @@ const POLL = 5000;
 const OLD = 10000;
 const SAID_FOR = 7000;
 
-const state = { data: null, clock: null, alive: true, chosen: {}, wanted: 0, asked: 0, asking: null, fetched: 0, forced: false, held: false, pressed: false, timer: null, resizing: null, saidTimer: null };
+const state = { data: null, clock: null, alive: true, wrong: "", chosen: {}, wanted: 0, asked: 0, asking: null, fetched: 0, forced: false, held: false, pressed: false, timer: null, resizing: null, saidTimer: null };
 const main = document.getElementById("main");
 const top = document.getElementById("top");
 const said = document.getElementById("said");
@@ -44,7 +44,8 @@ function drawAll() {
   if (state.held) return null;
   state.forced = false;
   const offline = !state.alive && h("section", { class: "card state offline wide", role: "alert" },
-    h("strong", {}, "No connection"), h("p", {}, "The board does not answer. What stands here may be old, and nothing is told."));
+    h("strong", {}, state.wrong ? "This cannot be shown now" : "No connection"),
+    h("p", {}, state.wrong || "The board does not answer. What stands here may be old, and nothing is told."));
   main.className = `${openPlan() ? "plan" : "list"} ${state.alive ? "" : "stale"}`;
   if (!data) return draw(main, offline || h("p", {}, "One moment .."));
   const page = { ...state, say, refresh: refreshNow, choose };
@@ -99,8 +100,7 @@ async function ask(plan) {
     Object.assign(state, { data, alive: true, fetched: Date.now(), clock: plan ? new Clock(data.clock) : null });
   } catch (error) {
     if (plan !== openPlan()) return;
-    state.alive = false;
-    if (error.data?.error) say(error.message);
+    Object.assign(state, { alive: false, wrong: error.data?.error ?? "" });
   }
   drawAll();
 }

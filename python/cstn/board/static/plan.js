@@ -55,9 +55,8 @@ function stepRow(step, page, kind, place) {
 
 function resultSays(result, page) {
   const now = page.clock.now();
-  const late = result.expected < now || page.data.late.find((it) => it.letter === result.letter);
   const words = [];
-  if (late) words.push(h("span", { class: "tag late" }, `late by ${page.clock.length(now - result.due)}`), " ");
+  if (result.expected < now) words.push(h("span", { class: "tag late" }, `late by ${page.clock.length(now - result.expected)}`), " ");
   words.push(`expected ${page.clock.at(result.expected)}`);
   if (result.until === "ever") words.push(" · the plan can do without it");
   else if (result.until !== null) words.push(" · can be late until ", number(page.clock.at(result.until)));
