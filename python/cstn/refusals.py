@@ -2,17 +2,16 @@
 from __future__ import annotations
 
 from cstn.answers import Refusal
-from cstn.child import Child
 from cstn.errors import Contradicts, NotYet, OutOfRange, Refused, TooMany, Unknown, WaitsFor
 from cstn.events import Did, Event, Expect, Now, Saw
-from cstn.names import plain, printed
+from cstn.names import plain
 from cstn.state import State
 
 MOST = 1000000
 """The greatest moment that a fact may have."""
 
 
-def why(refusal: Refusal, event: Event, state: State, child: Child) -> Refused | None:
+def why(refusal: Refusal, event: Event, state: State) -> Refused | None:
     """The error of a refused event; nothing where it was told before, or is an older time than the plan's."""
     match refusal.code, event:
         case "F1", _:
@@ -24,9 +23,9 @@ def why(refusal: Refusal, event: Event, state: State, child: Child) -> Refused |
         case "F4", Did(step, at):
             return None if state.done[step] == at else done_before(step, state)
         case "F5", Did(step):
-            return undecided(step, state, child)
+            return undecided(step, state)
         case "F6", Saw(letter) | Expect(letter):
-            return unobserved(letter, state, child)
+            return unobserved(letter, state)
         case "F7", Saw(letter, value, at):
             known = state.seen[letter]
             return None if (known.value, known.at) == (value, at) else seen_before(letter, state)
@@ -66,21 +65,19 @@ def seen_before(letter: str, state: State) -> Contradicts:
     return Contradicts("F7", f"{letter} came at {known.at}, and was {str(known.value).lower()}", known.value)
 
 
-def undecided(step: str, state: State, child: Child) -> Refused:
-    """Of a step whose label does not hold: it is ruled out, which the program says, or some outcomes are missing."""
-    answer = child.ask(f"by {printed(step)}")
-    if isinstance(answer, Refusal) and answer.code == "F5":
+def undecided(step: str, state: State) -> Refused:
+    """Of a step whose label does not hold: it is ruled out, or some outcomes are missing."""
+    if state.is_left_out(step):
         return Contradicts("F5", f"what was seen rules {step} out")
     letters = tuple(letter for letter in state.plan.letters_of(step) if letter not in state.seen)
     return NotYet("F5", f"{step} waits for the outcome of {', '.join(letters)}", WaitsFor(letters=letters))
 
 
-def unobserved(letter: str, state: State, child: Child) -> Refused:
+def unobserved(letter: str, state: State) -> Refused:
     """Of an outcome whose observer was not done: nothing observes it, or that was ruled out, or is not told yet."""
     observer = state.plan.observers.get(letter)
     if observer is None:
         return Unknown("F6", f"nothing observes {letter}", letter)
-    answer = child.ask(f"by {printed(observer.name)}")
-    if isinstance(answer, Refusal) and answer.code == "F5":
+    if state.is_left_out(observer.name):
         return Contradicts("F6", f"what was seen rules {observer.name} out, which observes {letter}")
     return NotYet("F6", f"{letter} waits for {observer.name} to be done", WaitsFor(steps=(observer.name,)))

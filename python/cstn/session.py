@@ -100,7 +100,7 @@ class Session:
         except ValueError as error:
             raise Refused("line", f"no line can say this: {event!r}") from error
         if isinstance(answer, Refusal):
-            refused = why(answer, event, self.state, self.child)
+            refused = why(answer, event, self.state)
             if refused is not None:
                 raise refused
             return Telling(event, Standing.KNOWN, text)

@@ -5,6 +5,9 @@ from datetime import datetime, timedelta, timezone
 from cstn import (Add, Can, Change, Changed, Clock, Contradicts, Deadline, Did, Done, Event, Expect, Follower, Late,
                   MemoryJournal, Moved, Next, NotYet, Now, OutOfRange, Plan, Refused, Saw, Seen, TooMany, Unknown,
                   WaitsFor)
+from cstn.answers import Refusal
+from cstn.names import printed
+from cstn.session import Limits, Session
 from tests.support import CLINIC, EMERGENCY, answers, answers_to, drawn
 
 REFUSED: list[tuple[Event, type[Refused], str]] = [
@@ -306,6 +309,22 @@ class Journals(unittest.TestCase):
             self.assertEqual(again.outlook(), outlook)
             assert again.session is not None
             self.assertEqual(again.session.state.lines, ["now 59"])
+
+
+class RuledOut(unittest.TestCase):
+    """Which steps an outcome rules out is reckoned here as the program answers it."""
+
+    def test_as_the_program_says(self) -> None:
+        for number in range(6):
+            patient = drawn(number)
+            session = Session(patient.plan, Limits())
+            self.addCleanup(session.close)
+            for event in patient.truth:
+                session.tell(event)
+                for step in patient.plan.steps:
+                    answer = session.child.ask(f"by {printed(step.name)}")
+                    is_out = isinstance(answer, Refusal) and answer.code == "F5"
+                    self.assertEqual(session.state.is_left_out(step.name), is_out, (number, event, step.name))
 
 
 class Drawn(unittest.TestCase):
