@@ -226,10 +226,28 @@ def press(browser, keys, label, *then):
     browser.keys(*(then or (keys.ENTER,)))
 
 
+MOMENTS = """
+return import(`${location.pathname}static/clock.js`).then(({ Clock }) => {
+  const found = [];
+  for (const start of [0, 79200, 81637])
+    for (const tick of [1, 1.5, 7, 60, 90, 900, 3600]) {
+      const clock = new Clock({ now: 3, tick, start, origin: null, running: false, server: Date.now() });
+      for (const at of [0, 2, 6, 300, 1439, 1440, 3000, 99998]) {
+        const text = clock.at(at);
+        const read = [clock.read(text.split(" ")[0], at), text.includes("+") ? clock.read(text, 0) : at, clock.read(String(at))];
+        if (read.some((it) => it !== at)) found.push(`${text}, ${at} with ticks of ${tick} s: ${read}`);
+      }
+    }
+  return found;
+});
+"""
+
+
 def clock(tally, browser):
     """Ticks that pass by themselves: a plan that is begun, is due, and is late."""
     with Served([PATHWAY], "--tick", "1") as board:
         browser.open(board.url)
+        tally.check("moments that are read as they are written", browser.run(MOMENTS), [])
         browser.says("the list", "[data-plan]", "Not begun")
         browser.click("the plan", "[data-plan] button")
         browser.click("it begins", "[data-act='begin']")

@@ -170,6 +170,14 @@ class Boards(unittest.TestCase):
         page = board.page(next(iter(board.titles())), {})
         self.assertEqual((page["now"], page["verdict"]), (1_000_000, "no"))
 
+    def test_a_clock_begins_with_what_has_begun(self) -> None:
+        for tick in (1, 60, 90, 3600):
+            clock = Timing(tick).clock()
+            assert clock is not None
+            self.assertEqual((clock.origin.microsecond, clock.origin.second if tick % 60 == 0 else 0), (0, 0))
+            self.assertLess(clock.origin, datetime.now(timezone.utc))
+        self.assertIsNone(Timing().clock())
+
     def test_plans_are_found_again(self) -> None:
         board = self.board()
         made = board.begin("ward", "bed 7")

@@ -39,9 +39,12 @@ class Timing:
     by_hand: bool = True
 
     def clock(self) -> Clock | None:
+        """The clock of a plan that begins now: ticks of whole minutes begin with a minute, others with a second."""
         if self.tick is None:
             return None
-        return Clock(self.start or datetime.now().astimezone(), timedelta(seconds=self.tick))
+        now = datetime.now().astimezone()
+        begun = now.replace(second=now.second if self.tick % 60 else 0, microsecond=0)
+        return Clock(self.start or begun, timedelta(seconds=self.tick))
 
 
 @dataclass(frozen=True)

@@ -26,7 +26,7 @@ export function outcome(answer, page) {
 
 /** The event that the dialog says at this moment, or words for what is wrong with it. */
 function read(page, about, at, kind) {
-  const tick = about.letter && kind.value === "never" ? page.data.deadline + 1 : page.clock.read(at.value);
+  const tick = about.letter && kind.value === "never" ? page.data.deadline + 1 : page.clock.read(at.value, about.event.at);
   if (tick === null) return page.clock.hasTimes() ? "Write a time, as 22:40, or a number of ticks." : "Write a number of ticks.";
   if (!about.letter) return { ...about.event, at: tick };
   if (kind.value === "late" || kind.value === "never") return { kind: "await", letter: about.letter, at: tick };

@@ -50,15 +50,25 @@ export class Clock {
     return parts.filter(([number]) => number > 0).map(([number, unit]) => `${number} ${unit}`).join(" ") || "0 min";
   }
 
-  /** The tick that somebody typed, by the clock or as a number, or null; of the days the one nearest to now. */
-  read(text) {
+  /** The tick that somebody typed, as it is written here or as a number, or null; without a day, of the days the one nearest to `near`. */
+  read(text, near = this.now()) {
     if (/^[0-9]{1,7}$/.test(text.trim())) return Number(text);
-    const found = /^([0-9]{1,2}):([0-9]{2})(?::([0-9]{2}))?$/.exec(text.trim());
+    const found = /^([0-9]{1,2}):([0-9]{2})(?::([0-9]{2}))?(?: *\+([0-9]{1,5}) d)?$/.exec(text.trim());
     if (!found || !this.hasTimes()) return null;
     const second = Number(found[1]) * 3600 + Number(found[2]) * 60 + Number(found[3] ?? 0);
-    const near = [-1, 0, 1, 2].map((day) => second + DAY * day);
-    const base = Math.floor((this.now() * this.data.tick) / DAY) * DAY - this.data.start;
-    const ticks = near.map((it) => Math.floor((it + base) / this.data.tick)).filter((it) => it >= 0);
-    return ticks.sort((a, b) => Math.abs(a - this.now()) - Math.abs(b - this.now()))[0] ?? null;
+    const passed = (((second - this.data.start) % DAY) + DAY) % DAY;
+    const today = Math.floor((near * this.data.tick) / DAY);
+    const named = found[4] === undefined ? null : Number(found[4]);
+    const days = named === null ? [today - 1, today, today + 1] : [named, named - 1];
+    const ticks = days.map((day) => this.written(text.trim().split(" ")[0], passed + DAY * day)).filter((it) => it >= 0);
+    if (named !== null) return ticks.find((it) => this.at(it).endsWith(` +${named} d`)) ?? ticks[0] ?? null;
+    return ticks.sort((a, b) => Math.abs(a - near) - Math.abs(b - near))[0] ?? null;
+  }
+
+  /** The tick that has begun so many seconds after tick 0, or the next one, if that is the one which is written so. */
+  written(text, passed) {
+    const tick = Math.floor(passed / this.data.tick);
+    const is = (it) => this.at(it).split(" ")[0] === text;
+    return !is(tick) && is(tick + 1) ? tick + 1 : tick;
   }
 }

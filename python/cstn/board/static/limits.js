@@ -46,7 +46,7 @@ function editor(limit, page) {
   const written = limit.parts.some((part) => "moment" in part) ? page.clock.at(limit.value) : limit.value;
   const field = momentField(page.clock, { "data-key": `limit-${limit.id}`, value: written, "aria-label": "The number of this limit, in ticks" });
   const change = () => {
-    const value = readNumber(limit.parts, field.value, page.clock);
+    const value = readNumber(limit.parts, field.value, page.clock, limit.value);
     return value === null ? page.say("Write a number of ticks.") : tell(page, { kind: "change", limit: limit.id, value }, "Limit changed");
   };
   return [field, button(`change-${limit.id}`, "Change", change, { "data-act": "change" }),
@@ -80,7 +80,7 @@ function deadline(data, page) {
   const field = momentField(page.clock, { "data-key": "deadline", value: page.clock.at(data.deadline) });
   const change = (event) => {
     event.preventDefault();
-    const at = page.clock.read(field.value);
+    const at = page.clock.read(field.value, data.deadline);
     return at === null ? page.say("That is no moment.") : tell(page, { kind: "deadline", at }, "Deadline changed");
   };
   return h("form", { class: "fields", onsubmit: change }, h("label", { class: "narrow" }, "Deadline", field),

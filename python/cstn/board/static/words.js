@@ -19,8 +19,8 @@ export const plain = (parts, clock) => parts.map((part) => text(part, clock)).jo
 /** The number of a sentence, as a person reads and writes it. */
 export const numberOf = (parts, value, clock) => (parts.some((part) => "moment" in part) ? clock.at(value) : clock.length(value));
 
-/** The number that a person wrote into a sentence, or null. A length is a number of ticks, and may be below 0. */
-export const readNumber = (parts, written, clock) => {
+/** The number that a person wrote into a sentence, or null. A length is a number of ticks, and may be below 0; a moment is near the one that stood there before. */
+export const readNumber = (parts, written, clock, before) => {
   if (/^-?[0-9]{1,7}$/.test(written.trim())) return Number(written);
-  return parts.some((part) => "moment" in part) ? clock.read(written) : null;
+  return parts.some((part) => "moment" in part) ? clock.read(written, before) : null;
 };
