@@ -173,5 +173,6 @@ def kept(tally, _):
         told = [it["event"]["at"] for it in board.page("clinical-pathway")["history"]]
         tally.check("what was told before each kill", (answered, max(told)), (list(range(1, 9)), 8))
         token = os.path.join(board.folder.name, "journals", "token")
-        tally.check("the token is for its owner alone", oct(os.stat(token).st_mode & 0o777), "0o600")
+        for file in (token, os.path.join(board.folder.name, "journals", "journals.sqlite")):
+            tally.check(f"{os.path.basename(file)} is for its owner alone", oct(os.stat(file).st_mode & 0o777), "0o600")
         until("the address after the restart", lambda: board.url == board.said())

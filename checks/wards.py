@@ -234,7 +234,8 @@ return import(`${location.pathname}static/clock.js`).then(({ Clock }) => {
       const clock = new Clock({ now: 3, tick, start, origin: null, running: false, server: Date.now() });
       for (const at of [0, 2, 6, 300, 1439, 1440, 3000, 99998]) {
         const text = clock.at(at);
-        const read = [clock.read(text.split(" ")[0], at), text.includes("+") ? clock.read(text, 0) : at, clock.read(String(at))];
+        const whole = text.includes("+") ? clock.read(text, 0) : at;
+        const read = [clock.read(text.split(" ")[0], at), whole, clock.read(String(at))];
         if (read.some((it) => it !== at)) found.push(`${text}, ${at} with ticks of ${tick} s: ${read}`);
       }
     }

@@ -41,7 +41,8 @@ class SqliteStore:
             raise NotKept(f"{self.path} cannot be opened: {error}") from error
 
     def opened(self) -> sqlite3.Connection:
-        """A connection, with the tables made. One at a time: sqlite does not wait while a file turns to writing ahead."""
+        """A connection, with the tables made. By one client at a time: sqlite does not wait while a file turns to writing
+        ahead."""
         connection = sqlite3.connect(self.path, timeout=self.seconds, isolation_level=None, check_same_thread=False)
         try:
             for pragma in ("journal_mode=wal", "synchronous=full"):

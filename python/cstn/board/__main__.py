@@ -109,14 +109,15 @@ def token_of(folder: Path) -> str:
 
 
 def hosts(address: str, port: int, names: list[str]) -> frozenset[str]:
-    """The names under which the board may be asked for: those of `--name` also as they stand, for a server before it. Of a
-    board that listens everywhere these alone count."""
+    """The names under which the board may be asked for: those of `--name` also as they stand, for a server before it.
+    Of a board that listens everywhere these count, and those of the machine's own."""
     known = {"127.0.0.1", "localhost", "[::1]", f"[{address}]" if ":" in address else address, *names}
     known -= {"0.0.0.0", "[::]"}
     return frozenset(f"{it}:{port}" for it in known) | frozenset(known if port == 80 else names)
 
 
 def serve(told: argparse.Namespace) -> None:
+    os.umask(0o077)  # Journals and the token are for their owner alone.
     os.makedirs(told.journals, mode=0o700, exist_ok=True)
     found = documents(told.files, told.deadline)
     store = SqliteStore(told.journals / "journals.sqlite")

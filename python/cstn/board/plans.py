@@ -9,6 +9,7 @@ from dataclasses import dataclass
 from datetime import datetime, timedelta
 from typing import Any
 
+from cstn.answers import Can
 from cstn.clock import Clock
 from cstn.errors import CstnError, Moved
 from cstn.events import Event, Now, with_key
@@ -20,7 +21,7 @@ from cstn.refusals import MOST
 
 from cstn.board.news import News
 from cstn.board.reading import Wrong, event_of, key_of
-from cstn.board.screen import Data, brief, look, outcome, page
+from cstn.board.screen import Data, brief, look, outcome, page, tried
 from cstn.board.words import shown
 
 MOST_PLANS = 200
@@ -146,7 +147,7 @@ class Board:
             outlook = trial.outlook(latest=False)
             receipt = trial.tell(event_of(data, follower.plan, outlook.limits))
             after = trial.outlook(latest=False)
-            blame = trial.blame() or ()
+            blame = (tried(trial.blame) if after.verdict.can is Can.NO else None) or ()
         return told(receipt) | outcome(follower.plan, after, blame)
 
     # ---- what is shown ----

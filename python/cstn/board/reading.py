@@ -15,7 +15,7 @@ MOST_VALUE = 1_000_000_000
 KEY = re.compile(r"[0-9A-Za-z_-]{8,64}")
 
 
-class Wrong(Exception):
+class Wrong(ValueError):
     """What was sent means nothing. The words are for whoever sent it."""
 
 

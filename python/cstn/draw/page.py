@@ -112,7 +112,8 @@ def write_page(plan: Plan, looks: list[str], now: str) -> str:
                   + '<span id="count" role="status"></span>', hidden="")
     body = [element("h1", escaped(plan.title)), verdict_of(plan), paragraph(counts_of(plan)),
             nav, *([heading("now", "Now"), scrolled(now)] if now else []), heading("cases", "Cases"), *cases_of(plan),
-            heading("network", "What waits for what"), scrolled(draw_network(plan)), heading("steps", "Steps"), element("div", steps_of(plan), class_="scroll"),
+            heading("network", "What waits for what"), scrolled(draw_network(plan)),
+            heading("steps", "Steps"), element("div", steps_of(plan), class_="scroll"),
             heading("constraints", "Constraints"), constraints_of(plan)]
     if looks:
         body += [heading("looks", "Worth a second look"), *(paragraph(it) for it in looks)]

@@ -30,7 +30,7 @@ export const newKey = () => [...crypto.getRandomValues(new Uint8Array(12))].map(
 
 export const plans = () => get("api/plans");
 export const plan = (id, chosen) => get(`api/plans/${id}?${new URLSearchParams(chosen)}`);
-export const begin = (document, title) => post("api/plans", { document, title, key: newKey() });
+export const begin = (document, title) => post("api/plans", { document, title });
 export const tell = (id, event) => post(`api/plans/${id}/tell`, { key: newKey(), ...event });
 export const whatIf = (id, event) => post(`api/plans/${id}/try`, event);
 export const correct = (id, body) => post(`api/plans/${id}/correct`, body);
