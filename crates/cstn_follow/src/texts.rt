@@ -1,5 +1,5 @@
 // What a session says.
-ghost use Rattle.std.specs.Prelude.{◌≡◌, ◌++◌, ◌∷◌, [], IfOk, codes, decimal};
+ghost use Rattle.std.specs.Prelude.{◌≡◌, ◌≤◌, ◌++◌, ◌∷◌, [], length, vec_capacity, IfOk, codes, decimal};
 ghost use Rattle.cstn_label.specs.Letters.{letter_of};
 ghost use Rattle.cstn_reply.specs.Texts.{line};
 ghost use Rattle.cstn_follow.specs.Following.{verdict_line, too_many, name_at};
@@ -21,15 +21,48 @@ use std::alloc::{AllocError, Global};
 /// How many bytes an answer without names has at most.
 pub const ROOM: usize = 64;
 
+/// Room for an answer without names.
+pub fn room(alloc: Global) -> Result<Vec<u8>, AllocError>
+    ensures empty { IfOk result (λ text. text.items ≡ []) }
+    ensures room { IfOk result (λ text. 64 ≤ vec_capacity text) }
+{
+    Vec::with_capacity(alloc, ROOM)
+}
+
+/// The line of a verdict, in room that was taken before.
+pub fn verdict_in(room: Vec<u8>, cap: Cap, verdict: Verdict) -> Vec<u8>
+    requires empty { room.items ≡ [] }
+    requires room { 64 ≤ vec_capacity room }
+    ensures line { result.items ≡ verdict_line cap.entries verdict }
+{
+    match verdict {
+        Verdict::Yes { load } => number_in(room, b"yes ", load),
+        Verdict::No { load } => number_in(room, b"no ", load),
+        Verdict::Full => number_in(room, b"full ", cap.entries),
+    }
+}
+
+// A line that ends with a number, in room that was taken before.
+fn number_in(mut room: Vec<u8>, word: &[u8], number: u32) -> Vec<u8>
+    requires empty { room.items ≡ [] }
+    requires room { 64 ≤ vec_capacity room }
+    requires short { length word.now ≤ 8 }
+    ensures line { result.items ≡ line (word.now ++ decimal number) }
+{
+    let mut digits = Buffer::new();
+    room.extend_from_slice(word).unwrap();
+    room.extend_from_slice(digits.format(number).as_bytes())
+        .unwrap();
+    room.push(b'\n').unwrap();
+    room
+}
+
 /// The line of a verdict.
 pub fn verdict_line(alloc: Global, cap: Cap, verdict: Verdict) -> Result<Vec<u8>, AllocError>
     ensures line { IfOk result (λ text. text.items ≡ verdict_line cap.entries verdict) }
 {
-    match verdict {
-        Verdict::Yes { load } => number_line(alloc, b"yes ", load),
-        Verdict::No { load } => number_line(alloc, b"no ", load),
-        Verdict::Full => number_line(alloc, b"full ", cap.entries),
-    }
+    let room = room(alloc)?;
+    Ok(verdict_in(room, cap, verdict))
 }
 
 /// A line that is a word.

@@ -12,7 +12,7 @@ use cstn_label::NodeId;
 use cstn_lift::Labelled;
 use cstn_log::Cap;
 use cstn_net::Network;
-use cstn_session::{FollowError, Outlook, Session};
+use cstn_follow::{FollowError, Outlook, Session};
 use cstn_text::Names;
 use std::alloc::Global;
 
