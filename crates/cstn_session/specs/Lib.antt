@@ -3,4 +3,5 @@ pub mod Executions
 pub mod Findings
 -- A session, what its calls make of it, and what it answers.
 pub mod Sessions
+pub mod Replans
 pub mod Answers

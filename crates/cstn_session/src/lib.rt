@@ -1,5 +1,5 @@
-//! A session that follows what happens while a labelled network is carried out: facts are told, and it is asked
-//! what is next, until when a time-point can wait, and which constraints are to blame. What the last check found of what is
+//! A session that follows what happens while a labelled network is carried out: facts are told, the network is edited, and it is
+//! asked what is next, until when a time-point can wait, and which constraints are to blame. What the last check found of what is
 //! left is kept, so that questions after it take no check.
 #![tactic(auto)]
 
@@ -11,5 +11,5 @@ mod room;
 mod session;
 
 pub use answers::{Latest, Outlook, ToBlame};
-pub use errors::FollowError;
+pub use errors::{FollowError, ReplanError};
 pub use session::Session;
