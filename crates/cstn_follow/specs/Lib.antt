@@ -8,6 +8,7 @@ pub mod Executions
 pub mod Findings
 -- A session, what its calls make of it, and what it answers.
 pub mod Sessions
+pub mod Replans
 pub mod Answers
 -- Sessions that follow what happens in lines.
 pub mod Following

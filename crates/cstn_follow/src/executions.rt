@@ -8,7 +8,7 @@ ghost use Rattle.cstn_history.specs.Continuations.{Can, CanWait};
 ghost use Rattle.cstn_history.specs.Handed.{HasRoom, IsRestRefusal};
 ghost use Rattle.cstn_history.specs.Histories.{nothing_yet};
 ghost use Rattle.cstn_history.specs.Read.{the_history, IsKeptFor};
-ghost use Rattle.cstn_history.specs.Rest.{is_left};
+ghost use Rattle.cstn_history.specs.Rest.{is_left, rest};
 ghost use Rattle.cstn_change.specs.Changes.{id_above};
 ghost use Rattle.cstn_check.specs.Givers.{but, is_of};
 ghost use Rattle.cstn_follow.specs.Blame.{alone, blamed};
@@ -82,9 +82,9 @@ impl Execution {
         &self.history
     }
 
-    /// The id that the next constraint gets.
+    /// An id above all that constraints ever had, which the next one gets.
     pub fn fresh(&self) -> u32
-        ensures { result ≡ self.now.fresh }
+        ensures fresh { result ≡ self.now.fresh }
     {
         self.fresh
     }
@@ -125,6 +125,27 @@ impl Execution {
         finding_left(alloc, &self.network, later, self.fresh, cap)
     }
 
+    /// What a check would find of what is left of another network, whose ids are below `fresh`. Refused where there would be too many
+    /// constraints.
+    pub fn finding_replanned(
+        &self,
+        alloc: Global,
+        network: &Labelled,
+        fresh: u32,
+        cap: Cap,
+    ) -> Result<Finding, RestError>
+        requires kept { IsKeptFor (the_labelled network.now) self.now.history }
+        requires above { All (λ c. c.id < fresh) (the_labelled network.now).base.constraints }
+        requires low { fresh ≤ 4294000000 }
+        ensures finding { IfOk result (IsFindingOn cap.entries (lowered (rest (the_labelled network.now) (the_history self.now.history) fresh))) }
+        ensures verdict { IfOk result (λ f. verdict_left (the_labelled network.now) (the_history self.now.history) fresh cap.entries
+            ≡ Some (verdict_of f)) }
+        ensures many { IsErrOf result RestError.TooManyConstraints
+            → verdict_left (the_labelled network.now) (the_history self.now.history) fresh cap.entries ≡ None }
+    {
+        finding_left(alloc, network, &self.history, fresh, cap)
+    }
+
     /// Makes this what has happened.
     pub fn record(&mut self, later: History)
         requires kept { IsKeptFor (the_labelled self.old.network) later }
@@ -132,6 +153,19 @@ impl Execution {
         ensures execution { IsExecution self.new }
     {
         self.history = later;
+    }
+
+    /// Puts another network, whose ids are below `fresh`, in the place of the network.
+    pub fn replan(&mut self, network: Labelled, fresh: u32)
+        requires kept { IsKeptFor (the_labelled network) self.old.history }
+        requires above { All (λ c. c.id < fresh) (the_labelled network).base.constraints }
+        requires low { fresh ≤ 4294000000 }
+        ensures replanned { self.new ≡ record self.old { network = network; fresh = fresh } }
+        ensures execution { IsExecution self.new }
+    {
+        labelled_network_is_in_order(&network);
+        self.network = network;
+        self.fresh = fresh;
     }
 
     /// Until when a time-point that is left and isn't done can wait, in ticks, where what has happened can go on.
@@ -160,7 +194,8 @@ impl Execution {
         ensures needed { IfOk result (λ ids. (id : ℕ) → Contains ids.items id
             → Can (alone (the_labelled self.now.network) (but id (is_of ids.items))) (the_history self.now.history)) }
         ensures ascending { IfOk result (λ ids. AllPairs (λ a b. a < b) ids.items) }
-        ensures blamed { IfOk result (λ ids. blamed (the_labelled self.now.network) (the_history self.now.history) self.now.fresh cap.entries ≡ Some ids.items) }
+        ensures blamed { IfOk result (λ ids. blamed (the_labelled self.now.network) (the_history self.now.history) self.now.fresh cap.entries
+            ≡ Some ids.items) }
         ensures full { IsErrOf result BlameError.Full
             → blamed (the_labelled self.now.network) (the_history self.now.history) self.now.fresh cap.entries ≡ None }
     {

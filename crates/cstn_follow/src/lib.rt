@@ -21,7 +21,7 @@ mod waits;
 
 pub use answers::{Latest, Outlook, ToBlame};
 pub use blames::blame;
-pub use errors::{BlameError, FollowError, WaitError};
+pub use errors::{BlameError, FollowError, ReplanError, WaitError};
 pub use following::{Following, Heard};
 pub use laws::{blame_is_found, next_keeps_going, parts_are_labelled, waiting_is_found};
 pub use session::Session;

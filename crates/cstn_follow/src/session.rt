@@ -12,6 +12,7 @@ ghost use Rattle.cstn_change.specs.Changes.{id_above};
 ghost use Rattle.cstn_follow.specs.Following.{any_below, is_open};
 ghost use Rattle.cstn_follow.specs.Sessions.{IsSession, IsRightVerdict};
 
+mod edits;
 mod facts;
 mod questions;
 
@@ -98,16 +99,16 @@ impl Session {
         self.execution.history()
     }
 
-    /// The id that the next constraint gets.
+    /// An id above all that constraints ever had, which the next one that is added gets.
     pub fn fresh(&self) -> u32
-        ensures { result ≡ self.now.fresh }
+        ensures fresh { result ≡ self.now.fresh }
     {
         self.execution.fresh()
     }
 
     /// How many entries a log may have.
     pub fn cap(&self) -> Cap
-        ensures { result.entries ≡ self.now.cap }
+        ensures cap { result.entries ≡ self.now.cap }
     {
         self.cap
     }

@@ -4,7 +4,7 @@ ghost use Rattle.cstn_lift.specs.Read.{the_labelled};
 ghost use Rattle.cstn_history.specs.Facts.{told_refusal, expected_refusal, now_refusal, at_now, with_told, with_expected};
 ghost use Rattle.cstn_history.specs.Read.{the_history, IsKeptFor};
 ghost use Rattle.cstn_follow.specs.FactLines.{all_done, unless_refused};
-ghost use Rattle.cstn_follow.specs.Sessions.{Records, unrecorded};
+ghost use Rattle.cstn_follow.specs.Sessions.{IsRightVerdict, Records, unrecorded};
 
 use super::Session;
 use crate::errors::FollowError;
@@ -18,7 +18,8 @@ impl Session {
     /// now. Gives the verdict on what is left then, or refuses, and then nothing has changed: for a time-point with the first that
     /// applies of `OutOfRange`, `NoSuch`, `Done` and `Undecided`, in turn, and with `TooManyConstraints`.
     pub fn did(&mut self, moment: u32, nodes: &[NodeId]) -> Result<Verdict, FollowError>
-        ensures { Records (all_done (the_labelled self.old.network) moment (the_history self.old.history) nodes.now) self.old self.new result }
+        ensures recorded { Records (all_done (the_labelled self.old.network) moment (the_history self.old.history) nodes.now) self.old self.new result }
+        ensures right { IfOk result (IsRightVerdict self.new) }
     {
         let mut later = self.history().copy(self.alloc)?;
         if let Err(error) = execute_all(&mut later, self.execution.network(), moment, nodes) {
@@ -31,8 +32,9 @@ impl Session {
     /// moment now. Else as `did`, but for the refusals: the first that applies of `OutOfRange` for a moment above 1,000,000,
     /// `NotObserved`, `Told`, `OutOfRange` for a moment before its observer was done, and `TooManyConstraints`.
     pub fn saw(&mut self, moment: u32, p: Prop, value: bool) -> Result<Verdict, FollowError>
-        ensures { Records (unless_refused (told_refusal (the_labelled self.old.network) (the_history self.old.history) moment p)
+        ensures recorded { Records (unless_refused (told_refusal (the_labelled self.old.network) (the_history self.old.history) moment p)
             (Ok (with_told (the_history self.old.history) moment p.index value))) self.old self.new result }
+        ensures right { IfOk result (IsRightVerdict self.new) }
     {
         let mut later = self.history().copy(self.alloc)?;
         if let Err(error) = later.observe(self.execution.network(), moment, p, value) {
@@ -44,8 +46,9 @@ impl Session {
     /// Records that it is this moment, in ticks, and that nothing else has happened. Else as `did`, but for the refusals: the first that
     /// applies of `Past`, `OutOfRange` and `TooManyConstraints`.
     pub fn now(&mut self, moment: u32) -> Result<Verdict, FollowError>
-        ensures { Records (unless_refused (now_refusal (the_history self.old.history) moment) (Ok (at_now (the_history self.old.history) moment)))
+        ensures recorded { Records (unless_refused (now_refusal (the_history self.old.history) moment) (Ok (at_now (the_history self.old.history) moment)))
             self.old self.new result }
+        ensures right { IfOk result (IsRightVerdict self.new) }
     {
         let mut later = self.history().copy(self.alloc)?;
         if let Err(error) = later.pass(moment) {
@@ -57,8 +60,9 @@ impl Session {
     /// Records that the outcome of a proposition is expected at this moment, in ticks, and not before. Else as `did`, but for the
     /// refusals: the first that applies of `NotObserved`, `Told`, `OutOfRange` and `TooManyConstraints`.
     pub fn expect(&mut self, moment: u32, p: Prop) -> Result<Verdict, FollowError>
-        ensures { Records (unless_refused (expected_refusal (the_labelled self.old.network) (the_history self.old.history) moment p)
+        ensures recorded { Records (unless_refused (expected_refusal (the_labelled self.old.network) (the_history self.old.history) moment p)
             (Ok (with_expected (the_history self.old.history) moment p.index))) self.old self.new result }
+        ensures right { IfOk result (IsRightVerdict self.new) }
     {
         let mut later = self.history().copy(self.alloc)?;
         if let Err(error) = later.expect(self.execution.network(), moment, p) {
@@ -70,7 +74,8 @@ impl Session {
     // Makes this what has happened, unless too many constraints are left then.
     fn record(&mut self, later: History) -> Result<Verdict, FollowError>
         requires kept { IsKeptFor (the_labelled self.old.network) later }
-        ensures { Records (Ok (the_history later)) self.old self.new result }
+        ensures recorded { Records (Ok (the_history later)) self.old self.new result }
+        ensures right { IfOk result (IsRightVerdict self.new) }
     {
         let finding = match self.execution.finding_after(self.alloc, &later, self.cap) {
             Ok(finding) => finding,
