@@ -4,8 +4,6 @@ ghost use Rattle.cstn_label.specs.Letters.{letter_of};
 ghost use Rattle.cstn_reply.specs.Texts.{line};
 ghost use Rattle.cstn_follow.specs.Following.{verdict_line, too_many, name_at};
 ghost use Rattle.cstn_follow.specs.FactLines.{refused_fact, unknown_name};
-ghost use Rattle.cstn_follow.specs.PlanLines.{unknown_end};
-ghost use Rattle.cstn_text.specs.Numbers.{printed_value};
 ghost use Rattle.cstn_text.specs.PrintedNames.{printed_name};
 ghost use Rattle.cstn_lines.specs.LiveLines.{printed_truth};
 
@@ -80,14 +78,6 @@ pub fn number_line(alloc: Global, word: &[u8], number: u32) -> Result<Vec<u8>, A
     line_of(alloc, word, digits.format(number).as_bytes())
 }
 
-/// A line that ends with a value.
-pub fn value_line(alloc: Global, word: &[u8], value: i32) -> Result<Vec<u8>, AllocError>
-    ensures line { IfOk result (λ text. text.items ≡ line (word.now ++ printed_value value)) }
-{
-    let mut digits = Buffer::new();
-    line_of(alloc, word, digits.format(value).as_bytes())
-}
-
 /// A line that ends with a proposition.
 pub fn prop_line(alloc: Global, word: &[u8], prop: Prop) -> Result<Vec<u8>, AllocError>
     ensures line { IfOk result (λ text. text.items ≡ line (word.now ++ letter_of prop.index ∷ [])) }
@@ -118,14 +108,6 @@ pub fn unknown_name(alloc: Global, name: &str) -> Result<Vec<u8>, AllocError>
     ensures line { IfOk result (λ text. text.items ≡ line (unknown_name name.now)) }
 {
     let text = format!(in alloc; "refused F3 {}\n", print_name(alloc, name)?)?;
-    Ok(text.into_bytes())
-}
-
-/// The line that no time-point has the name, which an end of a constraint is to have.
-pub fn unknown_end(alloc: Global, name: &str) -> Result<Vec<u8>, AllocError>
-    ensures line { IfOk result (λ text. text.items ≡ line (unknown_end name.now)) }
-{
-    let text = format!(in alloc; "refused S7 {}\n", print_name(alloc, name)?)?;
     Ok(text.into_bytes())
 }
 

@@ -1,30 +1,23 @@
-// Edits of the network that a session follows.
-ghost use Rattle.std.specs.Prelude.{◌≡◌, ◌≢◌, ◌==◌, ◌<◌, ◌≤◌, ◌+◌, ◌^◌, ◌++◌, ◌∷◌, [], not, length, map, None, IfOk, IfSome, IfNone, OnErr, codes, decimal};
-ghost use Rattle.std.specs.List.{All, filter};
+// Edits of the network that a session follows, in lines.
+ghost use Rattle.std.specs.Prelude.{◌≡◌, ◌≤◌, Ok, IfOk, OnErr};
 ghost use Rattle.cstn_label.specs.Read.{marks};
-ghost use Rattle.cstn_net.specs.Limits.{most_constraints, most_deadline, most_edits};
-ghost use Rattle.cstn_net.specs.Networks.{count, IsConstraint, IsValue};
-ghost use Rattle.cstn_net.specs.Read.{the_network, the_constraint};
-ghost use Rattle.cstn_lift.specs.Faults.{lift_number};
+ghost use Rattle.cstn_net.specs.Limits.{most_deadline};
 ghost use Rattle.cstn_lift.specs.Read.{the_labelled};
-ghost use Rattle.cstn_lift.specs.WellFormed.{IsLabelled};
-ghost use Rattle.cstn_lift.specs.Lowered.{lowered};
-ghost use Rattle.cstn_history.specs.Histories.{edited};
+ghost use Rattle.cstn_change.specs.Changes.{IsBetween, UnknownEnd};
+ghost use Rattle.cstn_change.specs.ChangeLines.{accepted_text, refused_text};
+ghost use Rattle.cstn_change.specs.Read.{the_change, the_refusal};
+ghost use Rattle.cstn_reply.specs.Texts.{line};
 ghost use Rattle.cstn_follow.specs.Following.{says};
-ghost use Rattle.cstn_follow.specs.PlanLines.{becomes, on_edit, on_add, on_remove, on_change, on_deadline};
-ghost use Rattle.cstn_follow.specs.PlanLines.{add_refusal, with_added, with_value};
-ghost use Rattle.cstn_follow.specs.Refusals.{IsEdited};
+ghost use Rattle.cstn_follow.specs.PlanLines.{on_edit, on_add, on_remove, on_change, on_deadline};
 ghost use Rattle.cstn_follow.specs.Read.{the_following};
 
-use crate::refusals::{add_refusal, change_refusal, refused_edit, remove_refusal};
-use crate::sessions::Following;
-use crate::texts::{number_line, too_many, unknown_end};
-use crate::tries::labels_of;
-use crate::verdicts::verdict_left;
-use cstn_history::edits_keep_histories;
-use cstn_label::{Label, NodeId};
-use cstn_lift::{Labelled, LiftError, labelled_networks_have_no_fault, lift};
-use cstn_net::{Constraint, Network, network_is_well_formed};
+use super::Following;
+use crate::errors::ReplanError;
+use crate::texts::{number_line, too_many};
+use cstn_change::{Change, EditError, put_accepted, put_refusal, put_unknown_end};
+use cstn_history::RestError;
+use cstn_label::Label;
+use cstn_reply::AnswerText;
 use std::alloc::{AllocError, Global};
 
 impl Following {
@@ -50,41 +43,13 @@ impl Following {
         let Some(y) = self.node(to) else {
             return unknown_end(self.alloc, to);
         };
-        self.add_between(x, y, most, label)
-    }
-
-    // Adds a constraint between two time-points.
-    fn add_between(
-        &mut self,
-        from: NodeId,
-        to: NodeId,
-        most: i32,
-        label: Label,
-    ) -> Result<Vec<u8>, AllocError>
-        requires from { from.0 < count (the_labelled self.old.network).base }
-        requires to { to.0 < count (the_labelled self.old.network).base }
-        ensures says { IfOk result (λ text. on_edit (the_following self.old)
-            (add_refusal (the_labelled self.old.network).base self.old.edits most (marks label))
-            (codes "added " ++ decimal self.old.fresh) (with_added (the_following self.old) from.0 to.0 most (marks label))
-            ≡ says text.items (the_following self.new)) }
-        ensures names { self.new.names ≡ self.old.names }
-        ensures same { OnErr result (self.new ≡ self.old) }
-    {
-        let net = self.network.base();
-        if let Some(refusal) = add_refusal(net, self.edits, most, label) {
-            return refused_edit(self.alloc, refusal);
-        }
-        let id = self.fresh;
-        let added = Constraint {
-            id,
-            from,
-            to,
+        let change = Change::Add {
+            from: x,
+            to: y,
             most,
             label,
         };
-        let base = with_constraint(self.alloc, net, added)?;
-        let text = number_line(self.alloc, b"added ", id)?;
-        self.replan(base, self.edits + 1, id + 1, text)
+        self.edit(change)
     }
 
     /// Takes the constraint with this id out. Answers with the line of the id, or with the line that refuses the edit: the first that
@@ -94,13 +59,7 @@ impl Following {
         ensures names { self.new.names ≡ self.old.names }
         ensures same { OnErr result (self.new ≡ self.old) }
     {
-        let net = self.network.base();
-        if let Some(refusal) = remove_refusal(net, self.edits, id) {
-            return refused_edit(self.alloc, refusal);
-        }
-        let base = without_constraint(self.alloc, net, id)?;
-        let text = number_line(self.alloc, b"removed ", id)?;
-        self.replan(base, self.edits + 1, self.fresh, text)
+        self.edit(Change::Remove { id })
     }
 
     /// Gives the constraint with this id another value, in ticks. Answers with the line of the id, or with the line that refuses the
@@ -110,13 +69,7 @@ impl Following {
         ensures names { self.new.names ≡ self.old.names }
         ensures same { OnErr result (self.new ≡ self.old) }
     {
-        let net = self.network.base();
-        if let Some(refusal) = change_refusal(net, self.edits, id, most) {
-            return refused_edit(self.alloc, refusal);
-        }
-        let base = with_value(self.alloc, net, id, most)?;
-        let text = number_line(self.alloc, b"changed ", id)?;
-        self.replan(base, self.edits + 1, self.fresh, text)
+        self.edit(Change::Revalue { id, most })
     }
 
     /// Sets the deadline, in ticks. Answers with the line of the deadline, or with the line that refuses it as F8; else as `add`.
@@ -126,107 +79,63 @@ impl Following {
         ensures names { self.new.names ≡ self.old.names }
         ensures same { OnErr result (self.new ≡ self.old) }
     {
-        let mut base = self.network.base().copy(self.alloc)?;
-        base.set_deadline(deadline);
         let text = number_line(self.alloc, b"deadline ", deadline)?;
-        self.replan(base, self.edits, self.fresh, text)
+        match self.session.deadline(deadline) {
+            Ok(_) => Ok(text),
+            Err(RestError::TooManyConstraints) => too_many(self.alloc),
+            Err(RestError::Memory(e)) => Err(e),
+        }
     }
 
-    // Makes this the network, whose ids are below `fresh`, and says the text, unless there are too many constraints then.
-    fn replan(
-        &mut self,
-        base: Network,
-        edits: u32,
-        fresh: u32,
-        text: Vec<u8>,
-    ) -> Result<Vec<u8>, AllocError>
-        requires points { base.points ≡ self.old.network.base.points }
-        requires above { All (λ c. c.id < fresh) (the_network base).constraints }
-        requires few { edits ≤ most_edits }
-        requires low { fresh ≤ 2 ^ 31 + edits }
-        ensures says { IfOk result (λ said. becomes (the_following self.old) base.deadline (the_network base).constraints edits fresh text.items
-            ≡ says said.items (the_following self.new)) }
+    // Makes a change. Its line is made before, so nothing can fail after it.
+    fn edit(&mut self, change: Change) -> Result<Vec<u8>, AllocError>
+        requires between { IsBetween (the_labelled self.old.network).base (the_change change) }
+        ensures says { IfOk result (λ text. on_edit (the_following self.old) (Ok (the_change change)) ≡ says text.items (the_following self.new)) }
         ensures names { self.new.names ≡ self.old.names }
         ensures same { OnErr result (self.new ≡ self.old) }
     {
-        edits_keep_histories();
-        let Some(network) = relabelled(self.alloc, &self.network, base)? else {
-            return too_many(self.alloc);
-        };
-        let left = verdict_left(self.alloc, &network, &self.history, fresh, self.cap)?;
-        let Some(verdict) = left else {
-            return too_many(self.alloc);
-        };
-        self.network = network;
-        self.edits = edits;
-        self.fresh = fresh;
-        self.verdict = verdict;
-        Ok(text)
+        let text = accepted(self.alloc, self.session.fresh(), change)?;
+        match self.session.edit(change) {
+            Ok(_) => Ok(text),
+            Err(ReplanError::Refused(error)) => refused(self.alloc, error),
+            Err(ReplanError::TooManyConstraints) => too_many(self.alloc),
+            Err(ReplanError::Memory(e)) => Err(e),
+        }
     }
 }
 
-// The network with a constraint more, behind the others.
-fn with_constraint(alloc: Global, net: &Network, c: Constraint) -> Result<Network, AllocError>
-    requires few { length net.now.constraints < most_constraints }
-    requires above { All (λ d. d.id < c.id) net.now.constraints }
-    requires constraint { IsConstraint (the_network net.now) (the_constraint c) }
-    requires value { IsValue c.most }
-    ensures edited { IfOk result (λ n. IsEdited net.now n ((the_network net.now).constraints ++ the_constraint c ∷ [])) }
+// The line of an accepted change.
+fn accepted(alloc: Global, fresh: u32, change: Change) -> Result<Vec<u8>, AllocError>
+    ensures line { IfOk result (λ text. text.items ≡ line (accepted_text fresh (the_change change))) }
 {
-    let mut base = net.copy(alloc)?;
-    base.reserve(net.constraints().len() as u32 + 1)?;
-    base.insert(c);
-    Ok(base)
+    let mut text = AnswerText::new(alloc)?;
+    put_accepted(&mut text, fresh, change);
+    bytes_of(alloc, &text)
 }
 
-// The network without the constraint of this id.
-fn without_constraint(alloc: Global, net: &Network, id: u32) -> Result<Network, AllocError>
-    ensures edited { IfOk result (λ n. IsEdited net.now n (filter (λ c. not (c.id == id)) (the_network net.now).constraints)) }
+// The line that refuses a change.
+fn refused(alloc: Global, error: EditError) -> Result<Vec<u8>, AllocError>
+    ensures line { IfOk result (λ text. text.items ≡ line (refused_text (the_refusal error))) }
 {
-    let mut base = net.copy(alloc)?;
-    base.take_out(id);
-    Ok(base)
+    let mut text = AnswerText::new(alloc)?;
+    put_refusal(&mut text, error);
+    bytes_of(alloc, &text)
 }
 
-// The network in which the constraint of this id has this value.
-fn with_value(alloc: Global, net: &Network, id: u32, most: i32) -> Result<Network, AllocError>
-    requires value { IsValue most }
-    ensures edited { IfOk result (λ n. IsEdited net.now n (map (with_value id most) (the_network net.now).constraints)) }
+// The line that no time-point has the name, which an end of a constraint is to have.
+fn unknown_end(alloc: Global, name: &str) -> Result<Vec<u8>, AllocError>
+    ensures line { IfOk result (λ text. text.items ≡ line (refused_text (UnknownEnd name.now))) }
 {
-    let mut base = net.copy(alloc)?;
-    base.set_most(id, most);
-    Ok(base)
+    let mut text = AnswerText::new(alloc)?;
+    put_unknown_end(alloc, &mut text, name)?;
+    bytes_of(alloc, &text)
 }
 
-// The labelled network with these constraints and this deadline; none where it has too many constraints, lowered.
-fn relabelled(
-    alloc: Global,
-    network: &Labelled,
-    base: Network,
-) -> Result<Option<Labelled>, AllocError>
-    requires points { base.points ≡ network.now.base.points }
-    ensures edited { IfOk result (λ o. IfSome o (λ l. the_labelled l ≡ edited (the_labelled network.now) base.deadline (the_network base).constraints)) }
-    ensures labelled { IfOk result (λ o. IfSome o (λ l. IsLabelled (the_labelled l))) }
-    ensures many { IfOk result (λ o. IfNone o
-        (most_constraints < length (lowered (edited (the_labelled network.now) base.deadline (the_network base).constraints)).constraints)) }
+// The bytes that were put into a text.
+fn bytes_of(alloc: Global, text: &AnswerText) -> Result<Vec<u8>, AllocError>
+    ensures bytes { IfOk result (λ bytes. bytes.items ≡ text.now) }
 {
-    network_is_well_formed(&base);
-    labelled_networks_have_no_fault();
-    network.base();
-    let labels = labels_of(alloc, network)?;
-    match lift(alloc, base, labels) {
-        Ok(network) => Ok(Some(network)),
-        Err(fault) => none_unless_memory(fault),
-    }
-}
-
-// No labelled network, for a fault; fails where it is want of memory.
-fn none_unless_memory(fault: LiftError) -> Result<Option<Labelled>, AllocError>
-    ensures none { IfOk result (λ o. o ≡ None) }
-    ensures other { IfOk result (λ _. lift_number fault ≢ 0) }
-{
-    match fault {
-        LiftError::Memory(e) => Err(e),
-        _ => Ok(None),
-    }
+    let mut bytes = Vec::new(alloc);
+    bytes.extend_from_slice(text.as_bytes())?;
+    Ok(bytes)
 }
