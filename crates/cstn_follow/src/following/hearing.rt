@@ -50,7 +50,7 @@ impl Following {
             FollowLine::Saw { t, prop, value } => Ok(Heard::Text(self.saw(t, prop, value)?)),
             FollowLine::Now { t } => Ok(Heard::Text(self.now(t)?)),
             FollowLine::Await { t, prop } => Ok(Heard::Text(self.await_outcome(t, prop)?)),
-            FollowLine::Edit(line) => Ok(Heard::Text(self.edit(line)?)),
+            FollowLine::Edit(line) => Ok(Heard::Text(self.answer_edit(line)?)),
             FollowLine::Deadline { ticks } => Ok(Heard::Text(self.end_by(ticks)?)),
             FollowLine::Next => Ok(Heard::Text(self.next()?)),
             FollowLine::By { name } => Ok(Heard::Text(self.by(name.as_str())?)),
@@ -60,7 +60,7 @@ impl Following {
     }
 
     // What is said to an edit or a check.
-    fn edit(&mut self, line: EditLine) -> Result<Vec<u8>, AllocError>
+    fn answer_edit(&mut self, line: EditLine) -> Result<Vec<u8>, AllocError>
         ensures says { IfOk result (λ text. on_plan (the_following self.old) (the_edit line) ≡ says text.items (the_following self.new)) }
         ensures same { OnErr result (self.new ≡ self.old) }
     {
