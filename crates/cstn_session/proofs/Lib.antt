@@ -2,3 +2,5 @@
 pub mod Found
 -- What facts make of a session.
 pub mod Told
+-- What edits make of it.
+pub mod Changed
