@@ -13,4 +13,6 @@ pub enum Event {
     Expected(Prop),
     /// The constraint with this id gets another value, in ticks.
     Revalued { id: u32, most: i32 },
+    /// The deadline is this moment.
+    Due(u32),
 }

@@ -9,10 +9,11 @@ use crate::plans::CAP;
 use crate::printing::{print_blame, print_event, print_latest, print_outlook};
 use anyhow::bail;
 use cstn_change::Change;
+use cstn_check::Verdict;
 use cstn_label::NodeId;
 use cstn_lift::Labelled;
 use cstn_log::Cap;
-use cstn_net::Network;
+use cstn_net::{MAX_DEADLINE, Network};
 use cstn_session::{Outlook, Session};
 use cstn_text::Names;
 use std::alloc::Global;
@@ -26,10 +27,11 @@ const LATE: [(u32, Event); 5] = [
     (42, Event::Executed(FILL)),
 ];
 
-// The result is 6 minutes early.
-const EARLY: [(u32, Event); 3] = [
+// The result is 6 minutes early, and all is to be done within 20 minutes then.
+const EARLY: [(u32, Event); 4] = [
     (0, Event::Executed(SAMPLE)),
     (4, Event::Observed(SOUR, false)),
+    (4, Event::Due(20)),
     (15, Event::Executed(FILL)),
 ];
 
@@ -106,8 +108,17 @@ fn record(session: &mut Session, moment: u32, event: Event) -> anyhow::Result<()
         Event::Observed(p, value) => session.saw(moment, p, value)?,
         Event::Expected(p) => session.expect(moment, p)?,
         Event::Revalued { id, most } => session.edit(Change::Revalue { id, most })?,
+        Event::Due(deadline) => set_deadline(session, deadline)?,
     };
     Ok(())
+}
+
+// Sets the deadline. Refused where it is above 1,000,000.
+fn set_deadline(session: &mut Session, deadline: u32) -> anyhow::Result<Verdict> {
+    if deadline > MAX_DEADLINE {
+        bail!("the deadline {deadline} is above {MAX_DEADLINE}");
+    }
+    Ok(session.deadline(deadline)?)
 }
 
 // Tells how the plan stands: what is next, and until when each time-point that is named can wait; or what is to blame.
