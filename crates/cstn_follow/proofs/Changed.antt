@@ -1,119 +1,95 @@
--- Networks that are changed stay in order.
-use Rattle.std.proofs.Common.{ℕ, ℤ, ◌≡◌, ◌+◌, ◌<◌, ◌≤◌, Bool, true, false, not, List, ◌∷◌, [], length, map, get_or, Option, Some, None, arith, refl, inl, inr, length-append}
-use Rattle.std.specs.Prelude.{◌==◌, nat_le, if◌then◌else◌}
+-- What edits of the network make of a session.
+use Rattle.std.proofs.Common.{ℕ, ◌≡◌, ◌<◌, ◌≤◌, ◌+◌, ◌^◌, inl, List, Option, Some, None, IfNone, IfSome, length, refl, sym, subst, ap, ◌∙◌}
+use Rattle.std.specs.Prelude.{Result, Ok, Err}
 use Rattle.std.specs.List.{All}
-use Rattle.std.specs.Option.{option_map}
-use Rattle.std.proofs.lemmas.Bool.{cases_Bool, not-false, leb-false}
-use Rattle.std.proofs.lemmas.List.{length-map}
-use Rattle.std.proofs.lemmas.List.Elements.{All-filter, All-map, All-push, All-weaker}
-use Rattle.std.proofs.lemmas.List.Filters.{length-filter_both}
-use Rattle.std.proofs.lemmas.List.Kept.{AllPairs-filter}
-use Rattle.std.proofs.lemmas.List.Quantifiers.{all_pairs_push}
-use Rattle.cstn_facts.proofs.Pairs.{pairs_map}
 use Rattle.cstn_label.specs.Labels.{Label}
-use Rattle.cstn_label.specs.Marks.{is_plain}
-use Rattle.cstn_label.specs.OnLetters.{IsOnLetters}
-use Rattle.cstn_label.proofs.PlainLabels.{true_plain}
 use Rattle.cstn_net.specs.Limits.{most_constraints, most_edits}
-use Rattle.cstn_net.specs.Networks.{Network, Constraint, IsConstraint, IsValue, IsWellFormed}
-use Rattle.cstn_net.proofs.WellFormed.{well_formed_with}
-use Rattle.cstn_change.specs.Changes.{EditedNetwork, Change, adds, removes, revalues, refusal, is_value, has_constraint, least_unobserved, with_value, new_constraint, constraints_after, IsBetween, CanAdd, CanChange}
-use Rattle.cstn_change.proofs.IdLemmas.{value_id}
-use Rattle.cstn_change.proofs.RefusalLemmas.{true_value, on_observed}
+use Rattle.cstn_net.specs.Networks.{Network, Constraint}
+use Rattle.cstn_lift.specs.Labelled.{Labelled}
+use Rattle.cstn_lift.specs.Lowered.{lowered}
+use Rattle.cstn_lift.specs.Read.{LabelledParts, the_labelled}
+use Rattle.cstn_check.specs.declared.verdicts.Verdict.{Verdict}
+use Rattle.cstn_history.specs.declared.errors.RestError.{RestError}
+use Rattle.cstn_history.specs.declared.errors.RestError.TheVariants.{TooManyConstraints as AreTooMany, Memory as OutOfMemory}
+use Rattle.cstn_history.specs.Histories.{edited}
+use Rattle.cstn_history.specs.Read.{HistoryParts, the_history, IsKeptFor}
+use Rattle.cstn_change.specs.Changes.{EditedNetwork, Change, Refusal, edited_base, after, constraints_after, fresh_after}
+use Rattle.cstn_follow.specs.Following.{verdict_left}
+use Rattle.cstn_follow.proofs.Edited.{left_many}
+use Rattle.cstn_follow.specs.declared.errors.ReplanError.{ReplanError}
+use Rattle.cstn_follow.specs.declared.findings.Finding.{Finding}
+use Rattle.cstn_follow.specs.Executions.{ExecutionParts, IsExecution}
+use Rattle.cstn_follow.specs.Findings.{verdict_of}
+use Rattle.cstn_follow.specs.Sessions.{SessionParts, IsSession, followed}
+use Rattle.cstn_follow.specs.Replans.{Replans, MakesChange, edited_now, with_due, replanned, verdict_replanned, change_refused, unreplanned}
 
-none_refused : {X : Type 0} (b : Bool) (r : X) (o : Option X) → (if b then Some r else o) ≡ None → (b ≡ false) × (o ≡ None)
-none_refused true r o e = absurd (cc)
-none_refused false r o e = (refl, e)
+-- a labelled network of this network, with these labels
+abbrev labelled_on : Network → List Label → Labelled
+labelled_on net labels = record { base = net; labels = labels }
 
-refused_unless : {X : Type 0} (b : Bool) (r : X) → (if b then None else Some r) ≡ None → b ≡ true
-refused_unless true r e = refl
-refused_unless false r e = absurd (cc)
+-- a network with the labels of that of a session is the one as edited
+pub labels_stay : (s : SessionParts) (l : LabelledParts) (fresh edits : ℕ) → (the_labelled l).labels ≡ (the_labelled s.network).labels
+    → the_labelled l ≡ replanned s (edited_base (the_labelled l) fresh edits)
+labels_stay s l fresh edits same = ap (labelled_on (the_labelled l).base) same
 
-none_mapped : {X Y : Type 0} (f : X → Y) (o : Option X) → option_map f o ≡ None → o ≡ None
-none_mapped f None e = refl
-none_mapped f (Some x) e = absurd (cc)
+-- without a check of what would be left nothing is edited
+pub not_replanned : (e : EditedNetwork) (old : SessionParts) (error : RestError) → (error ≡ AreTooMany → verdict_replanned old e ≡ None)
+    → Replans e old old (Err error)
+not_replanned e old AreTooMany none = (none refl, refl)
+not_replanned e old (OutOfMemory error) none = refl
 
--- the label of a constraint that is added names letters alone
-abbrev pub IsOfLetters : Change → Type 0
-IsOfLetters (adds from to most a) = IsOnLetters a
-IsOfLetters (removes id) = Unit {0}
-IsOfLetters (revalues id most) = Unit {0}
+-- what is found of the network as edited comes in its place
+module _ (x y : ExecutionParts) (network : LabelledParts) (fresh cap edits later : ℕ) (f g : Finding) where
+  pub replanned_by : (v : Verdict) → y ≡ record x { network = network; fresh = fresh } → (the_labelled network).labels ≡ (the_labelled x.network).labels
+      → v ≡ verdict_of g → verdict_left (the_labelled network) (the_history x.history) fresh cap ≡ Some (verdict_of g)
+      → Replans (edited_base (the_labelled network) fresh later) (followed x cap edits f) (followed y cap later g) (Ok v)
+  replanned_by v is same said found =
+      let e : EditedNetwork = edited_base (the_labelled network) fresh later in
+      let old : SessionParts = followed x cap edits f in
+      let new : ExecutionParts = record x { network = network; fresh = fresh } in
+      let labels = labels_stay old network fresh later same in
+      let verdict = ap (λ (m : Labelled). verdict_left m (the_history x.history) fresh cap) (sym labels) ∙ found in
+      subst (λ (z : ExecutionParts). Replans e old (followed z cap later g) (Ok v)) (sym is)
+      (subst (λ (u : Verdict). Replans e old (followed new cap later g) (Ok u)) (sym said) (labels, refl, verdict))
 
--- a change that isn't refused can be made
-module _ (e : EditedNetwork) where
-  can_add : (from to : ℕ) (most : ℤ) (a : Label) → IsOnLetters a → refusal most_constraints e (adds from to most a) ≡ None → CanAdd most_constraints e.net most a
-  can_add from to most a letters none =
-      let one = none_refused (nat_le most_edits e.edits) _ _ none in
-      let two = none_refused (nat_le most_constraints (length e.net.constraints)) _ _ one.1 in
-      let three = none_refused (not (is_value most)) _ _ two.1 in
-      let four = none_refused (not (is_plain a)) _ _ three.1 in
-      record {
-        room = leb-false most_constraints (length e.net.constraints) two.0;
-        value = true_value most (not-false (is_value most) three.0);
-        plain = true_plain a letters (not-false (is_plain a) four.0);
-        observed = on_observed e.net a letters (none_mapped _ (least_unobserved e.net a) four.1);
-      }
+-- an edit is told by the same network as edited
+pub replans_same : (e same : EditedNetwork) (old new : SessionParts) (r : Result Verdict RestError) → e ≡ same → Replans same old new r → Replans e old new r
+replans_same e same old new r is replans = subst (λ (n : EditedNetwork). Replans n old new r) (sym is) replans
 
-  can_revalue : (id : ℕ) (most : ℤ) → refusal most_constraints e (revalues id most) ≡ None → IsValue most
-  can_revalue id most none =
-      let one = none_refused (nat_le most_edits e.edits) _ _ none in
-      let two = none_refused (not (has_constraint e.net id)) _ _ one.1 in
-      true_value most (refused_unless (is_value most) _ two.1)
+-- ---- the network as edited
 
-  pub can_change : (change : Change) → IsOfLetters change → refusal most_constraints e change ≡ None → CanChange most_constraints e.net change
-  can_change (adds from to most a) letters none = can_add from to most a letters none
-  can_change (removes id) letters none = tt
-  can_change (revalues id most) letters none = can_revalue id most none
+module _ (s : SessionParts) (m : Labelled) where
+  abbrev TheNetwork : Labelled
+  TheNetwork = the_labelled s.network
 
--- and leads to a network in order
-module _ (net : Network) (good : IsWellFormed net) where
-  abbrev cs : List Constraint
-  cs = net.constraints
+  -- a change is made
+  pub change_is : (change : Change) (fresh edits : ℕ)
+      → m ≡ edited TheNetwork TheNetwork.base.deadline (constraints_after TheNetwork.base.constraints s.fresh change)
+      → fresh ≡ fresh_after s.fresh change → edits ≡ s.edits + 1 → after (edited_now s) change ≡ edited_base m fresh edits
+  change_is change fresh edits is next one_more =
+      let made = edited TheNetwork TheNetwork.base.deadline (constraints_after TheNetwork.base.constraints s.fresh change) in
+      ap (λ (n : Labelled). edited_base n (fresh_after s.fresh change) (s.edits + 1)) (sym is)
+      ∙ ap (λ (n : ℕ). edited_base m n (s.edits + 1)) (sym next) ∙ ap (λ (n : ℕ). edited_base m fresh n) (sym one_more)
 
-  added_in_order : (fresh from to : ℕ) (most : ℤ) (a : Label) → All (λ c. c.id < fresh) cs → IsBetween net (adds from to most a)
-      → CanAdd most_constraints net most a → IsWellFormed (record net { constraints = constraints_after cs fresh (adds from to most a) })
-  added_in_order fresh from to most a above between can =
-      let c = new_constraint fresh from to most a in
-      well_formed_with net (constraints_after cs fresh (adds from to most a)) good
-      (let long = length-append cs (c ∷ []) in let less = can.room in omega arith)
-      (All-push (IsConstraint net) cs c good.network.constraints
-      (record { from = between.0; to = between.1; plain = can.plain; observed = can.observed }))
-      (all_pairs_push (λ b d. b.id < d.id) cs c good.ascending above)
-      (All-push (λ d. IsValue d.most) cs c good.values can.value)
+  -- the deadline is set
+  pub due_is : (deadline fresh edits : ℕ) → m ≡ edited TheNetwork deadline TheNetwork.base.constraints → fresh ≡ s.fresh → edits ≡ s.edits
+      → with_due (edited_now s) deadline ≡ edited_base m fresh edits
+  due_is deadline fresh edits is same_fresh same_edits =
+      ap (λ (n : Labelled). edited_base n s.fresh s.edits) (sym is)
+      ∙ ap (λ (n : ℕ). edited_base m n s.edits) (sym same_fresh) ∙ ap (λ (n : ℕ). edited_base m fresh n) (sym same_edits)
 
-  removed_in_order : (fresh id : ℕ) → IsWellFormed (record net { constraints = constraints_after cs fresh (removes id) })
-  removed_in_order fresh id =
-      let test : Constraint → Bool = λ c. not (c.id == id) in
-      well_formed_with net (constraints_after cs fresh (removes id)) good
-      (let both = length-filter_both (λ (c : Constraint). c.id == id) test (λ c. refl) cs in let few = good.few_constraints in omega arith)
-      (All-filter test (IsConstraint net) cs good.network.constraints)
-      (AllPairs-filter (λ b c. b.id < c.id) test cs good.ascending)
-      (All-filter test (λ c. IsValue c.most) cs good.values)
+-- there is no verdict where the network as edited has too many constraints, lowered
+pub too_many_edited : (s : SessionParts) (e : EditedNetwork) → most_constraints < length (lowered (replanned s e)).constraints → verdict_replanned s e ≡ None
+too_many_edited s e many = left_many (replanned s e) (the_history s.history) e.fresh s.cap (inl many)
 
-  one_with : (id : ℕ) (most : ℤ) (c : Constraint) → IsConstraint net c → IsConstraint net (with_value id most c)
-  one_with id most c h = elim (cases_Bool (c.id == id)) [
-    | inl t ↦ rw t (record { from = h.from; to = h.to; plain = h.plain; observed = h.observed })
-    | inr f ↦ rw f h
-  ]
+-- ---- changes
 
-  value_with : (id : ℕ) (most : ℤ) (c : Constraint) → IsValue most → IsValue c.most → IsValue (with_value id most c).most
-  value_with id most c new old = elim (cases_Bool (c.id == id)) [ inl t ↦ rw t new | inr f ↦ rw f old ]
+-- a change that is refused isn't made
+pub made_by : (change : Change) (old new : SessionParts) (v : Verdict) → change_refused old change ≡ None
+    → Replans (after (edited_now old) change) old new (Ok v) → MakesChange change old new (Ok v)
+made_by change old new v none replans = (none, replans)
 
-  revalued_in_order : (fresh id : ℕ) (most : ℤ) → IsValue most → IsWellFormed (record net { constraints = constraints_after cs fresh (revalues id most) })
-  revalued_in_order fresh id most value =
-      let f : Constraint → Constraint = with_value id most in
-      well_formed_with net (map f cs) good
-      (let same = length-map cs f in let few = good.few_constraints in omega arith)
-      (All-map (IsConstraint net) f cs (All-weaker _ _ (one_with id most) cs good.network.constraints))
-      (pairs_map (λ b c. b.id < c.id) f cs (λ i j d before inside.
-      let ordered = good.ascending i j d before inside in
-      let one = value_id id most (get_or cs i d) in
-      let other = value_id id most (get_or cs j d) in
-      omega arith))
-      (All-map (λ c. IsValue c.most) f cs (All-weaker _ _ (λ c. value_with id most c value) cs good.values))
-
-  pub changed_in_order : (fresh : ℕ) (change : Change) → All (λ c. c.id < fresh) cs → IsBetween net change → CanChange most_constraints net change
-      → IsWellFormed (record net { constraints = constraints_after cs fresh change })
-  changed_in_order fresh (adds from to most a) above between can = added_in_order fresh from to most a above between can
-  changed_in_order fresh (removes id) above between can = removed_in_order fresh id
-  changed_in_order fresh (revalues id most) above between can = revalued_in_order fresh id most can
+pub not_made : (change : Change) (old new : SessionParts) (error : RestError) → change_refused old change ≡ None
+    → Replans (after (edited_now old) change) old new (Err error) → MakesChange change old new (Err (unreplanned error))
+not_made change old new AreTooMany none replans = (none, replans)
+not_made change old new (OutOfMemory error) none replans = replans

@@ -1,7 +1,7 @@
 -- What a check of what is left found, and what its verdict says.
-use Rattle.std.proofs.Common.{ℕ, Bool, true, false, refl, ◌≡◌, ◌<◌, ◌≤◌, inl, inr, Some, None, length, ap, sym, subst, ◌∙◌, arith}
+use Rattle.std.proofs.Common.{ℕ, Bool, true, false, refl, ◌≡◌, ◌<◌, ◌≤◌, ◌+◌, ◌^◌, inl, inr, Some, None, length, ap, sym, subst, ◌∙◌, arith}
 use Rattle.std.specs.Prelude.{◌&&◌, nat_lt}
-use Rattle.cstn_net.specs.Limits.{most_constraints}
+use Rattle.cstn_net.specs.Limits.{most_constraints, most_edits}
 use Rattle.cstn_net.specs.Networks.{Network}
 use Rattle.cstn_net.specs.Read.{the_network}
 use Rattle.cstn_lift.specs.Labelled.{Labelled}
@@ -60,6 +60,18 @@ followed_session e cap edits finding good = record {
   verdict = good.verdict;
 }
 
+-- what is carried out, with what was found of what is left of it, is followed as it is to be
+pub is_followed : (e y : ExecutionParts) (cap edits : ℕ) (f : Finding) → y ≡ e → IsExecution y → edits ≤ most_edits → e.fresh ≤ 2 ^ 31 + edits
+    → IsFindingOn cap (lowered (left_of e)) f → verdict_left (the_labelled e.network) (the_history e.history) e.fresh cap ≡ Some (verdict_of f)
+    → IsFollowed y cap edits f
+is_followed e y cap edits f is execution few low found verdict = record {
+  execution = execution;
+  few_edits = few;
+  low = subst (λ (z : ExecutionParts). z.fresh ≤ 2 ^ 31 + edits) (sym is) low;
+  found = subst (λ (z : ExecutionParts). IsFindingOn cap (lowered (left_of z)) f) (sym is) found;
+  verdict = subst (λ (z : ExecutionParts). verdict_left (the_labelled z.network) (the_history z.history) z.fresh cap ≡ Some (verdict_of f)) (sym is) verdict;
+}
+
 timely : (e : ExecutionParts) → IsExecution e → IsTimelyHistory (the_labelled e.network) (the_history e.history)
 timely e good = record { history = good.kept.history; in_time = good.kept.in_time }
 
@@ -74,6 +86,10 @@ right_verdict s (No load) good is =
 right_verdict s Full good is =
     full_is_above (the_labelled s.network) (the_history s.history) s.fresh s.cap good.execution.labelled (timely (execution_of s) good.execution)
     good.execution.above (good.verdict ∙ ap (λ v. Some v) is)
+
+pub found_right : (e : ExecutionParts) (cap edits : ℕ) (f : Finding) (v : Verdict) → IsFollowed e cap edits f → v ≡ verdict_of f
+    → IsRightVerdict (followed e cap edits f) v
+found_right e cap edits f v good is = right_verdict (followed e cap edits f) v (followed_session e cap edits f good) (sym is)
 
 -- there is room for what is left
 pub room_left : (s : SessionParts) → IsSession s → HasRoom (rest (the_labelled s.network) (the_history s.history) s.fresh)
@@ -99,8 +115,8 @@ left_in_order s good =
     (timely (execution_of s) good.execution) good.execution.above
 
 -- a plan of what is left is one for the parts of the session
-pub planned_left : (s : SessionParts) (network : LabelledParts) (history : HistoryParts) (net : Network) → IsSession s → network ≡ s.network → history ≡ s.history
-    → net ≡ lowered (left_of (execution_of s)) → (fresh : ℕ) × IsLabelled (rest (the_labelled network) (the_history history) fresh)
+pub planned_left : (s : SessionParts) (network : LabelledParts) (history : HistoryParts) (net : Network) → IsSession s → network ≡ s.network
+    → history ≡ s.history → net ≡ lowered (left_of (execution_of s)) → (fresh : ℕ) × IsLabelled (rest (the_labelled network) (the_history history) fresh)
     × (net ≡ lowered (rest (the_labelled network) (the_history history) fresh))
 planned_left s network history net good is_network is_history is =
     subst (λ (h : HistoryParts). (fresh : ℕ) × IsLabelled (rest (the_labelled network) (the_history h) fresh)

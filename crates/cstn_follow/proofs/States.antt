@@ -55,7 +55,7 @@ use Rattle.cstn_follow.specs.PlanLines.{edited_network, on_refusal, on_edit, on_
 use Rattle.cstn_follow.specs.Questions.{next_after, check_after}
 use Rattle.cstn_follow.specs.Searches.{by_number, by_unless, by_after, by_refusal, blame_after}
 use Rattle.cstn_follow.specs.Hearing.{on_plan, on_other, on_line, counted, hear}
-use Rattle.cstn_follow.proofs.Changed.{IsOfLetters, can_change, changed_in_order}
+use Rattle.cstn_follow.proofs.InOrder.{IsOfLetters, can_change, changed_in_order}
 use Rattle.cstn_follow.proofs.Edited.{left_fits, within_is}
 use Rattle.cstn_follow.proofs.GoesOn.{yes_can, no_cannot, full_is_above}
 use Rattle.cstn_follow.proofs.Recording.{saw_said, await_said}
