@@ -19,7 +19,7 @@ use Rattle.cstn_reply.specs.Texts.{line}
 use Rattle.cstn_follow.specs.declared.errors.FollowError.{FollowError}
 use Rattle.cstn_follow.specs.declared.errors.FollowError.TheVariants.{Refused, TooManyConstraints, Memory}
 use Rattle.cstn_follow.specs.declared.errors.ReplanError.TheVariants.{Refused as IsRefusedEdit, TooManyConstraints as HasTooMany}
-use Rattle.cstn_follow.specs.Following.{Following, says, too_many, verdict_within, on_verdict}
+use Rattle.cstn_follow.specs.Following.{Following, says, too_many, verdict_line, verdict_within, on_verdict}
 use Rattle.cstn_follow.specs.FactLines.{unless_refused, refused_fact, on_result, on_fact, on_outcome}
 use Rattle.cstn_follow.specs.PlanLines.{edited_network, replanned, on_refusal, on_edit, on_deadline}
 use Rattle.cstn_follow.specs.Read.{FollowingParts, following_of, the_following}
@@ -66,10 +66,10 @@ module _ (names : List (List ℕ)) (lines : ℕ) where
   lines_of s = the_following (following_of s names lines)
 
   pub facts_said : (told : Result History FactError) (old new : SessionParts) (r : Result Verdict FollowError) (text : List ℕ) → Records told old new r
-      → IsSaidOf names old.cap r text → on_result (lines_of old) told ≡ says text (lines_of new)
+      → IsSaidOf names new.cap r text → on_result (lines_of old) told ≡ says text (lines_of new)
   facts_said told old new (Ok v) text records said =
       ap (on_result (lines_of old)) records.0
-      ∙ recorded_some (lines_of old) (the_history new.history) text v records.2 said
+      ∙ recorded_some (lines_of old) (the_history new.history) text v records.2 (said ∙ ap (λ (s : SessionParts). verdict_line s.cap v) records.1)
       ∙ ap (λ (s : SessionParts). says text (lines_of s)) (sym records.1)
   facts_said told old new (Err (Refused e)) text records said =
       ap (on_result (lines_of old)) records.0

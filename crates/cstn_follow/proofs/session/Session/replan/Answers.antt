@@ -5,12 +5,12 @@ use Rattle.cstn_lift.specs.Read.{the_labelled}
 use Rattle.cstn_history.specs.Read.{the_history}
 use Rattle.cstn_change.specs.Changes.{EditedNetwork, edited_base}
 use Rattle.cstn_follow.specs.Following.{verdict_left}
-use Rattle.cstn_session.specs.Executions.{ExecutionParts}
-use Rattle.cstn_session.specs.Replans.{Replans}
-use Rattle.cstn_session.specs.Sessions.{SessionParts, followed}
-use Rattle.cstn_session.proofs.Found.{is_followed, found_right}
-use Rattle.cstn_session.proofs.Changed.{labels_stay, not_replanned, replanned_by}
-use Rattle.cstn_session.proofs.session.Session.replan.Goals as goal
+use Rattle.cstn_follow.specs.Executions.{ExecutionParts}
+use Rattle.cstn_follow.specs.Replans.{Replans}
+use Rattle.cstn_follow.specs.Sessions.{SessionParts, followed}
+use Rattle.cstn_follow.proofs.Found.{is_followed, found_right}
+use Rattle.cstn_follow.proofs.Changed.{labels_stay, not_replanned, replanned_by}
+use Rattle.cstn_follow.proofs.session.Session.replan.Goals as goal
 
 pub returns-in-Err-clause-replanned : goal.returns-in-Err-clause-replanned
 returns-in-Err-clause-replanned c =
