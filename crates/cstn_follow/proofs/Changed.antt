@@ -13,6 +13,7 @@ use Rattle.cstn_history.specs.declared.errors.RestError.{RestError}
 use Rattle.cstn_history.specs.declared.errors.RestError.TheVariants.{TooManyConstraints as AreTooMany, Memory as OutOfMemory}
 use Rattle.cstn_history.specs.Histories.{edited}
 use Rattle.cstn_history.specs.Read.{HistoryParts, the_history, IsKeptFor}
+use Rattle.cstn_history.proofs.Edited.{timely_edited}
 use Rattle.cstn_change.specs.Changes.{EditedNetwork, Change, Refusal, edited_base, after, constraints_after, fresh_after}
 use Rattle.cstn_follow.specs.Following.{verdict_left}
 use Rattle.cstn_follow.proofs.Edited.{left_many}
@@ -78,7 +79,16 @@ module _ (s : SessionParts) (m : Labelled) where
       ap (λ (n : Labelled). edited_base n s.fresh s.edits) (sym is)
       ∙ ap (λ (n : ℕ). edited_base m n s.edits) (sym same_fresh) ∙ ap (λ (n : ℕ). edited_base m fresh n) (sym same_edits)
 
--- there is no verdict where the network as edited has too many constraints, lowered
+-- what has happened is kept for it
+pub kept_replanned : (s : SessionParts) (m : Labelled) (deadline : ℕ) (cs : List Constraint) → IsSession s → m ≡ edited (the_labelled s.network) deadline cs
+    → IsKeptFor m s.history
+kept_replanned s m deadline cs good is =
+    let kept = good.execution.kept in
+    let timely = timely_edited (the_labelled s.network) (the_history s.history) deadline cs kept.history kept.in_time in
+    subst (λ (n : Labelled). IsKeptFor n s.history) (sym is)
+    (record { one_each = kept.one_each; wide = kept.wide; history = timely.history; in_time = timely.in_time })
+
+-- there is no verdict where it has too many constraints, lowered
 pub too_many_edited : (s : SessionParts) (e : EditedNetwork) → most_constraints < length (lowered (replanned s e)).constraints → verdict_replanned s e ≡ None
 too_many_edited s e many = left_many (replanned s e) (the_history s.history) e.fresh s.cap (inl many)
 

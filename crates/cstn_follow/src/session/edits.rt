@@ -14,7 +14,7 @@ use super::Session;
 use crate::errors::ReplanError;
 use cstn_change::{Change, EditError, changed, ids_stay_below, refusal, with_deadline};
 use cstn_check::Verdict;
-use cstn_history::{RestError, edits_keep_histories};
+use cstn_history::RestError;
 use cstn_lift::Labelled;
 use cstn_net::MAX_CONSTRAINTS;
 
@@ -36,14 +36,14 @@ impl Session {
         }
     }
 
-    /// Sets the deadline, in ticks, which is no counted edit. Gives the verdict on what is left then, or refuses with
-    /// `TooManyConstraints` (F8), and then nothing has changed.
+    /// Sets the deadline, in ticks, which is no counted edit. Gives the verdict on what is left then, or refuses, and then nothing has
+    /// changed: with `TooManyConstraints` (F8) where the network, lowered, or what is left of it then, or that lowered, has more than
+    /// 16,384 constraints.
     pub fn deadline(&mut self, deadline: u32) -> Result<Verdict, RestError>
         requires range { deadline ≤ most_deadline }
         ensures due { Replans (with_due (edited_now self.old) deadline) self.old self.new result }
         ensures right { IfOk result (IsRightVerdict self.new) }
     {
-        edits_keep_histories();
         let network = match with_deadline(self.alloc, self.network(), deadline) {
             Ok(network) => network,
             Err(e) => return Err(RestError::Memory(e)),
@@ -76,7 +76,6 @@ impl Session {
         ensures edited { Replans (after (edited_now self.old) (the_change change)) self.old self.new result }
         ensures right { IfOk result (IsRightVerdict self.new) }
     {
-        edits_keep_histories();
         ids_stay_below();
         let network = match changed(self.alloc, self.network(), self.fresh(), change) {
             Ok(network) => network,
