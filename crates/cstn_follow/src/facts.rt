@@ -4,7 +4,7 @@ ghost use Rattle.std.specs.List.{cons_option};
 ghost use Rattle.std.specs.Option.{option_map};
 ghost use Rattle.cstn_net.specs.Limits.{most_time_points};
 ghost use Rattle.cstn_lift.specs.Read.{the_labelled};
-ghost use Rattle.cstn_history.specs.Read.{the_history, IsKeptFor};
+ghost use Rattle.cstn_history.specs.Read.{the_history, IsKeptFor, the_fact_refusal};
 ghost use Rattle.cstn_follow.specs.Following.{says};
 ghost use Rattle.cstn_follow.specs.FactLines.{refuses, records, all_done, unknown_of, node_named, nodes_of, on_did, on_saw, on_now, on_await};
 ghost use Rattle.cstn_follow.specs.Read.{the_following};
@@ -86,7 +86,7 @@ impl Following {
 
     // Says that a fact is refused.
     fn refuse(&self, error: FactError) -> Result<Vec<u8>, AllocError>
-        ensures says { IfOk result (λ text. refuses (the_following self.now) error ≡ says text.items (the_following self.now)) }
+        ensures says { IfOk result (λ text. refuses (the_following self.now) (the_fact_refusal error) ≡ says text.items (the_following self.now)) }
     {
         refused_fact(self.alloc, &self.names, error)
     }
@@ -156,7 +156,7 @@ fn execute_all(
 ) -> Result<(), FactError>
     requires kept { IsKeptFor (the_labelled network.now) history.old }
     ensures done { IfOk result (λ _. all_done (the_labelled network.now) moment (the_history history.old) nodes.now ≡ Ok (the_history history.new)) }
-    ensures refused { IfErr result (λ e. all_done (the_labelled network.now) moment (the_history history.old) nodes.now ≡ Err e) }
+    ensures refused { IfErr result (λ e. all_done (the_labelled network.now) moment (the_history history.old) nodes.now ≡ Err (the_fact_refusal e)) }
     ensures kept { IsKeptFor (the_labelled network.now) history.new }
 {
     for x in nodes {

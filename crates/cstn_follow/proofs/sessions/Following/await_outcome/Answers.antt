@@ -12,4 +12,4 @@ returns-in-Ok-clause-says c =
     let same = ap the_history (c.in_ok-later.ensures.equal ∙ ap (λ (v : FollowingParts). v.history) c.self.view_is) in
     IfOk-weaker c.record.result _ _
     (λ text said. await_accepted (the_following c.args.self.now) (the_labelled c.self.inside.network) (the_history c.in_ok-later.later) (the_history c.expect.new.self)
-    c.args.moment c.args.p network same c.in-Ok.ensures.refused c.in-Ok.ensures.recorded ∙ said) c.record.ensures.says
+    c.args.moment c.args.p.index network same c.in-Ok.ensures.refused c.in-Ok.ensures.recorded ∙ said) c.record.ensures.says
