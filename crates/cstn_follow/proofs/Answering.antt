@@ -15,10 +15,8 @@ use Rattle.cstn_refute.specs.Texts.{shown}
 use Rattle.cstn_check.specs.Growth.{log_of, live_bounds}
 use Rattle.cstn_check.specs.declared.verdicts.Verdict.{Verdict}
 use Rattle.cstn_check.specs.declared.verdicts.Verdict.TheVariants.{Yes, No, Full}
-use Rattle.cstn_history.specs.declared.errors.FactError.{FactError}
-use Rattle.cstn_history.specs.declared.errors.FactError.TheVariants.{OutOfRange, Done, Undecided}
 use Rattle.cstn_history.specs.Histories.{History, allows}
-use Rattle.cstn_history.specs.Facts.{is_beyond, now_refusal, at_now, with_told, with_expected}
+use Rattle.cstn_history.specs.Facts.{FactRefusal, OutOfRange, Done, Undecided, is_beyond, now_refusal, told_refusal, expected_refusal, at_now, with_told, with_expected}
 use Rattle.cstn_history.specs.Rest.{is_left, left, sight_left}
 use Rattle.cstn_next.specs.Next.{next_moment, named, awaited}
 use Rattle.cstn_text.specs.Names.{number_of}
@@ -31,7 +29,6 @@ use Rattle.cstn_reply.specs.Texts.{line}
 use Rattle.cstn_reply.specs.Written.{EndsLine}
 use Rattle.cstn_follow.specs.Following.{Following, Heard, says, saves, left_now, name_at, names_left, verdict_now, verdict_within, verdict_line, on_verdict}
 use Rattle.cstn_follow.specs.FactLines.{refused_fact, unknown_name, refuses, records, on_result, all_done, nodes_of, unknown_of, on_known, on_did, on_fact}
-use Rattle.cstn_follow.specs.FactLines.{on_outcome, saw_refusal, await_refusal, node_of}
 use Rattle.cstn_follow.specs.PlanLines.{edited_network, replanned, on_refusal, on_edit, on_deadline}
 use Rattle.cstn_follow.specs.Replans.{with_due}
 use Rattle.cstn_follow.specs.Questions.{tells_verdict, next_text, next_at, next_after, check_after, on_rest}
@@ -68,10 +65,10 @@ module _ (s : Following) where
   records_keeps : (h : History) → Keeps s.names (records s h)
   records_keeps h = verdict_keeps (record s { history = h }) (verdict_line s.cap) refl (verdict_ends s.cap) (verdict_within (record s { history = h }))
 
-  refuses_keeps : (e : FactError) → Keeps s.names (refuses s e)
+  refuses_keeps : (e : FactRefusal) → Keeps s.names (refuses s e)
   refuses_keeps e = (refl, ends (refused_fact s.names e))
 
-  result_keeps : (r : Result History FactError) → Keeps s.names (on_result s r)
+  result_keeps : (r : Result History FactRefusal) → Keeps s.names (on_result s r)
   result_keeps (Err e) = refuses_keeps e
   result_keeps (Ok h) = records_keeps h
 
@@ -86,13 +83,9 @@ module _ (s : Following) where
   did_keeps : (t : ℕ) (given : List (List ℕ)) → Keeps s.names (on_did s t given)
   did_keeps t given = did_by t given (is_beyond t)
 
-  fact_keeps : (o : Option FactError) (h : History) → Keeps s.names (on_fact s o h)
+  fact_keeps : (o : Option FactRefusal) (h : History) → Keeps s.names (on_fact s o h)
   fact_keeps None h = records_keeps h
   fact_keeps (Some e) h = refuses_keeps e
-
-  outcome_keeps : (o : Option (List ℕ)) (h : History) → Keeps s.names (on_outcome s o h)
-  outcome_keeps None h = records_keeps h
-  outcome_keeps (Some refusal) h = (refl, ends refusal)
 
   -- ---- edits
 
@@ -156,13 +149,13 @@ module _ (s : Following) where
   by_place x true = by_keeps x (verdict_now s)
   by_place x false = (refl, ends (codes "refused F8"))
 
-  by_possible : (x : ℕ) (b : Bool) → Keeps s.names (by_unless s x (if not b then Some (line (refused_fact s.names (Undecided (node_of x))))
+  by_possible : (x : ℕ) (b : Bool) → Keeps s.names (by_unless s x (if not b then Some (line (refused_fact s.names (Undecided x)))
       else if has_place (left_now s).base && has_place (lowered (left_now s)) then None else Some (line (codes "refused F8"))))
   by_possible x true = by_place x (has_place (left_now s).base && has_place (lowered (left_now s)))
-  by_possible x false = (refl, ends (refused_fact s.names (Undecided (node_of x))))
+  by_possible x false = (refl, ends (refused_fact s.names (Undecided x)))
 
   by_refused : (x : ℕ) (o : Option ℕ) → Keeps s.names (by_unless s x (by_refusal s x o))
-  by_refused x (Some t) = (refl, ends (refused_fact s.names (Done (node_of x) t)))
+  by_refused x (Some t) = (refl, ends (refused_fact s.names (Done x t)))
   by_refused x None = by_possible x (allows s.history (completed_label s.network x))
 
   by_named : (name : List ℕ) (o : Option ℕ) → Keeps s.names (by_number s name o)
@@ -207,9 +200,9 @@ module _ (s : Following) where
   line_keeps : 0 < count s.network.base → length s.names ≡ count s.network.base → (o : Option Follow) → Keeps s.names (on_line s o)
   line_keeps some long None = other_keeps
   line_keeps some long (Some (done_at t names)) = did_keeps t names
-  line_keeps some long (Some (came_at t p v)) = outcome_keeps (saw_refusal s.network s.history t p) (with_told s.history t p v)
+  line_keeps some long (Some (came_at t p v)) = fact_keeps (told_refusal s.network s.history t p) (with_told s.history t p v)
   line_keeps some long (Some (now_at t)) = fact_keeps (now_refusal s.history t) (at_now s.history t)
-  line_keeps some long (Some (awaited_at t p)) = outcome_keeps (await_refusal s.network s.history t p) (with_expected s.history t p)
+  line_keeps some long (Some (awaited_at t p)) = fact_keeps (expected_refusal s.network s.history t p) (with_expected s.history t p)
   line_keeps some long (Some (edits edit)) = plan_keeps edit
   line_keeps some long (Some (ends_by deadline)) = deadline_by deadline (nat_lt most_deadline deadline)
   line_keeps some long (Some asks_next) = next_keeps (verdict_now s)

@@ -1,19 +1,14 @@
 -- What is said where it is asked until when a time-point can wait.
-use Rattle.std.proofs.Common.{ℕ, ◌≡◌, ◌<◌, Bool, true, false, List, Option, Some, None, length, arith, refl, inl, inr, sym, ap, ◌∙◌}
+use Rattle.std.proofs.Common.{ℕ, ◌≡◌, ◌<◌, Bool, true, false, List, Option, Some, None, length, arith, refl, sym, ap, ◌∙◌}
 use Rattle.std.specs.Prelude.{◌&&◌, not, nat_lt, nat_le, if◌then◌else◌}
-use Rattle.cstn_label.specs.declared.nodes.NodeId.{NodeId}
 use Rattle.cstn_net.specs.Limits.{most_constraints}
 use Rattle.cstn_net.specs.Networks.{count}
 use Rattle.cstn_lift.specs.Labelled.{Labelled}
 use Rattle.cstn_lift.specs.Completion.{completed_label}
 use Rattle.cstn_lift.specs.Lowered.{lowered}
-use Rattle.cstn_lift.specs.Read.{the_labelled}
-use Rattle.cstn_check.specs.declared.verdicts.Verdict.{Verdict}
 use Rattle.cstn_check.specs.declared.verdicts.Verdict.TheVariants.{Yes, No, Full}
-use Rattle.cstn_history.specs.declared.errors.FactError.{FactError}
-use Rattle.cstn_history.specs.declared.errors.FactError.TheVariants.{Done, Undecided}
+use Rattle.cstn_history.specs.Facts.{FactRefusal, Done, Undecided}
 use Rattle.cstn_history.specs.Histories.{History, allows}
-use Rattle.cstn_history.specs.Read.{the_history}
 use Rattle.cstn_reply.specs.Texts.{line, full_line}
 use Rattle.cstn_follow.specs.Following.{Following, says, left_now, too_many, verdict_now, verdict_line}
 use Rattle.cstn_follow.specs.FactLines.{refused_fact}
@@ -23,45 +18,45 @@ use Rattle.cstn_follow.specs.Waiting.{HasRoomToWait, waits_until}
 use Rattle.cstn_follow.specs.Answers.{ruled_out, wait_refusal}
 
 -- where x is a time-point, this is why it isn't told
-refused_by : (m : Labelled) (h : History) (x : NodeId) → x.0 < count m.base → wait_refusal m h x ≡ ruled_out m h x (h.done x.0)
+refused_by : (m : Labelled) (h : History) (x : ℕ) → x < count m.base → wait_refusal m h x ≡ ruled_out m h x (h.done x)
 refused_by m h x inside =
-    let within : nat_le (count m.base) x.0 ≡ false = grind arith in
+    let within : nat_le (count m.base) x ≡ false = grind arith in
     rw within refl
 
-module _ (s : Following) (x : NodeId) (inside : x.0 < count s.network.base) (text : List ℕ) where
+module _ (s : Following) (x : ℕ) (inside : x < count s.network.base) (text : List ℕ) where
   abbrev room : Bool
   room = has_place (left_now s).base && has_place (lowered (left_now s))
 
   -- F4 and F5
-  pub refusal_said : (e : FactError) → wait_refusal s.network s.history x ≡ Some e → text ≡ line (refused_fact s.names e)
-      → by_unless s x.0 (by_refusal s x.0 (s.history.done x.0)) ≡ says text s
-  refusal_said e refused is = by_done (s.history.done x.0) (sym (refused_by s.network s.history x inside) ∙ refused)
+  pub refusal_said : (e : FactRefusal) → wait_refusal s.network s.history x ≡ Some e → text ≡ line (refused_fact s.names e)
+      → by_unless s x (by_refusal s x (s.history.done x)) ≡ says text s
+  refusal_said e refused is = by_done (s.history.done x) (sym (refused_by s.network s.history x inside) ∙ refused)
     where
       by_allowed : (b : Bool) → (if not b then Some (Undecided x) else None) ≡ Some e
-          → by_unless s x.0 (if not b then Some (line (refused_fact s.names (Undecided x))) else if room then None else Some too_many) ≡ says text s
+          → by_unless s x (if not b then Some (line (refused_fact s.names (Undecided x))) else if room then None else Some too_many) ≡ says text s
       by_allowed true why = absurd (cc)
       by_allowed false why = let same : Undecided x ≡ e = cc in ap (λ f. says (line (refused_fact s.names f)) s) same ∙ ap (λ t. says t s) (sym is)
 
-      by_done : (o : Option ℕ) → ruled_out s.network s.history x o ≡ Some e → by_unless s x.0 (by_refusal s x.0 o) ≡ says text s
+      by_done : (o : Option ℕ) → ruled_out s.network s.history x o ≡ Some e → by_unless s x (by_refusal s x o) ≡ says text s
       by_done (Some t) why = let same : Done x t ≡ e = cc in ap (λ f. says (line (refused_fact s.names f)) s) same ∙ ap (λ t. says t s) (sym is)
-      by_done None why = by_allowed (allows s.history (completed_label s.network x.0)) why
+      by_done None why = by_allowed (allows s.history (completed_label s.network x)) why
 
   -- where neither applies, it is told, unless F8 applies
-  by_room : wait_refusal s.network s.history x ≡ None → by_refusal s x.0 (s.history.done x.0) ≡ (if room then None else Some too_many)
-  by_room free = by_done (s.history.done x.0) (sym (refused_by s.network s.history x inside) ∙ free)
+  by_room : wait_refusal s.network s.history x ≡ None → by_refusal s x (s.history.done x) ≡ (if room then None else Some too_many)
+  by_room free = by_done (s.history.done x) (sym (refused_by s.network s.history x inside) ∙ free)
     where
       by_allowed : (b : Bool) → (if not b then Some (Undecided x) else None) ≡ None
           → (if not b then Some (line (refused_fact s.names (Undecided x))) else if room then None else Some too_many) ≡ (if room then None else Some too_many)
       by_allowed true why = refl
       by_allowed false why = absurd (cc)
 
-      by_done : (o : Option ℕ) → ruled_out s.network s.history x o ≡ None → by_refusal s x.0 o ≡ (if room then None else Some too_many)
+      by_done : (o : Option ℕ) → ruled_out s.network s.history x o ≡ None → by_refusal s x o ≡ (if room then None else Some too_many)
       by_done (Some t) why = absurd (cc)
-      by_done None why = by_allowed (allows s.history (completed_label s.network x.0)) why
+      by_done None why = by_allowed (allows s.history (completed_label s.network x)) why
 
   pub room_said : wait_refusal s.network s.history x ≡ None → HasRoomToWait s.network s.history s.fresh
-      → by_unless s x.0 (by_refusal s x.0 (s.history.done x.0)) ≡ by_after s x.0 (verdict_now s)
-  room_said free has = ap (by_unless s x.0) (by_room free ∙ with_room (has_place (left_now s).base) (has_place (lowered (left_now s))) (lt_true _ has.base) (lt_true _ has.lowered))
+      → by_unless s x (by_refusal s x (s.history.done x)) ≡ by_after s x (verdict_now s)
+  room_said free has = ap (by_unless s x) (by_room free ∙ with_room (has_place (left_now s).base) (has_place (lowered (left_now s))) (lt_true _ has.base) (lt_true _ has.lowered))
     where
       lt_true : (n : ℕ) → n < most_constraints → nat_lt n most_constraints ≡ true
       lt_true n few = grind arith
@@ -72,9 +67,9 @@ module _ (s : Following) (x : NodeId) (inside : x.0 < count s.network.base) (tex
       with_room false b p q = absurd (cc)
 
   pub many_said : wait_refusal s.network s.history x ≡ None → (HasRoomToWait s.network s.history s.fresh → ⊥) → text ≡ too_many
-      → by_unless s x.0 (by_refusal s x.0 (s.history.done x.0)) ≡ says text s
+      → by_unless s x (by_refusal s x (s.history.done x)) ≡ says text s
   many_said free none is =
-      ap (by_unless s x.0) (by_room free ∙ without_room (has_place (left_now s).base) (has_place (lowered (left_now s))) refl refl)
+      ap (by_unless s x) (by_room free ∙ without_room (has_place (left_now s).base) (has_place (lowered (left_now s))) refl refl)
       ∙ ap (λ t. says t s) (sym is)
     where
       true_lt : (n : ℕ) → nat_lt n most_constraints ≡ true → n < most_constraints
@@ -86,19 +81,19 @@ module _ (s : Following) (x : NodeId) (inside : x.0 < count s.network.base) (tex
       without_room false b p q = refl
 
   module _ (free : wait_refusal s.network s.history x ≡ None) (has : HasRoomToWait s.network s.history s.fresh) where
-    pub until_said : (load t : ℕ) → verdict_now s ≡ Yes load → waits_until s.network s.history s.fresh x.0 s.cap ≡ Some t → text ≡ by_line s.names t x.0
-        → by_unless s x.0 (by_refusal s x.0 (s.history.done x.0)) ≡ says text s
+    pub until_said : (load t : ℕ) → verdict_now s ≡ Yes load → waits_until s.network s.history s.fresh x s.cap ≡ Some t → text ≡ by_line s.names t x
+        → by_unless s x (by_refusal s x (s.history.done x)) ≡ says text s
     until_said load t yes found is =
-        room_said free has ∙ ap (by_after s x.0) yes ∙ ap (λ o. says (by_text s x.0 o) s) found ∙ ap (λ l. says l s) (sym is)
+        room_said free has ∙ ap (by_after s x) yes ∙ ap (λ o. says (by_text s x o) s) found ∙ ap (λ l. says l s) (sym is)
 
-    pub tried_said : (load : ℕ) → verdict_now s ≡ Yes load → waits_until s.network s.history s.fresh x.0 s.cap ≡ None → text ≡ full_line s.cap
-        → by_unless s x.0 (by_refusal s x.0 (s.history.done x.0)) ≡ says text s
+    pub tried_said : (load : ℕ) → verdict_now s ≡ Yes load → waits_until s.network s.history s.fresh x s.cap ≡ None → text ≡ full_line s.cap
+        → by_unless s x (by_refusal s x (s.history.done x)) ≡ says text s
     tried_said load yes found is =
-        room_said free has ∙ ap (by_after s x.0) yes ∙ ap (λ o. says (by_text s x.0 o) s) found ∙ ap (λ l. says l s) (sym is)
+        room_said free has ∙ ap (by_after s x) yes ∙ ap (λ o. says (by_text s x o) s) found ∙ ap (λ l. says l s) (sym is)
 
-    pub stuck_said : (load : ℕ) → verdict_now s ≡ No load → tells_verdict s ≡ says text s → by_unless s x.0 (by_refusal s x.0 (s.history.done x.0)) ≡ says text s
-    stuck_said load no is = room_said free has ∙ ap (by_after s x.0) no ∙ is
+    pub stuck_said : (load : ℕ) → verdict_now s ≡ No load → tells_verdict s ≡ says text s → by_unless s x (by_refusal s x (s.history.done x)) ≡ says text s
+    stuck_said load no is = room_said free has ∙ ap (by_after s x) no ∙ is
 
-    pub full_said : verdict_now s ≡ Full → text ≡ full_line s.cap → by_unless s x.0 (by_refusal s x.0 (s.history.done x.0)) ≡ says text s
+    pub full_said : verdict_now s ≡ Full → text ≡ full_line s.cap → by_unless s x (by_refusal s x (s.history.done x)) ≡ says text s
     full_said full is =
-        room_said free has ∙ ap (by_after s x.0) full ∙ ap (λ v. says (verdict_line s.cap v) s) full ∙ ap (λ l. says l s) (sym is)
+        room_said free has ∙ ap (by_after s x) full ∙ ap (λ v. says (verdict_line s.cap v) s) full ∙ ap (λ l. says l s) (sym is)

@@ -1,29 +1,28 @@
 -- What is said to a line where the session that takes values did so.
-use Rattle.std.proofs.Common.{ℕ, ◌≡◌, ◌++◌, List, Option, Some, None, refl, sym, ap, ◌∙◌}
+use Rattle.std.proofs.Common.{ℕ, ◌≡◌, ◌++◌, List, sym, ap, ◌∙◌}
 use Rattle.std.specs.Prelude.{Result, Ok, Err, codes, decimal}
-use Rattle.std.specs.Option.{option_map}
-use Rattle.cstn_net.specs.Limits.{most_constraints}
 use Rattle.cstn_lift.specs.Labelled.{Labelled}
-use Rattle.cstn_lift.specs.Read.{LabelledParts, the_labelled}
+use Rattle.cstn_lift.specs.Read.{the_labelled}
 use Rattle.cstn_check.specs.declared.verdicts.Verdict.{Verdict}
-use Rattle.cstn_history.specs.declared.errors.FactError.{FactError}
 use Rattle.cstn_history.specs.declared.errors.RestError.{RestError}
 use Rattle.cstn_history.specs.declared.errors.RestError.TheVariants.{TooManyConstraints as AreTooMany, Memory as OutOfMemory}
+use Rattle.cstn_history.specs.Facts.{FactRefusal}
 use Rattle.cstn_history.specs.Histories.{History}
 use Rattle.cstn_history.specs.Read.{the_history}
 use Rattle.cstn_change.specs.declared.errors.EditError.{EditError}
-use Rattle.cstn_change.specs.Changes.{EditedNetwork, Change, Refusal, after}
+use Rattle.cstn_change.specs.Changes.{EditedNetwork, Change, after}
 use Rattle.cstn_change.specs.ChangeLines.{accepted_text, refused_text}
 use Rattle.cstn_change.specs.Read.{the_refusal}
 use Rattle.cstn_reply.specs.Texts.{line}
 use Rattle.cstn_follow.specs.declared.errors.FollowError.{FollowError}
 use Rattle.cstn_follow.specs.declared.errors.FollowError.TheVariants.{Refused, TooManyConstraints, Memory}
-use Rattle.cstn_follow.specs.declared.errors.ReplanError.TheVariants.{Refused as IsRefusedEdit, TooManyConstraints as HasTooMany}
+use Rattle.cstn_follow.specs.declared.errors.ReplanError.{ReplanError}
+use Rattle.cstn_follow.specs.declared.errors.ReplanError.TheVariants.{Refused as IsRefusedEdit, TooManyConstraints as HasTooMany, Memory as RanOut}
 use Rattle.cstn_follow.specs.Following.{Following, says, too_many, verdict_line, verdict_within, on_verdict}
-use Rattle.cstn_follow.specs.FactLines.{unless_refused, refused_fact, on_result, on_fact, on_outcome}
+use Rattle.cstn_follow.specs.FactLines.{on_result}
 use Rattle.cstn_follow.specs.PlanLines.{edited_network, replanned, on_refusal, on_edit, on_deadline}
-use Rattle.cstn_follow.specs.Read.{FollowingParts, following_of, the_following}
-use Rattle.cstn_follow.specs.Replans.{Replans, MakesChange, edited_now, with_due, change_refused}
+use Rattle.cstn_follow.specs.Read.{following_of, the_following}
+use Rattle.cstn_follow.specs.Replans.{Replans, MakesChange, edited_now, with_due}
 use Rattle.cstn_follow.specs.Sessions.{SessionParts, Records}
 use Rattle.cstn_follow.specs.Told.{IsSaidOf, IsRefused}
 use Rattle.cstn_follow.proofs.Recording.{recorded_none, recorded_some}
@@ -31,41 +30,39 @@ use Rattle.cstn_follow.proofs.Recording.{recorded_none, recorded_some}
 -- ---- facts
 
 -- where they aren't recorded, nothing has changed
-pub refused_same : (told : Result History FactError) (old new : SessionParts) (r : Result Verdict FollowError) → Records told old new r → IsRefused r → new ≡ old
+pub refused_same : (told : Result History FactRefusal) (old new : SessionParts) (r : Result Verdict FollowError) → Records told old new r → IsRefused r → new ≡ old
 refused_same told old new (Ok v) records refused = absurd refused
 refused_same told old new (Err (Refused e)) records refused = records.1
 refused_same told old new (Err TooManyConstraints) records refused = records.1
 refused_same told old new (Err (Memory e)) records refused = records
 
 -- a call that is told facts keeps the network
-pub records_network : (told : Result History FactError) (old new : SessionParts) (r : Result Verdict FollowError) → Records told old new r → new.network ≡ old.network
+pub records_network : (told : Result History FactRefusal) (old new : SessionParts) (r : Result Verdict FollowError) → Records told old new r → new.network ≡ old.network
 records_network told old new (Ok v) records = ap (λ (s : SessionParts). s.network) records.1
 records_network told old new (Err (Refused e)) records = ap (λ (s : SessionParts). s.network) records.1
 records_network told old new (Err TooManyConstraints) records = ap (λ (s : SessionParts). s.network) records.1
 records_network told old new (Err (Memory e)) records = ap (λ (s : SessionParts). s.network) records
 
--- an edit keeps the time-points
-pub replans_labelled : (e : EditedNetwork) (old new : SessionParts) (r : Result Verdict RestError) → Replans e old new r → e.net.observes ≡ (the_labelled old.network).base.observes
+-- where an edit isn't made, nothing has changed, and else the time-points are as they were
+pub replan_keeps : (e : EditedNetwork) (old new : SessionParts) (r : Result Verdict RestError) → Replans e old new r → e.net.observes ≡ (the_labelled old.network).base.observes
     → (the_labelled new.network).base.observes ≡ (the_labelled old.network).base.observes
-replans_labelled e old new (Ok v) made same = ap (λ (m : Labelled). m.base.observes) made.0 ∙ same
-replans_labelled e old new (Err AreTooMany) made same = ap (λ (s : SessionParts). (the_labelled s.network).base.observes) made.1
-replans_labelled e old new (Err (OutOfMemory error)) made same = ap (λ (s : SessionParts). (the_labelled s.network).base.observes) made
+replan_keeps e old new (Ok v) made same = ap (λ (m : Labelled). m.base.observes) made.0 ∙ same
+replan_keeps e old new (Err AreTooMany) made same = ap (λ (s : SessionParts). (the_labelled s.network).base.observes) made.1
+replan_keeps e old new (Err (OutOfMemory error)) made same = ap (λ (s : SessionParts). (the_labelled s.network).base.observes) made
 
--- a fact that has a refusal is told as a result
-pub fact_is_told : (s : Following) (o : Option FactError) (h : History) → on_fact s o h ≡ on_result s (unless_refused o (Ok h))
-fact_is_told s None h = refl
-fact_is_told s (Some e) h = refl
-
-pub outcome_is_told : (s : Following) (o : Option FactError) (h : History) → on_outcome s (option_map (refused_fact s.names) o) h ≡ on_result s (unless_refused o (Ok h))
-outcome_is_told s None h = refl
-outcome_is_told s (Some e) h = refl
+pub change_keeps : (change : Change) (old new : SessionParts) (r : Result Verdict ReplanError) → MakesChange change old new r
+    → (the_labelled new.network).base.observes ≡ (the_labelled old.network).base.observes
+change_keeps change old new (Ok v) made = ap (λ (m : Labelled). m.base.observes) made.1.0
+change_keeps change old new (Err (IsRefusedEdit error)) made = ap (λ (s : SessionParts). (the_labelled s.network).base.observes) made.1
+change_keeps change old new (Err HasTooMany) made = ap (λ (s : SessionParts). (the_labelled s.network).base.observes) made.1.1
+change_keeps change old new (Err (RanOut error)) made = ap (λ (s : SessionParts). (the_labelled s.network).base.observes) made
 
 module _ (names : List (List ℕ)) (lines : ℕ) where
   -- the session of lines, by its session of values
   abbrev pub lines_of : SessionParts → Following
   lines_of s = the_following (following_of s names lines)
 
-  pub facts_said : (told : Result History FactError) (old new : SessionParts) (r : Result Verdict FollowError) (text : List ℕ) → Records told old new r
+  pub facts_said : (told : Result History FactRefusal) (old new : SessionParts) (r : Result Verdict FollowError) (text : List ℕ) → Records told old new r
       → IsSaidOf names new.cap r text → on_result (lines_of old) told ≡ says text (lines_of new)
   facts_said told old new (Ok v) text records said =
       ap (on_result (lines_of old)) records.0

@@ -14,7 +14,6 @@ use Rattle.std.proofs.lemmas.Option.{same_Some}
 use Rattle.cstn_facts.proofs.Filters.{none_passes}
 use Rattle.cstn_facts.proofs.Pairs.{pairs_map}
 use Rattle.cstn_label.specs.declared.nodes.NodeId.{NodeId}
-use Rattle.cstn_label.specs.declared.props.Prop.{Prop}
 use Rattle.cstn_label.specs.declared.marks.Mark.{Mark}
 use Rattle.cstn_label.specs.declared.marks.Mark.TheVariants.{Absent, Yes as YesMark, No as NoMark, Unknown}
 use Rattle.cstn_label.specs.Labels.{Label}
@@ -30,10 +29,8 @@ use Rattle.cstn_lift.specs.WellFormed.{IsLabelled}
 use Rattle.cstn_lift.proofs.LoweredLemmas.{observer_back, plain_back}
 use Rattle.cstn_check.specs.declared.verdicts.Verdict.{Verdict}
 use Rattle.cstn_check.specs.declared.verdicts.Verdict.TheVariants.{Yes, No, Full}
-use Rattle.cstn_history.specs.declared.errors.FactError.{FactError}
-use Rattle.cstn_history.specs.declared.errors.FactError.TheVariants.{OutOfRange}
 use Rattle.cstn_history.specs.Histories.{History, IsTimelyHistory, nothing_yet, edited}
-use Rattle.cstn_history.specs.Facts.{is_beyond, now_refusal, done_refusal, told_refusal, expected_refusal, at_now, with_done, with_told, with_expected}
+use Rattle.cstn_history.specs.Facts.{FactRefusal, OutOfRange, is_beyond, now_refusal, done_refusal, told_refusal, expected_refusal, at_now, with_done, with_told, with_expected}
 use Rattle.cstn_history.specs.Handed.{HasRoom}
 use Rattle.cstn_history.proofs.Edited.{timely_edited}
 use Rattle.cstn_history.proofs.Nothing.{nothing_history, rest_whole}
@@ -50,7 +47,7 @@ use Rattle.cstn_reply.specs.Sessions.{Turn, more, last, wrong}
 use Rattle.cstn_reply.specs.Reached.{state_after}
 use Rattle.cstn_reply.proofs.Sessions.{first_leads}
 use Rattle.cstn_follow.specs.Following.{Following, Heard, says, saves, begun, verdict_now, verdict_within, on_verdict, follows, verdict_line}
-use Rattle.cstn_follow.specs.FactLines.{on_result, records, refuses, refused_fact, unknown_name, unless_refused, all_done, on_known, on_did, nodes_of, unknown_of, on_fact, on_now, on_outcome, on_saw, saw_refusal, on_await, await_refusal}
+use Rattle.cstn_follow.specs.FactLines.{on_result, records, refuses, refused_fact, unknown_name, unless_refused, all_done, on_known, on_did, nodes_of, unknown_of, on_fact, on_now, on_saw, on_await}
 use Rattle.cstn_follow.specs.PlanLines.{edited_network, on_refusal, on_edit, on_add, on_deadline}
 use Rattle.cstn_follow.specs.Questions.{next_after, check_after}
 use Rattle.cstn_follow.specs.Searches.{by_number, by_unless, by_after, by_refusal, blame_after}
@@ -58,10 +55,9 @@ use Rattle.cstn_follow.specs.Hearing.{on_plan, on_other, on_line, counted, hear}
 use Rattle.cstn_follow.proofs.InOrder.{IsOfLetters, can_change, changed_in_order}
 use Rattle.cstn_follow.proofs.Edited.{left_fits, within_is}
 use Rattle.cstn_follow.proofs.GoesOn.{yes_can, no_cannot, full_is_above}
-use Rattle.cstn_follow.proofs.Recording.{saw_said, await_said}
 use Rattle.cstn_follow.specs.Recorded.{IsFact, IsRecorded}
 use Rattle.cstn_follow.specs.Turns.{Writing, IsTrueOf, heard_by, turn_by}
-use Rattle.cstn_follow.proofs.RecordedFacts.{IsRefusal, fact_refusal, outcome_refusal, same_history, are_done, has_passed, has_come, is_expected}
+use Rattle.cstn_follow.proofs.RecordedFacts.{IsRefusal, fact_refusal, same_history, are_done, has_passed, has_come, is_expected}
 
 -- the network is labelled and each of its time-points has a name, what has happened is a history of it, its ids are below the
 -- next one, and there is a verdict on what is left
@@ -95,9 +91,9 @@ records_sound s h sound timely = follows_sound s (record s { history = h }) (ver
 all_timely : (m : Labelled) (t : ℕ) (h g : History) (xs : List NodeId) → IsLabelled m → IsTimelyHistory m h → all_done m t h xs ≡ Ok g → IsTimelyHistory m g
 all_timely m t h g [] good timely is = subst (IsTimelyHistory m) (same_history h g is) timely
 all_timely m t h g (x ∷ xs) good timely is =
-    by_refusal (done_refusal m h t x) refl (λ none so. all_timely m t (with_done h t x.0) g xs good (timely_done m h good timely.history timely.in_time t x none) so) is
+    by_refusal (done_refusal m h t x.0) refl (λ none so. all_timely m t (with_done h t x.0) g xs good (timely_done m h good timely.history timely.in_time t x.0 none) so) is
   where
-    by_refusal : (o : Option FactError) → done_refusal m h t x ≡ o → (done_refusal m h t x ≡ None → all_done m t (with_done h t x.0) xs ≡ Ok g → IsTimelyHistory m g)
+    by_refusal : (o : Option FactRefusal) → done_refusal m h t x.0 ≡ o → (done_refusal m h t x.0 ≡ None → all_done m t (with_done h t x.0) xs ≡ Ok g → IsTimelyHistory m g)
         → unless_refused o (all_done m t (with_done h t x.0) xs) ≡ Ok g → IsTimelyHistory m g
     by_refusal None none goes_on so = goes_on none so
     by_refusal (Some e) some goes_on so = absurd (cc)
@@ -109,13 +105,13 @@ none_mapped f (Some x) e = cc
 -- a fact is refused, or it is recorded
 module _ (s : Following) (sound : IsSound s) (Is : Follow → Heard → Type 0) (refused : (fact : Follow) (text : List ℕ) → IsRefusal text → Is fact (says text s))
     (accepted : (fact : Follow) (h : History) → IsTimelyHistory s.network h → IsRecorded s.names s.history fact h → Is fact (records s h)) where
-  refuses_is : (fact : Follow) (e : FactError) → Is fact (refuses s e)
+  refuses_is : (fact : Follow) (e : FactRefusal) → Is fact (refuses s e)
   refuses_is fact e = refused fact (line (refused_fact s.names e)) (fact_refusal s.names e)
 
   did_is : (t : ℕ) (given : List (List ℕ)) → 1 ≤ length given → Is (done_at t given) (on_did s t given)
   did_is t given some = by_moment (is_beyond t) (unknown_of s.names given) refl
     where
-      by_result : unknown_of s.names given ≡ None → (r : Result History FactError) → all_done s.network t s.history (nodes_of s.names given) ≡ r
+      by_result : unknown_of s.names given ≡ None → (r : Result History FactRefusal) → all_done s.network t s.history (nodes_of s.names given) ≡ r
           → Is (done_at t given) (on_result s r)
       by_result known (Ok h) is = accepted (done_at t given) h (all_timely s.network t s.history h (nodes_of s.names given) sound.labelled sound.timely is)
           (are_done s.names s.network s.history h t given some known is)
@@ -127,38 +123,28 @@ module _ (s : Following) (sound : IsSound s) (Is : Follow → Heard → Type 0) 
       by_moment false (Some name) is = refused (done_at t given) (line (unknown_name name)) (codes "F3 " ++ printed_name name, refl)
       by_moment false None is = by_result is (all_done s.network t s.history (nodes_of s.names given)) refl
 
+  unless_is : (fact : Follow) (o : Option FactRefusal) (h : History) → (o ≡ None → IsTimelyHistory s.network h)
+      → (o ≡ None → IsRecorded s.names s.history fact h) → Is fact (on_fact s o h)
+  unless_is fact None h timely recorded = accepted fact h (timely refl) (recorded refl)
+  unless_is fact (Some e) h timely recorded = refuses_is fact e
+
   now_is : (t : ℕ) → Is (now_at t) (on_now s t)
-  now_is t = by_refusal (now_refusal s.history t) refl
-    where
-      by_refusal : (o : Option FactError) → now_refusal s.history t ≡ o → Is (now_at t) (on_fact s o (at_now s.history t))
-      by_refusal None none = accepted (now_at t) (at_now s.history t) (timely_now s.network s.history t sound.timely.history sound.timely.in_time none)
-          (has_passed s.network s.history t none)
-      by_refusal (Some e) some = refuses_is (now_at t) e
+  now_is t = unless_is (now_at t) (now_refusal s.history t) (at_now s.history t)
+      (timely_now s.network s.history t sound.timely.history sound.timely.in_time) (has_passed s.network s.history t)
 
-  outcome_is : (fact : Follow) (o : Option FactError) (refusal : Option (List ℕ)) (h : History) → option_map (refused_fact []) o ≡ refusal
-      → (o ≡ None → IsTimelyHistory s.network h) → (o ≡ None → IsRecorded s.names s.history fact h) → Is fact (on_outcome s refusal h)
-  outcome_is fact o None h same timely recorded = let free = none_mapped _ o same in accepted fact h (timely free) (recorded free)
-  outcome_is fact o (Some refusal) h same timely recorded = refused fact (line refusal) (outcome_refusal [] o refusal same)
+  saw_is : (t p : ℕ) (v : Bool) → Is (came_at t p v) (on_saw s t p v)
+  saw_is t p v = unless_is (came_at t p v) (told_refusal s.network s.history t p) (with_told s.history t p v)
+      (timely_told s.network s.history sound.labelled sound.timely.history sound.timely.in_time t p v) (has_come s.network s.history t p v)
 
-  saw_is : (t p : ℕ) (v : Bool) → p < 52 → Is (came_at t p v) (on_saw s t p v)
-  saw_is t p v letter =
-      let prop : Prop = record { index = p; in_range = letter } in
-      outcome_is (came_at t p v) (told_refusal s.network s.history t prop) (saw_refusal s.network s.history t p) (with_told s.history t p v)
-      (saw_said [] t prop s.network s.history) (timely_told s.network s.history sound.labelled sound.timely.history sound.timely.in_time t prop v)
-      (has_come s.network s.history t prop v)
-
-  await_is : (t p : ℕ) → p < 52 → Is (awaited_at t p) (on_await s t p)
-  await_is t p letter =
-      let prop : Prop = record { index = p; in_range = letter } in
-      outcome_is (awaited_at t p) (expected_refusal s.network s.history t prop) (await_refusal s.network s.history t p) (with_expected s.history t p)
-      (await_said [] t prop s.network s.history) (timely_expected s.network s.history sound.labelled sound.timely.history sound.timely.in_time t prop)
-      (is_expected s.network s.history t prop)
+  await_is : (t p : ℕ) → Is (awaited_at t p) (on_await s t p)
+  await_is t p = unless_is (awaited_at t p) (expected_refusal s.network s.history t p) (with_expected s.history t p)
+      (timely_expected s.network s.history sound.labelled sound.timely.history sound.timely.in_time t p) (is_expected s.network s.history t p)
 
   pub fact_is : (fact : Follow) → IsFact fact → IsFollow fact → Is fact (on_line s (Some fact))
   fact_is (done_at t given) is fits = did_is t given fits.1
-  fact_is (came_at t p v) is fits = saw_is t p v fits.1
+  fact_is (came_at t p v) is fits = saw_is t p v
   fact_is (now_at t) is fits = now_is t
-  fact_is (awaited_at t p) is fits = await_is t p fits.1
+  fact_is (awaited_at t p) is fits = await_is t p
   fact_is (edits edit) is fits = absurd is
   fact_is (ends_by deadline) is fits = absurd is
   fact_is asks_next is fits = absurd is

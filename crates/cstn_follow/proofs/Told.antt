@@ -3,9 +3,9 @@ use Rattle.std.proofs.Common.{ℕ, ◌≡◌, Option, Some, None, refl, sym, sub
 use Rattle.std.specs.Prelude.{Result, Ok, Err}
 use Rattle.cstn_lift.specs.Read.{the_labelled}
 use Rattle.cstn_check.specs.declared.verdicts.Verdict.{Verdict}
-use Rattle.cstn_history.specs.declared.errors.FactError.{FactError}
 use Rattle.cstn_history.specs.declared.errors.RestError.{RestError}
 use Rattle.cstn_history.specs.declared.errors.RestError.TheVariants.{TooManyConstraints as IsTooMany, Memory as IsMemory}
+use Rattle.cstn_history.specs.Facts.{FactRefusal}
 use Rattle.cstn_history.specs.Histories.{History}
 use Rattle.cstn_history.specs.Read.{HistoryParts, the_history}
 use Rattle.cstn_follow.specs.declared.findings.Finding.{Finding}
@@ -16,14 +16,14 @@ use Rattle.cstn_follow.specs.FactLines.{unless_refused}
 use Rattle.cstn_follow.specs.Following.{verdict_left}
 use Rattle.cstn_follow.specs.Sessions.{SessionParts, Records, followed, unrecorded}
 
-pub fact_refused : (o : Option FactError) (told : Result History FactError) (e : FactError) → Some e ≡ o → unless_refused o told ≡ Err e
+pub fact_refused : (o : Option FactRefusal) (told : Result History FactRefusal) (e : FactRefusal) → Some e ≡ o → unless_refused o told ≡ Err e
 fact_refused o told e is = ap (λ p. unless_refused p told) (sym is)
 
-pub fact_accepted : (o : Option FactError) (told : Result History FactError) → None ≡ o → unless_refused o told ≡ told
+pub fact_accepted : (o : Option FactRefusal) (told : Result History FactRefusal) → None ≡ o → unless_refused o told ≡ told
 fact_accepted o told is = ap (λ p. unless_refused p told) (sym is)
 
 -- what the calls make of a session doesn't change with an equal account of the facts
-pub records_same : (told same : Result History FactError) (old new : SessionParts) (r : Result Verdict FollowError) → told ≡ same
+pub records_same : (told same : Result History FactRefusal) (old new : SessionParts) (r : Result Verdict FollowError) → told ≡ same
     → Records same old new r → Records told old new r
 records_same told same old new r is records = subst (λ t. Records t old new r) (sym is) records
 

@@ -11,11 +11,10 @@ use Rattle.cstn_log.specs.Cuts.{part}
 use Rattle.cstn_refute.specs.Refutations.{RefutationParts, the_steps}
 use Rattle.cstn_check.specs.Growth.{log_of, live_bounds}
 use Rattle.cstn_check.specs.declared.verdicts.Verdict.TheVariants.{Yes as IsYes, No as IsNo, Full as IsFull}
-use Rattle.cstn_history.specs.declared.errors.FactError.{FactError}
-use Rattle.cstn_history.specs.declared.errors.FactError.TheVariants.{NoSuch, Done, Undecided}
 use Rattle.cstn_history.specs.Continuations.{Can, CanWait, IsNext, IsNamed, IsAwaited}
+use Rattle.cstn_history.specs.Facts.{FactRefusal, NoSuch, Done, Undecided}
 use Rattle.cstn_history.specs.Histories.{History, allows}
-use Rattle.cstn_history.specs.Read.{the_history}
+use Rattle.cstn_history.specs.Read.{the_history, the_fact_refusal}
 use Rattle.cstn_next.specs.declared.moments.NextMoment.{NextMoment}
 use Rattle.cstn_next.specs.Next.{IsAllDone, TellsNext}
 use Rattle.cstn_check.specs.Givers.{is_of, but}
@@ -79,21 +78,21 @@ pub record IsLatest (m : Labelled) (h : History) (x t : ℕ) : Type 0 where
   pub last : (u : ℕ) → CanWait m h x u → u ≤ t
 
 -- why it isn't told until when x can wait, which was done at the moment given: F4, or F5, where it is ruled out
-abbrev pub ruled_out : Labelled → History → NodeId → Option ℕ → Option FactError
+abbrev pub ruled_out : Labelled → History → ℕ → Option ℕ → Option FactRefusal
 ruled_out m h x (Some t) = Some (Done x t)
-ruled_out m h x None = if not (allows h (completed_label m x.0)) then Some (Undecided x) else None
+ruled_out m h x None = if not (allows h (completed_label m x)) then Some (Undecided x) else None
 
 -- F3 to F5
-abbrev pub wait_refusal : Labelled → History → NodeId → Option FactError
-wait_refusal m h x = if nat_le (count m.base) x.0 then Some (NoSuch x) else ruled_out m h x (h.done x.0)
+abbrev pub wait_refusal : Labelled → History → ℕ → Option FactRefusal
+wait_refusal m h x = if nat_le (count m.base) x then Some (NoSuch x) else ruled_out m h x (h.done x)
 
 -- the answer is right: x can wait until this moment and no longer; or this is why it isn't told; or no table continues the history
 abbrev pub IsRightLatest : Labelled → History → NodeId → Latest → Type 0
-IsRightLatest m h x (Until t) = (wait_refusal m h x ≡ None) × IsLatest m h x.0 t
-IsRightLatest m h x (Refused e) = wait_refusal m h x ≡ Some e
-IsRightLatest m h x TooManyConstraints = wait_refusal m h x ≡ None
-IsRightLatest m h x Impossible = (wait_refusal m h x ≡ None) × (Can m h → ⊥)
-IsRightLatest m h x Unknown = wait_refusal m h x ≡ None
+IsRightLatest m h x (Until t) = (wait_refusal m h x.0 ≡ None) × IsLatest m h x.0 t
+IsRightLatest m h x (Refused e) = wait_refusal m h x.0 ≡ Some (the_fact_refusal e)
+IsRightLatest m h x TooManyConstraints = wait_refusal m h x.0 ≡ None
+IsRightLatest m h x Impossible = (wait_refusal m h x.0 ≡ None) × (Can m h → ⊥)
+IsRightLatest m h x Unknown = wait_refusal m h x.0 ≡ None
 
 -- there is room for one constraint more of what is left
 abbrev pub HasRoomLeftToWait : SessionParts → Type 0

@@ -6,12 +6,12 @@ use Rattle.cstn_lift.specs.Read.{LabelledParts, the_labelled}
 use Rattle.cstn_check.specs.Growth.{load_of}
 use Rattle.cstn_check.specs.declared.verdicts.Verdict.{Verdict}
 use Rattle.cstn_check.specs.declared.verdicts.Verdict.TheVariants.{Yes, No, Full}
-use Rattle.cstn_history.specs.declared.errors.FactError.{FactError}
 use Rattle.cstn_history.specs.declared.errors.RestError.{RestError}
 use Rattle.cstn_history.specs.declared.errors.RestError.TheVariants.{TooManyConstraints as IsTooMany, Memory as IsMemory}
 use Rattle.cstn_history.specs.Continuations.{Can}
+use Rattle.cstn_history.specs.Facts.{FactRefusal}
 use Rattle.cstn_history.specs.Histories.{History}
-use Rattle.cstn_history.specs.Read.{HistoryParts, the_history}
+use Rattle.cstn_history.specs.Read.{HistoryParts, the_history, the_fact_refusal}
 use Rattle.cstn_follow.specs.Executions.{ExecutionParts, IsExecution, left_of}
 use Rattle.cstn_follow.specs.Findings.{verdict_of, IsFindingOn}
 use Rattle.cstn_follow.specs.Following.{verdict_left}
@@ -68,11 +68,11 @@ IsRightVerdict s Full = s.cap < load_of (lowered (left_of (execution_of s)))
 -- What a call that is told facts makes of a session, where these are what has happened then, or why they are refused: they are
 -- recorded, with the verdict on what is left then; or nothing has changed, since they are refused, or too many constraints would
 -- be left, or memory is.
-abbrev pub Records : Result History FactError → SessionParts → SessionParts → Result Verdict FollowError → Type 0
+abbrev pub Records : Result History FactRefusal → SessionParts → SessionParts → Result Verdict FollowError → Type 0
 Records told old new (Ok v) =
     (told ≡ Ok (the_history new.history)) × (new ≡ record old { history = new.history; verdict = v })
     × (verdict_left (the_labelled old.network) (the_history new.history) old.fresh old.cap ≡ Some v)
-Records told old new (Err (Refused e)) = (told ≡ Err e) × (new ≡ old)
+Records told old new (Err (Refused e)) = (told ≡ Err (the_fact_refusal e)) × (new ≡ old)
 Records told old new (Err TooManyConstraints) =
     ((later : History) × (told ≡ Ok later) × (verdict_left (the_labelled old.network) later old.fresh old.cap ≡ None)) × (new ≡ old)
 Records told old new (Err (Memory e)) = new ≡ old

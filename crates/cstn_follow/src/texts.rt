@@ -1,6 +1,7 @@
 // What a session says.
 ghost use Rattle.std.specs.Prelude.{◌≡◌, ◌≤◌, ◌++◌, ◌∷◌, [], length, vec_capacity, IfOk, codes, decimal};
 ghost use Rattle.cstn_label.specs.Letters.{letter_of};
+ghost use Rattle.cstn_history.specs.Read.{the_fact_refusal};
 ghost use Rattle.cstn_reply.specs.Texts.{line};
 ghost use Rattle.cstn_follow.specs.Following.{verdict_line, too_many, name_at};
 ghost use Rattle.cstn_follow.specs.FactLines.{refused_fact, unknown_name};
@@ -123,7 +124,7 @@ pub fn name_at(names: &Names, x: NodeId) -> &str
 
 /// The line that refuses a fact.
 pub fn refused_fact(alloc: Global, names: &Names, error: FactError) -> Result<Vec<u8>, AllocError>
-    ensures line { IfOk result (λ text. text.items ≡ line (refused_fact names.now error)) }
+    ensures line { IfOk result (λ text. text.items ≡ line (refused_fact names.now (the_fact_refusal error))) }
 {
     match error {
         FactError::Past { now } => number_line(alloc, b"refused F1 ", now),

@@ -14,10 +14,8 @@ use Rattle.cstn_check.specs.Decisions.{verdict}
 use Rattle.cstn_check.specs.Verdicts.{is_consistent}
 use Rattle.cstn_check.specs.declared.verdicts.Verdict.{Verdict}
 use Rattle.cstn_check.specs.declared.verdicts.Verdict.TheVariants.{Yes, No, Full}
-use Rattle.cstn_history.specs.declared.errors.FactError.{FactError}
-use Rattle.cstn_history.specs.declared.errors.FactError.TheVariants.{OutOfRange}
 use Rattle.cstn_history.specs.Histories.{History}
-use Rattle.cstn_history.specs.Facts.{is_beyond, now_refusal, at_now, with_told, with_expected}
+use Rattle.cstn_history.specs.Facts.{FactRefusal, OutOfRange, is_beyond, now_refusal, told_refusal, expected_refusal, at_now, with_told, with_expected}
 use Rattle.cstn_history.specs.Rest.{rest}
 use Rattle.cstn_lines.specs.EditLines.{Edit, added, removed, changed, asked}
 use Rattle.cstn_lines.specs.FollowLines.{Follow, follow_read, done_at, came_at, now_at, awaited_at, edits, ends_by, asks_next, asks_by, asks_blame, asks_rest}
@@ -27,7 +25,7 @@ use Rattle.cstn_reply.specs.Reached.{state_after}
 use Rattle.cstn_reply.proofs.Sessions.{first_leads, state_more}
 use Rattle.cstn_save.specs.Canonical.{canonical}
 use Rattle.cstn_follow.specs.Following.{Following, Heard, says, saves, left_now, verdict_now, fits, on_verdict, follows, verdict_line}
-use Rattle.cstn_follow.specs.FactLines.{on_result, records, refuses, all_done, on_known, on_did, nodes_of, unknown_of, on_fact, on_now, on_outcome, saw_refusal, await_refusal}
+use Rattle.cstn_follow.specs.FactLines.{on_result, records, refuses, all_done, on_known, on_did, nodes_of, unknown_of, unless_refused, on_fact}
 use Rattle.cstn_follow.specs.PlanLines.{add_refusal, remove_refusal, change_refusal, on_edit, on_ends, on_deadline, with_added, with_removed, with_changed, replanned}
 use Rattle.cstn_follow.specs.Questions.{next_after, check_after}
 use Rattle.cstn_follow.specs.Searches.{by_number, by_unless, by_after, by_text, by_refusal, blame_text, blame_after}
@@ -188,7 +186,7 @@ module _ (s : Following) (larger : ℕ) (upto : s.cap ≤ larger) where
   records_alike : (h : History) → Alike (records s h) (records Other h)
   records_alike h = follows_alike s.network h s.edits s.fresh (verdict_line s.cap) (verdict_line larger) line_told (inl refl)
 
-  result_alike : (r : Result History FactError) → Alike (on_result s r) (on_result Other r)
+  result_alike : (r : Result History FactRefusal) → Alike (on_result s r) (on_result Other r)
   result_alike (Ok h) = records_alike h
   result_alike (Err e) = (refl, inl refl)
 
@@ -201,16 +199,8 @@ module _ (s : Following) (larger : ℕ) (upto : s.cap ≤ larger) where
       by_moment false (Some name) = (refl, inl refl)
       by_moment false None = result_alike (all_done s.network t s.history (nodes_of s.names given))
 
-  now_alike : (t : ℕ) → Alike (on_now s t) (on_now Other t)
-  now_alike t = by_refusal (now_refusal s.history t)
-    where
-      by_refusal : (o : Option FactError) → Alike (on_fact s o (at_now s.history t)) (on_fact Other o (at_now s.history t))
-      by_refusal None = records_alike (at_now s.history t)
-      by_refusal (Some e) = (refl, inl refl)
-
-  outcome_alike : (o : Option (List ℕ)) (h : History) → Alike (on_outcome s o h) (on_outcome Other o h)
-  outcome_alike None h = records_alike h
-  outcome_alike (Some refusal) h = (refl, inl refl)
+  fact_alike : (o : Option FactRefusal) (h : History) → Alike (on_fact s o h) (on_fact Other o h)
+  fact_alike o h = result_alike (unless_refused o (Ok h))
 
   edit_alike : (o : Option (List ℕ)) (text : List ℕ) (m : Labelled) (e f : ℕ)
       → Alike (on_edit s o text (record s { network = m; edits = e; fresh = f })) (on_edit Other o text (record Other { network = m; edits = e; fresh = f }))
@@ -340,9 +330,9 @@ module _ (s : Following) (larger : ℕ) (upto : s.cap ≤ larger) where
   pub line_alike : (o : Option Follow) → Alike (on_line s o) (on_line Other o)
   line_alike None = (refl, inl refl)
   line_alike (Some (done_at t given)) = did_alike t given
-  line_alike (Some (came_at t p v)) = outcome_alike (saw_refusal s.network s.history t p) (with_told s.history t p v)
-  line_alike (Some (now_at t)) = now_alike t
-  line_alike (Some (awaited_at t p)) = outcome_alike (await_refusal s.network s.history t p) (with_expected s.history t p)
+  line_alike (Some (came_at t p v)) = fact_alike (told_refusal s.network s.history t p) (with_told s.history t p v)
+  line_alike (Some (now_at t)) = fact_alike (now_refusal s.history t) (at_now s.history t)
+  line_alike (Some (awaited_at t p)) = fact_alike (expected_refusal s.network s.history t p) (with_expected s.history t p)
   line_alike (Some (edits edit)) = plan_alike edit
   line_alike (Some (ends_by deadline)) = deadline_alike deadline (nat_lt most_deadline deadline)
   line_alike (Some asks_next) = next_alike

@@ -35,9 +35,9 @@ use Rattle.cstn_next.proofs.Exact.{is_next, named_exactly, awaited_exactly, done
 use Rattle.cstn_lines.specs.FollowLines.{Follow, follow_read, asks_next, asks_by, asks_blame}
 use Rattle.cstn_reply.specs.Texts.{line}
 use Rattle.cstn_reply.specs.Sessions.{Turn, more, last, wrong}
-use Rattle.cstn_history.specs.declared.errors.FactError.TheVariants.{Undecided}
+use Rattle.cstn_history.specs.Facts.{Undecided}
 use Rattle.cstn_follow.specs.Following.{Following, Heard, says, saves, left_now, verdict_now, verdict_within, verdict_line, too_many, is_open, any_below, is_any_open}
-use Rattle.cstn_follow.specs.FactLines.{refused_fact, node_of}
+use Rattle.cstn_follow.specs.FactLines.{refused_fact}
 use Rattle.cstn_follow.specs.Hearing.{counted, hear}
 use Rattle.cstn_follow.specs.Questions.{next_at, next_after}
 use Rattle.cstn_follow.specs.Searches.{has_place, by_refusal, by_text, by_after, by_unless, by_number, blame_text, blame_after}
@@ -138,7 +138,7 @@ module _ (s : Following) (sound : IsSound s) (x : ℕ) (here : x < count s.netwo
             inr ((full, (t.0, said_full s.cap (lowered (rest_until s.network s.history s.fresh x t.0)) t.1)), refl)
 
   abbrev refusal : Bool → Bool → Option (List ℕ)
-  refusal possible place = if not possible then Some (line (refused_fact s.names (Undecided (node_of x)))) else if place then None else Some too_many
+  refusal possible place = if not possible then Some (line (refused_fact s.names (Undecided x))) else if place then None else Some too_many
 
   place_is : (net : Network) → has_place net ≡ true → length net.constraints < most_constraints
   place_is net is = ltb-true (length net.constraints) most_constraints is

@@ -2,7 +2,7 @@
 ghost use Rattle.std.specs.Prelude.{◌≡◌, Ok, Err, IfOk, IfErr};
 ghost use Rattle.cstn_lift.specs.Read.{the_labelled};
 ghost use Rattle.cstn_history.specs.Facts.{told_refusal, expected_refusal, now_refusal, at_now, with_told, with_expected};
-ghost use Rattle.cstn_history.specs.Read.{the_history, IsKeptFor};
+ghost use Rattle.cstn_history.specs.Read.{the_history, IsKeptFor, the_fact_refusal};
 ghost use Rattle.cstn_follow.specs.FactLines.{all_done, unless_refused};
 ghost use Rattle.cstn_follow.specs.Sessions.{IsRightVerdict, Records, unrecorded};
 
@@ -32,7 +32,7 @@ impl Session {
     /// moment now. Else as `did`, but for the refusals: the first that applies of `OutOfRange` for a moment above 1,000,000,
     /// `NotObserved`, `Told`, `OutOfRange` for a moment before its observer was done, and `TooManyConstraints`.
     pub fn saw(&mut self, moment: u32, p: Prop, value: bool) -> Result<Verdict, FollowError>
-        ensures recorded { Records (unless_refused (told_refusal (the_labelled self.old.network) (the_history self.old.history) moment p)
+        ensures recorded { Records (unless_refused (told_refusal (the_labelled self.old.network) (the_history self.old.history) moment p.index)
             (Ok (with_told (the_history self.old.history) moment p.index value))) self.old self.new result }
         ensures right { IfOk result (IsRightVerdict self.new) }
     {
@@ -60,7 +60,7 @@ impl Session {
     /// Records that the outcome of a proposition is expected at this moment, in ticks, and not before. Else as `did`, but for the
     /// refusals: the first that applies of `NotObserved`, `Told`, `OutOfRange` and `TooManyConstraints`.
     pub fn expect(&mut self, moment: u32, p: Prop) -> Result<Verdict, FollowError>
-        ensures recorded { Records (unless_refused (expected_refusal (the_labelled self.old.network) (the_history self.old.history) moment p)
+        ensures recorded { Records (unless_refused (expected_refusal (the_labelled self.old.network) (the_history self.old.history) moment p.index)
             (Ok (with_expected (the_history self.old.history) moment p.index))) self.old self.new result }
         ensures right { IfOk result (IsRightVerdict self.new) }
     {
@@ -107,7 +107,7 @@ fn execute_all(
 ) -> Result<(), FactError>
     requires kept { IsKeptFor (the_labelled network.now) history.old }
     ensures done { IfOk result (λ _. all_done (the_labelled network.now) moment (the_history history.old) nodes.now ≡ Ok (the_history history.new)) }
-    ensures refused { IfErr result (λ e. all_done (the_labelled network.now) moment (the_history history.old) nodes.now ≡ Err e) }
+    ensures refused { IfErr result (λ e. all_done (the_labelled network.now) moment (the_history history.old) nodes.now ≡ Err (the_fact_refusal e)) }
     ensures kept { IsKeptFor (the_labelled network.now) history.new }
 {
     for x in nodes {

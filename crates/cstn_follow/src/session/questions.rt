@@ -7,7 +7,7 @@ ghost use Rattle.cstn_lift.specs.Lowered.{lowered};
 ghost use Rattle.cstn_lift.specs.Read.{the_labelled};
 ghost use Rattle.cstn_plan.specs.Plans.{the_bounds};
 ghost use Rattle.cstn_check.specs.Growth.{log_of, live_bounds};
-ghost use Rattle.cstn_history.specs.Read.{the_history};
+ghost use Rattle.cstn_history.specs.Read.{the_history, the_fact_refusal};
 ghost use Rattle.cstn_history.specs.Rest.{is_left};
 ghost use Rattle.cstn_follow.specs.Answers.{IsRightOutlook, TellsOutlook, IsLeftRefuted, IsRightLatest, TellsLatest, IsRightBlame, TellsBlame};
 ghost use Rattle.cstn_follow.specs.Answers.{SaidNo, SaidYes, wait_refusal, HasRoomLeftToWait};
@@ -95,7 +95,7 @@ impl Session {
 
     // Why it isn't told until when a time-point can wait.
     fn wait_refusal(&self, x: NodeId) -> Option<FactError>
-        ensures { result ≡ wait_refusal (the_labelled self.now.network) (the_history self.now.history) x }
+        ensures { option_map the_fact_refusal result ≡ wait_refusal (the_labelled self.now.network) (the_history self.now.history) x.0 }
     {
         if x.0 >= self.network().base().count() {
             return Some(FactError::NoSuch { node: x });
@@ -112,7 +112,7 @@ impl Session {
 
     // Until when a time-point that is left can wait, for which there is room.
     fn latest_left(&self, x: NodeId) -> Result<Latest, AllocError>
-        requires left { wait_refusal (the_labelled self.now.network) (the_history self.now.history) x ≡ None }
+        requires left { wait_refusal (the_labelled self.now.network) (the_history self.now.history) x.0 ≡ None }
         requires room { HasRoomLeftToWait self.now }
         ensures right { IfOk result (IsRightLatest (the_labelled self.now.network) (the_history self.now.history) x) }
         ensures told { IfOk result (TellsLatest self.now x) }
@@ -126,7 +126,7 @@ impl Session {
 
     // Until when it can wait, where what has happened can go on.
     fn latest_possible(&self, x: NodeId) -> Result<Latest, AllocError>
-        requires left { wait_refusal (the_labelled self.now.network) (the_history self.now.history) x ≡ None }
+        requires left { wait_refusal (the_labelled self.now.network) (the_history self.now.history) x.0 ≡ None }
         requires room { HasRoomLeftToWait self.now }
         requires yes { SaidYes self.now }
         ensures right { IfOk result (IsRightLatest (the_labelled self.now.network) (the_history self.now.history) x) }
