@@ -3,6 +3,7 @@ use Rattle.std.proofs.Common.{ℕ, ◌≡◌, ◌<◌, Bool, true, false, List, 
 use Rattle.std.specs.Prelude.{◌&&◌, not, nat_lt, nat_le, if◌then◌else◌}
 use Rattle.cstn_net.specs.Limits.{most_constraints}
 use Rattle.cstn_net.specs.Networks.{count}
+use Rattle.cstn_text.specs.Names.{number_of}
 use Rattle.cstn_lift.specs.Labelled.{Labelled}
 use Rattle.cstn_lift.specs.Completion.{completed_label}
 use Rattle.cstn_lift.specs.Lowered.{lowered}
@@ -13,7 +14,7 @@ use Rattle.cstn_reply.specs.Texts.{line, full_line}
 use Rattle.cstn_follow.specs.Following.{Following, says, left_now, too_many, verdict_now, verdict_line}
 use Rattle.cstn_follow.specs.FactLines.{refused_fact}
 use Rattle.cstn_follow.specs.Questions.{tells_verdict}
-use Rattle.cstn_follow.specs.Searches.{has_place, by_refusal, by_line, by_text, by_after, by_unless}
+use Rattle.cstn_follow.specs.Searches.{has_place, by_refusal, by_line, by_text, by_after, by_unless, by_number, on_by}
 use Rattle.cstn_follow.specs.Waiting.{HasRoomToWait, waits_until}
 use Rattle.cstn_follow.specs.Answers.{ruled_out, wait_refusal}
 
@@ -97,3 +98,8 @@ module _ (s : Following) (x : ℕ) (inside : x < count s.network.base) (text : L
     pub full_said : verdict_now s ≡ Full → text ≡ full_line s.cap → by_unless s x (by_refusal s x (s.history.done x)) ≡ says text s
     full_said full is =
         room_said free has ∙ ap (by_after s x) full ∙ ap (λ v. says (verdict_line s.cap v) s) full ∙ ap (λ l. says l s) (sym is)
+
+-- where a time-point has the name, it is told of that
+pub named_said : (s : Following) (name text : List ℕ) (x : ℕ) → number_of s.names name ≡ Some x → by_unless s x (by_refusal s x (s.history.done x)) ≡ says text s
+    → on_by s name ≡ says text s
+named_said s name text x is told = ap (by_number s name) is ∙ told

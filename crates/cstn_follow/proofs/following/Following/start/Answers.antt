@@ -16,7 +16,7 @@ pub returns-clause-start : goal.returns-clause-start
 returns-clause-start c =
     let session = c.in_ok-session.ensures in
     let made : LabelledParts → History → ℕ → ℕ → ℕ → Following = λ l h cap edits fresh.
-        record { network = the_labelled l; names = c.args.names; history = h; cap = cap; edits = edits; fresh = fresh; lines = 0 } in
+    record { network = the_labelled l; names = c.args.names; history = h; cap = cap; edits = edits; fresh = fresh; lines = 0 } in
     let s = c.in_ok-session.session in
     ap (λ l. made l _ s.cap s.edits s.fresh) session.network
     ∙ ap (λ h. made c.args.network h s.cap s.edits s.fresh) session.nothing
