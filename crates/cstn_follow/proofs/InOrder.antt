@@ -1,5 +1,5 @@
 -- Networks that are changed stay in order.
-use Rattle.std.proofs.Common.{ℕ, ℤ, ◌≡◌, ◌+◌, ◌<◌, ◌≤◌, Bool, true, false, not, List, ◌∷◌, [], length, map, get_or, Option, Some, None, arith, refl, inl, inr, length-append}
+use Rattle.std.proofs.Common.{ℕ, ℤ, ◌≡◌, ◌<◌, Bool, true, false, not, List, ◌∷◌, [], length, map, get_or, Option, Some, None, arith, refl, inl, inr, length-append}
 use Rattle.std.specs.Prelude.{◌==◌, nat_le, if◌then◌else◌}
 use Rattle.std.specs.List.{All}
 use Rattle.std.specs.Option.{option_map}
@@ -21,7 +21,8 @@ use Rattle.cstn_change.specs.Changes.{EditedNetwork, Change, adds, removes, reva
 use Rattle.cstn_change.proofs.IdLemmas.{value_id}
 use Rattle.cstn_change.proofs.RefusalLemmas.{true_value, on_observed}
 
-none_refused : {X : Type 0} (b : Bool) (r : X) (o : Option X) → (if b then Some r else o) ≡ None → (b ≡ false) × (o ≡ None)
+-- where a test and the rest refuse nothing, the test is false
+pub none_refused : {X : Type 0} (b : Bool) (r : X) (o : Option X) → (if b then Some r else o) ≡ None → (b ≡ false) × (o ≡ None)
 none_refused true r o e = absurd (cc)
 none_refused false r o e = (refl, e)
 

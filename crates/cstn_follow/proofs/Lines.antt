@@ -10,8 +10,7 @@ use Rattle.cstn_history.specs.Facts.{FactRefusal}
 use Rattle.cstn_history.specs.Histories.{History}
 use Rattle.cstn_history.specs.Read.{the_history}
 use Rattle.cstn_change.specs.Changes.{EditedNetwork, Change, after}
-use Rattle.cstn_change.specs.ChangeLines.{accepted_text, refused_text}
-use Rattle.cstn_change.specs.Read.{the_refusal}
+use Rattle.cstn_change.specs.ChangeLines.{accepted_text}
 use Rattle.cstn_reply.specs.Texts.{line}
 use Rattle.cstn_follow.specs.declared.errors.FollowError.{FollowError}
 use Rattle.cstn_follow.specs.declared.errors.FollowError.TheVariants.{Refused, TooManyConstraints, Memory}
@@ -19,7 +18,7 @@ use Rattle.cstn_follow.specs.declared.errors.ReplanError.{ReplanError}
 use Rattle.cstn_follow.specs.declared.errors.ReplanError.TheVariants.{Refused as IsRefusedEdit, TooManyConstraints as HasTooMany, Memory as RanOut}
 use Rattle.cstn_follow.specs.Following.{Following, says, too_many, verdict_line, verdict_now, verdict_within, on_verdict}
 use Rattle.cstn_follow.specs.FactLines.{on_result}
-use Rattle.cstn_follow.specs.PlanLines.{edited_network, replanned, on_refusal, on_edit, on_deadline}
+use Rattle.cstn_follow.specs.PlanLines.{replanned, on_refusal, on_edit, on_deadline}
 use Rattle.cstn_follow.specs.Read.{following_of, the_following}
 use Rattle.cstn_follow.specs.Replans.{Replans, MakesChange, edited_now, with_due}
 use Rattle.cstn_follow.specs.Sessions.{SessionParts, IsSession, Records}

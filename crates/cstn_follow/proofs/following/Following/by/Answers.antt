@@ -1,11 +1,11 @@
-use Rattle.std.proofs.Common.{ℕ, ◌≡◌, ◌<◌, Some, inl, inr, sym, subst, ap, ◌∙◌}
+use Rattle.std.proofs.Common.{◌≡◌, ◌<◌, inl, inr, sym, subst, ap, ◌∙◌}
 use Rattle.std.specs.Prelude.{IfOk}
 use Rattle.std.specs.Option.{option_map}
 use Rattle.std.proofs.lemmas.Result.{IfOk-weaker}
 use Rattle.cstn_label.specs.declared.nodes.NodeId.{NodeId}
 use Rattle.cstn_net.specs.Networks.{count}
 use Rattle.cstn_lift.specs.Read.{the_labelled}
-use Rattle.cstn_history.specs.Read.{the_history, the_fact_refusal}
+use Rattle.cstn_history.specs.Read.{the_fact_refusal}
 use Rattle.cstn_text.specs.Names.{number_of}
 use Rattle.cstn_reply.specs.Texts.{full_line}
 use Rattle.cstn_follow.specs.Answers.{IsRightLatest, TellsLatest}

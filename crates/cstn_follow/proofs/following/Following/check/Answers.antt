@@ -1,9 +1,8 @@
-use Rattle.std.proofs.Common.{ℕ, ◌≡◌, refl, sym, subst, ap, ◌∙◌}
+use Rattle.std.proofs.Common.{◌≡◌, refl, sym, subst, ap, ◌∙◌}
 use Rattle.std.specs.Prelude.{IfOk}
 use Rattle.std.proofs.lemmas.Result.{IfOk-weaker}
 use Rattle.cstn_lift.specs.Lowered.{lowered}
 use Rattle.cstn_refute.specs.Refutations.{the_steps}
-use Rattle.cstn_check.specs.Growth.{load_of}
 use Rattle.cstn_follow.specs.Following.{says, left_now, names_left}
 use Rattle.cstn_follow.specs.Questions.{tells_verdict, on_check}
 use Rattle.cstn_follow.specs.Read.{FollowingParts, IsFollowing, following_of, the_following}

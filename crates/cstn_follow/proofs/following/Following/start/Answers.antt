@@ -1,8 +1,7 @@
-use Rattle.std.proofs.Common.{ℕ, ◌≤◌, arith, sym, ap, ◌∙◌}
+use Rattle.std.proofs.Common.{ℕ, arith, sym, ap, ◌∙◌}
 use Rattle.cstn_net.specs.Networks.{count}
 use Rattle.cstn_lift.specs.Read.{LabelledParts, the_labelled}
 use Rattle.cstn_history.specs.Histories.{History, nothing_yet}
-use Rattle.cstn_change.specs.Changes.{id_above}
 use Rattle.cstn_follow.specs.Following.{Following}
 use Rattle.cstn_follow.proofs.following.Following.start.Goals as goal
 
