@@ -84,16 +84,16 @@ module _ (s : Following) (x : ℕ) (inside : x < count s.network.base) (text : L
   module _ (free : wait_refusal s.network s.history x ≡ None) (has : HasRoomToWait s.network s.history s.fresh) where
     pub until_said : (load t : ℕ) → verdict_now s ≡ Yes load → waits_until s.network s.history s.fresh x s.cap ≡ Some t → text ≡ by_line s.names t x
         → by_unless s x (by_refusal s x (s.history.done x)) ≡ says text s
-    until_said load t yes found is =
-        room_said free has ∙ ap (by_after s x) yes ∙ ap (λ o. says (by_text s x o) s) found ∙ ap (λ l. says l s) (sym is)
+    until_said load t can found is =
+        room_said free has ∙ ap (by_after s x) can ∙ ap (λ o. says (by_text s x o) s) found ∙ ap (λ l. says l s) (sym is)
 
     pub tried_said : (load : ℕ) → verdict_now s ≡ Yes load → waits_until s.network s.history s.fresh x s.cap ≡ None → text ≡ full_line s.cap
         → by_unless s x (by_refusal s x (s.history.done x)) ≡ says text s
-    tried_said load yes found is =
-        room_said free has ∙ ap (by_after s x) yes ∙ ap (λ o. says (by_text s x o) s) found ∙ ap (λ l. says l s) (sym is)
+    tried_said load can found is =
+        room_said free has ∙ ap (by_after s x) can ∙ ap (λ o. says (by_text s x o) s) found ∙ ap (λ l. says l s) (sym is)
 
     pub stuck_said : (load : ℕ) → verdict_now s ≡ No load → tells_verdict s ≡ says text s → by_unless s x (by_refusal s x (s.history.done x)) ≡ says text s
-    stuck_said load no is = room_said free has ∙ ap (by_after s x) no ∙ is
+    stuck_said load stuck is = room_said free has ∙ ap (by_after s x) stuck ∙ is
 
     pub full_said : verdict_now s ≡ Full → text ≡ full_line s.cap → by_unless s x (by_refusal s x (s.history.done x)) ≡ says text s
     full_said full is =

@@ -18,11 +18,11 @@ returns-in-Constraints c =
     let s = the_following (following_of w.session w.names w.lines) in
     let good = subst (λ (v : FollowingParts). IsFollowing v) (sym c.self.view_is) c.is_in_order.ensures.following in
     let told = subst (λ (b : ToBlame). TellsBlame w.session b) c.in-Constraints.is c.in_ok-blame.ensures.told in
-    let no = verdict_is w.names w.lines w.session _ good.session told.0.1 in
+    let stuck = verdict_is w.names w.lines w.session _ good.session told.0.1 in
     record {
       says = subst (λ (v : FollowingParts). IfOk c.blame_line.result (λ text. on_blame (the_following v) ≡ says text.items (the_following v))) c.self.view_is
           (IfOk-weaker c.blame_line.result _ _
-          (λ text said. blame_told s text.items told.0.0 (Some c.in-Constraints.ids.items) no told.1
+          (λ text said. blame_told s text.items told.0.0 (Some c.in-Constraints.ids.items) stuck told.1
           (said ∙ ap (λ ids. line (codes "blame" ++ ids_text ids)) c.deref.ensures.value)) c.blame_line.ensures.line);
     }
 
@@ -32,11 +32,11 @@ returns-in-Nothing c =
     let s = the_following (following_of w.session w.names w.lines) in
     let good = subst (λ (v : FollowingParts). IsFollowing v) (sym c.self.view_is) c.is_in_order.ensures.following in
     let told = subst (λ (b : ToBlame). TellsBlame w.session b) c.in-Nothing.is c.in_ok-blame.ensures.told in
-    let yes = verdict_is w.names w.lines w.session _ good.session told.1 in
+    let can = verdict_is w.names w.lines w.session _ good.session told.1 in
     record {
       says = IfOk-weaker c.verdict_line.result _ _
           (λ text said. subst (λ (v : FollowingParts). on_blame (the_following v) ≡ says text.items (the_following v)) c.self.view_is
-          (blame_other s text.items told.0 yes
+          (blame_other s text.items told.0 can
           (subst (λ (v : FollowingParts). tells_verdict (the_following v) ≡ says text.items (the_following v)) (sym c.self.view_is) said)))
           c.verdict_line.ensures.says;
     }

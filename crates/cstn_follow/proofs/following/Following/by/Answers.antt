@@ -29,12 +29,12 @@ returns-in-Until c =
     ∙ ap (option_map (λ (y : NodeId). y.0)) c.in-Some.is in
     let right = subst (λ (l : Latest). IsRightLatest s.network s.history x l) c.in-Until.is c.in_ok-latest.ensures.right in
     let told = subst (λ (l : Latest). TellsLatest w.session x l) c.in-Until.is c.in_ok-latest.ensures.told in
-    let yes = verdict_is w.names w.lines w.session _ good.session told.1.1 in
+    let can = verdict_is w.names w.lines w.session _ good.session told.1.1 in
     record {
       says = subst (λ (v : FollowingParts). IfOk c.by_line.result (λ text. on_by (the_following v) c.args.name.now ≡ says text.items (the_following v))) c.self.view_is
           (IfOk-weaker c.by_line.result _ _
           (λ text said. named_said s c.args.name.now text.items x.0 is
-          (until_said s x.0 inside text.items right.0 told.0 told.1.0 c.in-Until.moment yes told.2 said)) c.by_line.ensures.line);
+          (until_said s x.0 inside text.items right.0 told.0 told.1.0 c.in-Until.moment can told.2 said)) c.by_line.ensures.line);
     }
 
 pub returns-in-Refused : goal.returns-in-Refused
@@ -84,13 +84,13 @@ returns-in-Impossible c =
     ∙ ap (option_map (λ (y : NodeId). y.0)) c.in-Some.is in
     let right = subst (λ (l : Latest). IsRightLatest s.network s.history x l) c.in-Impossible.is c.in_ok-latest.ensures.right in
     let told = subst (λ (l : Latest). TellsLatest w.session x l) c.in-Impossible.is c.in_ok-latest.ensures.told in
-    let no = verdict_is w.names w.lines w.session _ good.session told.1.1 in
+    let stuck = verdict_is w.names w.lines w.session _ good.session told.1.1 in
     record {
       says = subst (λ (v : FollowingParts). IfOk c.verdict_line.result (λ text. on_by (the_following v) c.args.name.now ≡ says text.items (the_following v))) c.self.view_is
           (IfOk-weaker c.verdict_line.result _ _
           (λ text told_now. let said = subst (λ (v : FollowingParts). tells_verdict (the_following v) ≡ says text.items (the_following v)) (sym c.self.view_is) told_now in
           named_said s c.args.name.now text.items x.0 is
-          (stuck_said s x.0 inside text.items right.0 told.0 told.1.0 no said)) c.verdict_line.ensures.says);
+          (stuck_said s x.0 inside text.items right.0 told.0 told.1.0 stuck said)) c.verdict_line.ensures.says);
     }
 
 pub returns-in-Unknown : goal.returns-in-Unknown

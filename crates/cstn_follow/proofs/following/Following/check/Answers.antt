@@ -18,12 +18,12 @@ returns c =
     let r = c.in-Some.refutation.now in
     let good = subst (λ (v : FollowingParts). IsFollowing v) (sym c.self.view_is) c.is_in_order.ensures.following in
     let refuted = rw c.in-Some.is at c.refutation.ensures.refuted in
-    let no = verdict_is w.names w.lines w.session _ good.session refuted.0 in
+    let stuck = verdict_is w.names w.lines w.session _ good.session refuted.0 in
     let named = c.in_ok-names.ensures.names ∙ ap (λ (v : FollowingParts). names_left (the_following v)) (sym c.self.view_is) in
     record {
       says = subst (λ (v : FollowingParts). IfOk c.refuted.result (λ text. on_check (the_following v) ≡ says text.items (the_following v))) c.self.view_is
           (IfOk-weaker c.refuted.result _ _
-          (λ text said. check_said s r.load r.load c.in_ok-names.names (the_steps r) text.items no named (no_load s.cap r.load (lowered (left_now s)) no)
+          (λ text said. check_said s r.load r.load c.in_ok-names.names (the_steps r) text.items stuck named (no_load s.cap r.load (lowered (left_now s)) stuck)
           refuted.1 said) c.refuted.ensures);
     }
 
@@ -37,7 +37,7 @@ returns-in_default c =
       says = IfOk-weaker c.verdict_line.result _ _
           (λ text said. subst (λ (v : FollowingParts). on_check (the_following v) ≡ says text.items (the_following v)) c.self.view_is
           (other_said (the_following f) text.items w.session.verdict (verdict_is w.names w.lines w.session _ good.session refl)
-          (λ load no. never (load, no))
+          (λ load is. never (load, is))
           (subst (λ (v : FollowingParts). tells_verdict (the_following v) ≡ says text.items (the_following v)) (sym c.self.view_is) said)))
           c.verdict_line.ensures.says;
     }

@@ -16,10 +16,10 @@ returns-in-Next c =
     let f = following_of w.session w.names w.lines in
     let good = subst (λ (v : FollowingParts). IsFollowing v) (sym c.self.view_is) c.is_in_order.ensures.following in
     let told = subst (λ (o : Outlook). TellsOutlook w.session o) c.in-Next.is c.in_ok-next.ensures.told in
-    let yes = verdict_is w.names w.lines w.session _ good.session told.0.1 in
+    let can = verdict_is w.names w.lines w.session _ good.session told.0.1 in
     record {
       says = subst (λ (v : FollowingParts). IfOk c.next_line.result (λ text. on_next (the_following v) ≡ says text.items (the_following v))) c.self.view_is
-          (IfOk-weaker c.next_line.result _ _ (λ text is. moment_said (the_following f) told.0.0 yes text.items c.in-Next.next told.1 is) c.next_line.ensures.line);
+          (IfOk-weaker c.next_line.result _ _ (λ text is. moment_said (the_following f) told.0.0 can text.items c.in-Next.next told.1 is) c.next_line.ensures.line);
     }
 
 pub returns-in-Finished : goal.returns-in-Finished
@@ -28,8 +28,8 @@ returns-in-Finished c =
     let f = following_of w.session w.names w.lines in
     let good = subst (λ (v : FollowingParts). IsFollowing v) (sym c.self.view_is) c.is_in_order.ensures.following in
     let told = subst (λ (o : Outlook). TellsOutlook w.session o) c.in-Finished.is c.in_ok-next.ensures.told in
-    let yes = verdict_is w.names w.lines w.session _ good.session told.0.1 in
+    let can = verdict_is w.names w.lines w.session _ good.session told.0.1 in
     record {
       says = subst (λ (v : FollowingParts). IfOk c.word_line.result (λ text. on_next (the_following v) ≡ says text.items (the_following v))) c.self.view_is
-          (IfOk-weaker c.word_line.result _ _ (λ text is. finish_said (the_following f) told.0.0 yes text.items told.1 is) c.word_line.ensures.line);
+          (IfOk-weaker c.word_line.result _ _ (λ text is. finish_said (the_following f) told.0.0 can text.items told.1 is) c.word_line.ensures.line);
     }
