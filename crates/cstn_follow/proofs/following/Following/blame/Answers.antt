@@ -17,7 +17,7 @@ returns-in-Constraints c =
     let w = c.self.inside in
     let s = the_following (following_of w.session w.names w.lines) in
     let good = subst (λ (v : FollowingParts). IsFollowing v) (sym c.self.view_is) c.is_in_order.ensures.following in
-    let told = subst (λ (b : ToBlame). TellsBlame w.session b) c.in-Constraints.is c.in_ok-blame.ensures.told in
+    let told = subst (λ (b : ToBlame). TellsBlame w.session b) c.in-Constraints.is c.in_ok-ids.ensures.told in
     let stuck = verdict_is w.names w.lines w.session _ good.session told.0.1 in
     record {
       says = subst (λ (v : FollowingParts). IfOk c.blame_line.result (λ text. on_blame (the_following v) ≡ says text.items (the_following v))) c.self.view_is
@@ -31,7 +31,7 @@ returns-in-Nothing c =
     let w = c.self.inside in
     let s = the_following (following_of w.session w.names w.lines) in
     let good = subst (λ (v : FollowingParts). IsFollowing v) (sym c.self.view_is) c.is_in_order.ensures.following in
-    let told = subst (λ (b : ToBlame). TellsBlame w.session b) c.in-Nothing.is c.in_ok-blame.ensures.told in
+    let told = subst (λ (b : ToBlame). TellsBlame w.session b) c.in-Nothing.is c.in_ok-ids.ensures.told in
     let can = verdict_is w.names w.lines w.session _ good.session told.1 in
     record {
       says = IfOk-weaker c.verdict_line.result _ _
@@ -46,7 +46,7 @@ returns-in-Unknown c =
     let w = c.self.inside in
     let s = the_following (following_of w.session w.names w.lines) in
     let good = subst (λ (v : FollowingParts). IsFollowing v) (sym c.self.view_is) c.is_in_order.ensures.following in
-    let told = subst (λ (b : ToBlame). TellsBlame w.session b) c.in-Unknown.is c.in_ok-blame.ensures.told in
+    let told = subst (λ (b : ToBlame). TellsBlame w.session b) c.in-Unknown.is c.in_ok-ids.ensures.told in
     record {
       says = subst (λ (v : FollowingParts). IfOk c.full_line.result (λ text. on_blame (the_following v) ≡ says text.items (the_following v))) c.self.view_is
           (IfOk-weaker c.full_line.result _ _

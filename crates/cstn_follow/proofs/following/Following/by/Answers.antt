@@ -27,8 +27,8 @@ returns-in-Until c =
     let inside = subst (λ (v : FollowingParts). x.0 < count (the_labelled v.network).base) (sym c.self.view_is) (rw c.in-Some.is at c.node.ensures.inside) in
     let is = ap (λ (v : FollowingParts). number_of v.names c.args.name.now) c.self.view_is ∙ sym c.node.ensures.node
     ∙ ap (option_map (λ (y : NodeId). y.0)) c.in-Some.is in
-    let right = subst (λ (l : Latest). IsRightLatest s.network s.history x l) c.in-Until.is c.in_ok-latest.ensures.right in
-    let told = subst (λ (l : Latest). TellsLatest w.session x l) c.in-Until.is c.in_ok-latest.ensures.told in
+    let right = subst (λ (l : Latest). IsRightLatest s.network s.history x l) c.in-Until.is c.in_ok-moment.ensures.right in
+    let told = subst (λ (l : Latest). TellsLatest w.session x l) c.in-Until.is c.in_ok-moment.ensures.told in
     let can = verdict_is w.names w.lines w.session _ good.session told.1.1 in
     record {
       says = subst (λ (v : FollowingParts). IfOk c.by_line.result (λ text. on_by (the_following v) c.args.name.now ≡ says text.items (the_following v))) c.self.view_is
@@ -46,8 +46,8 @@ returns-in-Refused c =
     let inside = subst (λ (v : FollowingParts). x.0 < count (the_labelled v.network).base) (sym c.self.view_is) (rw c.in-Some.is at c.node.ensures.inside) in
     let is = ap (λ (v : FollowingParts). number_of v.names c.args.name.now) c.self.view_is ∙ sym c.node.ensures.node
     ∙ ap (option_map (λ (y : NodeId). y.0)) c.in-Some.is in
-    let right = subst (λ (l : Latest). IsRightLatest s.network s.history x l) c.in-Refused.is c.in_ok-latest.ensures.right in
-    let told = subst (λ (l : Latest). TellsLatest w.session x l) c.in-Refused.is c.in_ok-latest.ensures.told in
+    let right = subst (λ (l : Latest). IsRightLatest s.network s.history x l) c.in-Refused.is c.in_ok-moment.ensures.right in
+    let told = subst (λ (l : Latest). TellsLatest w.session x l) c.in-Refused.is c.in_ok-moment.ensures.told in
     record {
       says = subst (λ (v : FollowingParts). IfOk c.refused_fact.result (λ text. on_by (the_following v) c.args.name.now ≡ says text.items (the_following v))) c.self.view_is
           (IfOk-weaker c.refused_fact.result _ _
@@ -64,8 +64,8 @@ returns-in-TooManyConstraints c =
     let inside = subst (λ (v : FollowingParts). x.0 < count (the_labelled v.network).base) (sym c.self.view_is) (rw c.in-Some.is at c.node.ensures.inside) in
     let is = ap (λ (v : FollowingParts). number_of v.names c.args.name.now) c.self.view_is ∙ sym c.node.ensures.node
     ∙ ap (option_map (λ (y : NodeId). y.0)) c.in-Some.is in
-    let right = subst (λ (l : Latest). IsRightLatest s.network s.history x l) c.in-TooManyConstraints.is c.in_ok-latest.ensures.right in
-    let told = subst (λ (l : Latest). TellsLatest w.session x l) c.in-TooManyConstraints.is c.in_ok-latest.ensures.told in
+    let right = subst (λ (l : Latest). IsRightLatest s.network s.history x l) c.in-TooManyConstraints.is c.in_ok-moment.ensures.right in
+    let told = subst (λ (l : Latest). TellsLatest w.session x l) c.in-TooManyConstraints.is c.in_ok-moment.ensures.told in
     record {
       says = subst (λ (v : FollowingParts). IfOk c.too_many.result (λ text. on_by (the_following v) c.args.name.now ≡ says text.items (the_following v))) c.self.view_is
           (IfOk-weaker c.too_many.result _ _
@@ -82,8 +82,8 @@ returns-in-Impossible c =
     let inside = subst (λ (v : FollowingParts). x.0 < count (the_labelled v.network).base) (sym c.self.view_is) (rw c.in-Some.is at c.node.ensures.inside) in
     let is = ap (λ (v : FollowingParts). number_of v.names c.args.name.now) c.self.view_is ∙ sym c.node.ensures.node
     ∙ ap (option_map (λ (y : NodeId). y.0)) c.in-Some.is in
-    let right = subst (λ (l : Latest). IsRightLatest s.network s.history x l) c.in-Impossible.is c.in_ok-latest.ensures.right in
-    let told = subst (λ (l : Latest). TellsLatest w.session x l) c.in-Impossible.is c.in_ok-latest.ensures.told in
+    let right = subst (λ (l : Latest). IsRightLatest s.network s.history x l) c.in-Impossible.is c.in_ok-moment.ensures.right in
+    let told = subst (λ (l : Latest). TellsLatest w.session x l) c.in-Impossible.is c.in_ok-moment.ensures.told in
     let stuck = verdict_is w.names w.lines w.session _ good.session told.1.1 in
     record {
       says = subst (λ (v : FollowingParts). IfOk c.verdict_line.result (λ text. on_by (the_following v) c.args.name.now ≡ says text.items (the_following v))) c.self.view_is
@@ -102,8 +102,8 @@ returns-in-Unknown c =
     let inside = subst (λ (v : FollowingParts). x.0 < count (the_labelled v.network).base) (sym c.self.view_is) (rw c.in-Some.is at c.node.ensures.inside) in
     let is = ap (λ (v : FollowingParts). number_of v.names c.args.name.now) c.self.view_is ∙ sym c.node.ensures.node
     ∙ ap (option_map (λ (y : NodeId). y.0)) c.in-Some.is in
-    let right = subst (λ (l : Latest). IsRightLatest s.network s.history x l) c.in-Unknown.is c.in_ok-latest.ensures.right in
-    let told = subst (λ (l : Latest). TellsLatest w.session x l) c.in-Unknown.is c.in_ok-latest.ensures.told in
+    let right = subst (λ (l : Latest). IsRightLatest s.network s.history x l) c.in-Unknown.is c.in_ok-moment.ensures.right in
+    let told = subst (λ (l : Latest). TellsLatest w.session x l) c.in-Unknown.is c.in_ok-moment.ensures.told in
     record {
       says = subst (λ (v : FollowingParts). IfOk c.full_line.result (λ text. on_by (the_following v) c.args.name.now ≡ says text.items (the_following v))) c.self.view_is
           (IfOk-weaker c.full_line.result _ _
