@@ -63,6 +63,19 @@ module _ (s : SessionParts) (m : Labelled) where
   abbrev TheNetwork : Labelled
   TheNetwork = the_labelled s.network
 
+  -- what calls say of the parts of a session is true of it
+  pub changed_by : (l : LabelledParts) (fresh : ℕ) (change : Change) → l ≡ s.network → fresh ≡ s.fresh
+      → m ≡ edited (the_labelled l) l.base.deadline (constraints_after (the_labelled l).base.constraints fresh change)
+      → m ≡ edited TheNetwork TheNetwork.base.deadline (constraints_after TheNetwork.base.constraints s.fresh change)
+  changed_by l fresh change same next is =
+      is
+      ∙ ap (λ (k : LabelledParts). edited (the_labelled k) k.base.deadline (constraints_after (the_labelled k).base.constraints fresh change)) same
+      ∙ ap (λ (n : ℕ). edited TheNetwork TheNetwork.base.deadline (constraints_after TheNetwork.base.constraints n change)) next
+
+  pub due_by : (l : LabelledParts) (deadline : ℕ) → l ≡ s.network → m ≡ edited (the_labelled l) deadline (the_labelled l).base.constraints
+      → m ≡ edited TheNetwork deadline TheNetwork.base.constraints
+  due_by l deadline same is = is ∙ ap (λ (k : LabelledParts). edited (the_labelled k) deadline (the_labelled k).base.constraints) same
+
   -- a change is made
   pub change_is : (change : Change) (fresh edits : ℕ)
       → m ≡ edited TheNetwork TheNetwork.base.deadline (constraints_after TheNetwork.base.constraints s.fresh change)
@@ -91,6 +104,20 @@ kept_replanned s m deadline cs good is =
 -- there is no verdict where it has too many constraints, lowered
 pub too_many_edited : (s : SessionParts) (e : EditedNetwork) → most_constraints < length (lowered (replanned s e)).constraints → verdict_replanned s e ≡ None
 too_many_edited s e many = left_many (replanned s e) (the_history s.history) e.fresh s.cap (inl many)
+
+module _ (s : SessionParts) (l : LabelledParts) (same : l ≡ s.network) where
+  pub many_changed : (fresh : ℕ) (change : Change) → fresh ≡ s.fresh
+      → most_constraints < length (lowered (edited (the_labelled l) l.base.deadline (constraints_after (the_labelled l).base.constraints fresh change))).constraints
+      → verdict_replanned s (after (edited_now s) change) ≡ None
+  many_changed fresh change next many =
+      too_many_edited s (after (edited_now s) change)
+      (subst (λ (m : Labelled). most_constraints < length (lowered m).constraints) (changed_by s _ l fresh change same next refl) many)
+
+  pub many_due : (deadline : ℕ) → most_constraints < length (lowered (edited (the_labelled l) deadline (the_labelled l).base.constraints)).constraints
+      → verdict_replanned s (with_due (edited_now s) deadline) ≡ None
+  many_due deadline many =
+      too_many_edited s (with_due (edited_now s) deadline)
+      (subst (λ (m : Labelled). most_constraints < length (lowered m).constraints) (due_by s _ l deadline same refl) many)
 
 -- ---- changes
 
