@@ -1,9 +1,8 @@
 -- What edits of the network make of a session.
-use Rattle.std.proofs.Common.{ℕ, ◌≡◌, ◌<◌, ◌≤◌, ◌+◌, ◌^◌, inl, List, Option, Some, None, IfNone, IfSome, length, refl, sym, subst, ap, ◌∙◌}
-use Rattle.std.specs.Prelude.{Result, Ok, Err}
-use Rattle.std.specs.List.{All}
+use Rattle.std.proofs.Common.{ℕ, ◌≡◌, ◌<◌, inl, List, Some, None, length, refl, sym, subst, ap, ◌∙◌}
+use Rattle.std.specs.Prelude.{Ok, Err}
 use Rattle.cstn_label.specs.Labels.{Label}
-use Rattle.cstn_net.specs.Limits.{most_constraints, most_edits}
+use Rattle.cstn_net.specs.Limits.{most_constraints}
 use Rattle.cstn_net.specs.Networks.{Network, Constraint}
 use Rattle.cstn_lift.specs.Labelled.{Labelled}
 use Rattle.cstn_lift.specs.Lowered.{lowered}
@@ -12,17 +11,16 @@ use Rattle.cstn_check.specs.declared.verdicts.Verdict.{Verdict}
 use Rattle.cstn_history.specs.declared.errors.RestError.{RestError}
 use Rattle.cstn_history.specs.declared.errors.RestError.TheVariants.{TooManyConstraints as AreTooMany, Memory as OutOfMemory}
 use Rattle.cstn_history.specs.Histories.{edited}
-use Rattle.cstn_history.specs.Read.{HistoryParts, the_history, IsKeptFor}
+use Rattle.cstn_history.specs.Read.{the_history, IsKeptFor}
 use Rattle.cstn_history.proofs.Edited.{timely_edited}
-use Rattle.cstn_change.specs.Changes.{EditedNetwork, Change, Refusal, edited_base, after, constraints_after, fresh_after}
+use Rattle.cstn_change.specs.Changes.{EditedNetwork, Change, edited_base, after, constraints_after}
 use Rattle.cstn_follow.specs.Following.{verdict_left}
 use Rattle.cstn_follow.proofs.Edited.{left_many}
-use Rattle.cstn_follow.specs.declared.errors.ReplanError.{ReplanError}
 use Rattle.cstn_follow.specs.declared.findings.Finding.{Finding}
-use Rattle.cstn_follow.specs.Executions.{ExecutionParts, IsExecution}
+use Rattle.cstn_follow.specs.Executions.{ExecutionParts}
 use Rattle.cstn_follow.specs.Findings.{verdict_of}
 use Rattle.cstn_follow.specs.Sessions.{SessionParts, IsSession, followed}
-use Rattle.cstn_follow.specs.Replans.{Replans, MakesChange, edited_now, with_due, replanned, verdict_replanned, change_refused, unreplanned}
+use Rattle.cstn_follow.specs.Replans.{Replans, edited_now, with_due, replanned, verdict_replanned}
 
 -- a labelled network of this network, with these labels
 abbrev labelled_on : Network → List Label → Labelled
@@ -53,31 +51,24 @@ module _ (x y : ExecutionParts) (network : LabelledParts) (fresh cap edits later
       subst (λ (z : ExecutionParts). Replans e old (followed z cap later g) (Ok v)) (sym is)
       (subst (λ (u : Verdict). Replans e old (followed new cap later g) (Ok u)) (sym said) (labels, refl, verdict))
 
--- an edit is told by the same network as edited
-pub replans_same : (e same : EditedNetwork) (old new : SessionParts) (r : Result Verdict RestError) → e ≡ same → Replans same old new r → Replans e old new r
-replans_same e same old new r is replans = subst (λ (n : EditedNetwork). Replans n old new r) (sym is) replans
-
 -- ---- the network as edited
 
 module _ (s : SessionParts) (m : Labelled) where
   abbrev TheNetwork : Labelled
   TheNetwork = the_labelled s.network
 
-  -- a change is made
-  pub change_is : (change : Change) (fresh edits : ℕ)
+  -- what calls say of the parts of a session is true of it
+  pub changed_by : (l : LabelledParts) (fresh : ℕ) (change : Change) → l ≡ s.network → fresh ≡ s.fresh
+      → m ≡ edited (the_labelled l) l.base.deadline (constraints_after (the_labelled l).base.constraints fresh change)
       → m ≡ edited TheNetwork TheNetwork.base.deadline (constraints_after TheNetwork.base.constraints s.fresh change)
-      → fresh ≡ fresh_after s.fresh change → edits ≡ s.edits + 1 → after (edited_now s) change ≡ edited_base m fresh edits
-  change_is change fresh edits is next one_more =
-      let made = edited TheNetwork TheNetwork.base.deadline (constraints_after TheNetwork.base.constraints s.fresh change) in
-      ap (λ (n : Labelled). edited_base n (fresh_after s.fresh change) (s.edits + 1)) (sym is)
-      ∙ ap (λ (n : ℕ). edited_base m n (s.edits + 1)) (sym next) ∙ ap (λ (n : ℕ). edited_base m fresh n) (sym one_more)
+  changed_by l fresh change same next is =
+      is
+      ∙ ap (λ (k : LabelledParts). edited (the_labelled k) k.base.deadline (constraints_after (the_labelled k).base.constraints fresh change)) same
+      ∙ ap (λ (n : ℕ). edited TheNetwork TheNetwork.base.deadline (constraints_after TheNetwork.base.constraints n change)) next
 
-  -- the deadline is set
-  pub due_is : (deadline fresh edits : ℕ) → m ≡ edited TheNetwork deadline TheNetwork.base.constraints → fresh ≡ s.fresh → edits ≡ s.edits
-      → with_due (edited_now s) deadline ≡ edited_base m fresh edits
-  due_is deadline fresh edits is same_fresh same_edits =
-      ap (λ (n : Labelled). edited_base n s.fresh s.edits) (sym is)
-      ∙ ap (λ (n : ℕ). edited_base m n s.edits) (sym same_fresh) ∙ ap (λ (n : ℕ). edited_base m fresh n) (sym same_edits)
+  pub due_by : (l : LabelledParts) (deadline : ℕ) → l ≡ s.network → m ≡ edited (the_labelled l) deadline (the_labelled l).base.constraints
+      → m ≡ edited TheNetwork deadline TheNetwork.base.constraints
+  due_by l deadline same is = is ∙ ap (λ (k : LabelledParts). edited (the_labelled k) deadline (the_labelled k).base.constraints) same
 
 -- what has happened is kept for it
 pub kept_replanned : (s : SessionParts) (m : Labelled) (deadline : ℕ) (cs : List Constraint) → IsSession s → m ≡ edited (the_labelled s.network) deadline cs
@@ -92,14 +83,16 @@ kept_replanned s m deadline cs good is =
 pub too_many_edited : (s : SessionParts) (e : EditedNetwork) → most_constraints < length (lowered (replanned s e)).constraints → verdict_replanned s e ≡ None
 too_many_edited s e many = left_many (replanned s e) (the_history s.history) e.fresh s.cap (inl many)
 
--- ---- changes
+module _ (s : SessionParts) (l : LabelledParts) (same : l ≡ s.network) where
+  pub many_changed : (fresh : ℕ) (change : Change) → fresh ≡ s.fresh
+      → most_constraints < length (lowered (edited (the_labelled l) l.base.deadline (constraints_after (the_labelled l).base.constraints fresh change))).constraints
+      → verdict_replanned s (after (edited_now s) change) ≡ None
+  many_changed fresh change next many =
+      too_many_edited s (after (edited_now s) change)
+      (subst (λ (m : Labelled). most_constraints < length (lowered m).constraints) (changed_by s _ l fresh change same next refl) many)
 
--- a change that is refused isn't made
-pub made_by : (change : Change) (old new : SessionParts) (v : Verdict) → change_refused old change ≡ None
-    → Replans (after (edited_now old) change) old new (Ok v) → MakesChange change old new (Ok v)
-made_by change old new v none replans = (none, replans)
-
-pub not_made : (change : Change) (old new : SessionParts) (error : RestError) → change_refused old change ≡ None
-    → Replans (after (edited_now old) change) old new (Err error) → MakesChange change old new (Err (unreplanned error))
-not_made change old new AreTooMany none replans = (none, replans)
-not_made change old new (OutOfMemory error) none replans = replans
+  pub many_due : (deadline : ℕ) → most_constraints < length (lowered (edited (the_labelled l) deadline (the_labelled l).base.constraints)).constraints
+      → verdict_replanned s (with_due (edited_now s) deadline) ≡ None
+  many_due deadline many =
+      too_many_edited s (with_due (edited_now s) deadline)
+      (subst (λ (m : Labelled). most_constraints < length (lowered m).constraints) (due_by s _ l deadline same refl) many)
