@@ -53,21 +53,19 @@ module _ (x y : ExecutionParts) (network : LabelledParts) (fresh cap edits later
 
 -- ---- the network as edited
 
-module _ (s : SessionParts) (m : Labelled) where
-  abbrev TheNetwork : Labelled
-  TheNetwork = the_labelled s.network
+-- the labelled network with a change of its constraints
+abbrev changed_network : LabelledParts → ℕ → Change → Labelled
+changed_network l fresh change = edited (the_labelled l) l.base.deadline (constraints_after (the_labelled l).base.constraints fresh change)
 
+module _ (s : SessionParts) (m : Labelled) where
   -- what calls say of the parts of a session is true of it
-  pub changed_by : (l : LabelledParts) (fresh : ℕ) (change : Change) → l ≡ s.network → fresh ≡ s.fresh
-      → m ≡ edited (the_labelled l) l.base.deadline (constraints_after (the_labelled l).base.constraints fresh change)
-      → m ≡ edited TheNetwork TheNetwork.base.deadline (constraints_after TheNetwork.base.constraints s.fresh change)
+  pub changed_by : (l : LabelledParts) (fresh : ℕ) (change : Change) → l ≡ s.network → fresh ≡ s.fresh → m ≡ changed_network l fresh change
+      → m ≡ changed_network s.network s.fresh change
   changed_by l fresh change same next is =
-      is
-      ∙ ap (λ (k : LabelledParts). edited (the_labelled k) k.base.deadline (constraints_after (the_labelled k).base.constraints fresh change)) same
-      ∙ ap (λ (n : ℕ). edited TheNetwork TheNetwork.base.deadline (constraints_after TheNetwork.base.constraints n change)) next
+      is ∙ ap (λ (k : LabelledParts). changed_network k fresh change) same ∙ ap (λ (n : ℕ). changed_network s.network n change) next
 
   pub due_by : (l : LabelledParts) (deadline : ℕ) → l ≡ s.network → m ≡ edited (the_labelled l) deadline (the_labelled l).base.constraints
-      → m ≡ edited TheNetwork deadline TheNetwork.base.constraints
+      → m ≡ edited (the_labelled s.network) deadline (the_labelled s.network).base.constraints
   due_by l deadline same is = is ∙ ap (λ (k : LabelledParts). edited (the_labelled k) deadline (the_labelled k).base.constraints) same
 
 -- what has happened is kept for it
@@ -84,8 +82,7 @@ pub too_many_edited : (s : SessionParts) (e : EditedNetwork) → most_constraint
 too_many_edited s e many = left_many (replanned s e) (the_history s.history) e.fresh s.cap (inl many)
 
 module _ (s : SessionParts) (l : LabelledParts) (same : l ≡ s.network) where
-  pub many_changed : (fresh : ℕ) (change : Change) → fresh ≡ s.fresh
-      → most_constraints < length (lowered (edited (the_labelled l) l.base.deadline (constraints_after (the_labelled l).base.constraints fresh change))).constraints
+  pub many_changed : (fresh : ℕ) (change : Change) → fresh ≡ s.fresh → most_constraints < length (lowered (changed_network l fresh change)).constraints
       → verdict_replanned s (after (edited_now s) change) ≡ None
   many_changed fresh change next many =
       too_many_edited s (after (edited_now s) change)

@@ -13,11 +13,12 @@ returns-clause-until c = subst (λ (e : ExecutionParts). IfOk c.by.result (λ t.
     c.args.cap.entries ≡ Some t)) c.self.view_is c.by.ensures.until
 
 pub returns-clause-last : goal.returns-clause-last
-returns-clause-last c = subst (λ (e : ExecutionParts). IfOk c.by.result (λ t. (u : ℕ) → CanWait (the_labelled e.network) (the_history e.history) c.args.x.0 u → u ≤ t))
-    c.self.view_is c.by.ensures.last
+returns-clause-last c = subst (λ (e : ExecutionParts). IfOk c.by.result
+    (λ t. (u : ℕ) → CanWait (the_labelled e.network) (the_history e.history) c.args.x.0 u → u ≤ t)) c.self.view_is c.by.ensures.last
 
 pub returns-clause-few : goal.returns-clause-few
-returns-clause-few c = subst (λ (e : ExecutionParts). IsOk c.by.result → HasRoomToWait (the_labelled e.network) (the_history e.history) e.fresh) c.self.view_is c.by.ensures.few
+returns-clause-few c = subst (λ (e : ExecutionParts). IsOk c.by.result → HasRoomToWait (the_labelled e.network) (the_history e.history) e.fresh)
+    c.self.view_is c.by.ensures.few
 
 pub returns-clause-many : goal.returns-clause-many
 returns-clause-many c = subst (λ (e : ExecutionParts). IsErrOf c.by.result TooManyConstraints

@@ -30,7 +30,8 @@ returns-in-Some-clause-right c =
       subst (λ (g : HistoryParts). IsWhatIsNext (the_labelled s.network) (the_history g) n) c.history.ensures.history
           (subst (λ (l : LabelledParts). IsWhatIsNext (the_labelled l) h n) c.network.ensures.network (record {
             next = subst (λ (o : Option NextMoment). IfSome o (λ n. IsNext m h n.moment)) is told.next;
-            named = subst (λ (o : Option NextMoment). IfSome o (λ n. (x : ℕ) → Contains (map (λ y. y.0) n.named.items) x ↔ IsNamed m h n.moment x)) is told.named;
+            named = subst (λ (o : Option NextMoment). IfSome o (λ n. (x : ℕ) → Contains (map (λ y. y.0) n.named.items) x ↔ IsNamed m h n.moment x))
+                is told.named;
             awaited = subst (λ (o : Option NextMoment). IfSome o (λ n. (p : ℕ) → Contains (map (λ q. q.index) n.awaited.items) p ↔ IsAwaited m h n.moment p))
                 is told.awaited;
           })),

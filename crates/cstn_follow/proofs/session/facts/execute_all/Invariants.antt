@@ -6,6 +6,7 @@ use Rattle.cstn_follow.proofs.session.facts.execute_all.Given as goal
 
 abbrev pub invariant-loop-x : goal.invariant-loop-x
 invariant-loop-x l = record {
-  left : all_done (the_labelled l.network) l.moment (the_history l.initial.history) l.nodes ≡ all_done (the_labelled l.network) l.moment (the_history l.history) (drop l.x-index l.nodes);
+  left : all_done (the_labelled l.network) l.moment (the_history l.initial.history) l.nodes
+      ≡ all_done (the_labelled l.network) l.moment (the_history l.history) (drop l.x-index l.nodes);
   kept : IsKeptFor (the_labelled l.network) l.history;
 }
