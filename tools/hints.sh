@@ -18,6 +18,7 @@ tell_commands() {
   echo "./cstn --version says more: which program is taken, and what it was made from; ./cstn --program writes where it is"
   echo "./cstn explain FILE [PROOF] says a document, a no, a tree or what follow answers in words, what of FILE was passed over, and why it is refused"
   echo "./cstn draw network FILE, draw cases FILE, draw now FILE SESSION and draw --html FILE write pictures of a plan: docs/draw.md"
+  echo "./cstn board FILE .. [--tick SECONDS] is a local web page for those who carry plans out: docs/board.md"
   echo "What \`refused ..\` means in run, edit, follow and host, and what to do: docs/guide.md, under \"Every refusal\""
   echo "That one file is what to install; CSTN_NO_BUILD=1 ./cstn COMMAND .. never begins a build"
 }

@@ -1,5 +1,5 @@
-"""What goes wrong, as types. A call that raises one of these has changed nothing; after `OutOfTime` and `Unavailable`
-an event may be kept, and is told again with its key."""
+"""What goes wrong, as types. A call that raises one of these has changed nothing; after `OutOfTime` and `Unavailable`,
+and after `NotKept` where a connection was lost, an event may be kept, and is told again with its key."""
 from __future__ import annotations
 
 from dataclasses import dataclass, field
@@ -98,7 +98,8 @@ class Moved(CstnError):
 
 
 class NotKept(CstnError):
-    """The journal could not take the event (a full disk, a lost connection): nothing was told."""
+    """The journal could not take the event: a full disk, a lost connection. One that is lost at the commit leaves open
+    whether the event is kept."""
 
 
 class Busy(CstnError):

@@ -17,11 +17,10 @@ use Rattle.cstn_lift.proofs.Equivalent.{equivalent, mixed, mixed_defaulted, to_l
 use Rattle.cstn_lift.proofs.Twins.{defaulted_least}
 use Rattle.cstn_lift.proofs.WellFormed.{lowered_well_formed}
 use Rattle.cstn_check.proofs.Decides.{least_exists}
-use Rattle.cstn_history.specs.declared.errors.FactError.{FactError}
 use Rattle.cstn_history.specs.Histories.{History, IsHistory, IsTimelyHistory, GoesOn, is_done}
 use Rattle.cstn_history.specs.Continuations.{Continues, Can, IsLeastNow, IsQuietBefore, IsAlwaysAt, IsNamed, IsLeastTable}
 use Rattle.cstn_history.specs.Rest.{number_of, rest}
-use Rattle.cstn_history.specs.Facts.{settles, is_beyond, observed_since, again_told, told_after, done_refusal, told_refusal, with_done}
+use Rattle.cstn_history.specs.Facts.{FactRefusal, settles, is_beyond, observed_since, again_told, told_after, done_refusal, told_refusal, with_done}
 use Rattle.cstn_history.proofs.Settled.{as_told, told_agrees, told_itself, holds_allows}
 use Rattle.cstn_history.proofs.Places.{left_coming, new_inside}
 use Rattle.cstn_history.proofs.ToRest.{executed_left}
@@ -36,10 +35,10 @@ use Rattle.cstn_follow.specs.Progress.{HasRoomLeft, IsQuietUpto, IsPassing, IsTe
 use Rattle.cstn_next.proofs.Coming.{ready_from}
 
 -- an outcome that is accepted wasn't told
-untold_here : (m : Labelled) (h : History) (t : ℕ) (p : Prop) → told_refusal m h t p ≡ None → h.told p.index ≡ None
-untold_here m h t p e = free_after (observed_since m h p.index) (passed (is_beyond t) _ _ e)
+untold_here : (m : Labelled) (h : History) (t p : ℕ) → told_refusal m h t p ≡ None → h.told p ≡ None
+untold_here m h t p e = free_after (observed_since m h p) (passed (is_beyond t) _ _ e)
   where
-    passed : (b : Bool) (f : FactError) (o : Option FactError) → (if b then Some f else o) ≡ None → o ≡ None
+    passed : (b : Bool) (f : FactRefusal) (o : Option FactRefusal) → (if b then Some f else o) ≡ None → o ≡ None
     passed true f o is = absurd (cc)
     passed false f o is = is
 
@@ -47,9 +46,9 @@ untold_here m h t p e = free_after (observed_since m h p.index) (passed (is_beyo
     free_again u None f = refl
     free_again u (Some v) f = absurd (cc)
 
-    free_after : (o : Option ℕ) → told_after h t p o ≡ None → h.told p.index ≡ None
+    free_after : (o : Option ℕ) → told_after h t p o ≡ None → h.told p ≡ None
     free_after None f = absurd (cc)
-    free_after (Some u) f = free_again u (h.told p.index) f
+    free_after (Some u) f = free_again u (h.told p) f
 
 module _ (m : Labelled) (h : History) (good : IsLabelled m) (timely : IsTimelyHistory m h) where
   abbrev known : IsHistory m h
@@ -120,7 +119,7 @@ module _ (m : Labelled) (h : History) (good : IsLabelled m) (timely : IsTimelyHi
       limit_upto zero = omega arith
       limit_upto (suc y) = good.base.in_time
 
-  pub named_accepted : (t : ℕ) (x : NodeId) → IsNamed m h t x.0 → done_refusal m h t x ≡ None
+  pub named_accepted : (t : ℕ) (x : NodeId) → IsNamed m h t x.0 → done_refusal m h t x.0 ≡ None
   named_accepted t x named =
       let upto = named_upto t x.0 named in
       let ready = ready_from m h good x.0 named.coming (λ s agrees. (named.least s agrees).executed) in
@@ -140,11 +139,11 @@ module _ (m : Labelled) (h : History) (good : IsLabelled m) (timely : IsTimelyHi
 
   tells : Can m h → (later : History) → IsTelling m h later → IsTimelyHistory m later × Can m later
   tells can later p = subst (λ k. IsTimelyHistory m k × Can m k) (sym p.recorded) (
-    timely_told m h good known timely.in_time p.moment p.prop p.value p.accepted,
+    timely_told m h good known timely.in_time p.moment p.prop.index p.value p.accepted,
     (
       can.0,
       outcome_comes m h can.0 can.1 p.moment p.prop.index p.value
-          (untold_here m h p.moment p.prop p.accepted) (quiet_of can.0 can.1 p.moment p.quiet),
+          (untold_here m h p.moment p.prop.index p.accepted) (quiet_of can.0 can.1 p.moment p.quiet),
     ),
   )
 
@@ -152,7 +151,7 @@ module _ (m : Labelled) (h : History) (good : IsLabelled m) (timely : IsTimelyHi
   does room can later p =
       let table = least_table room can in
       subst (λ k. IsTimelyHistory m k × Can m k) (sym p.recorded) (
-        timely_done m h good known timely.in_time p.moment p.node (named_accepted p.moment p.node p.named),
+        timely_done m h good known timely.in_time p.moment p.node.0 (named_accepted p.moment p.node p.named),
         (
           table.0,
           step_is_done m h good known table.0 table.1 p.moment p.node.0 p.named.here p.named.coming (quiet_of table.0 table.1 p.moment p.quiet)
@@ -172,7 +171,7 @@ module _ (m : Labelled) (h : History) (good : IsLabelled m) (timely : IsTimelyHi
     later = with_done h t x.0
 
     then_timely : IsTimelyHistory m later
-    then_timely = timely_done m h good known timely.in_time t x (named_accepted t x named)
+    then_timely = timely_done m h good known timely.in_time t x.0 (named_accepted t x named)
 
     abbrev chosen : (table : Table) × Continues m h table × IsLeastTable m h table
     chosen = least_table room can

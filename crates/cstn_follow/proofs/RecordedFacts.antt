@@ -1,26 +1,25 @@
 -- How facts are refused, and what has happened once they are recorded.
-use Rattle.std.proofs.Common.{ℕ, zero, suc, ◌≡◌, ◌≤◌, Bool, true, false, max, List, [], ◌∷◌, ◌++◌, length, Option, Some, None, arith, refl, sym, subst, ap, ◌∙◌, inl, inr}
-use Rattle.std.specs.Prelude.{◌⊎◌, cond, Result, Ok, nat_lt, nat_le, if◌then◌else◌, codes, decimal}
+use Rattle.std.proofs.Common.{ℕ, zero, suc, ◌≡◌, ◌≤◌, Bool, false, max, List, [], ◌∷◌, ◌++◌, length, Option, Some, None, arith, refl, sym, subst, ap, ◌∙◌, inl, inr}
+use Rattle.std.specs.Prelude.{◌⊎◌, cond, Result, Ok, nat_lt, nat_le, codes, decimal}
 use Rattle.std.specs.List.{Contains, cons_option}
 use Rattle.std.specs.Option.{option_map, is_none}
 use Rattle.std.proofs.lemmas.Bool.{cases_eq}
 use Rattle.cstn_facts.proofs.Members.{filter_map_contains, filter_map_from}
 use Rattle.cstn_label.specs.Letters.{letter_of}
 use Rattle.cstn_label.specs.declared.nodes.NodeId.{NodeId}
-use Rattle.cstn_label.specs.declared.props.Prop.{Prop}
 use Rattle.cstn_net.specs.Networks.{count}
 use Rattle.cstn_text.specs.Names.{number_of}
 use Rattle.cstn_text.specs.PrintedNames.{printed_name}
 use Rattle.cstn_lift.specs.Labelled.{Labelled}
-use Rattle.cstn_history.specs.declared.errors.FactError.{FactError}
-use Rattle.cstn_history.specs.declared.errors.FactError.TheVariants.{Past, OutOfRange, NoSuch, Done, Undecided, NotObserved, Told}
 use Rattle.cstn_history.specs.Histories.{History}
+use Rattle.cstn_history.specs.Facts.{FactRefusal, Past, OutOfRange, NoSuch, Done, Undecided, NotObserved, Told}
 use Rattle.cstn_history.specs.Facts.{is_beyond, again_refusal, done_refusal, now_refusal, told_refusal, told_after, again_told, expected_refusal, expected_after, again_expected, observed_since, at_now, with_done, with_told, with_expected}
 use Rattle.cstn_history.proofs.Recorded.{put_there, put_other, put_kept}
 use Rattle.cstn_lines.specs.LiveLines.{printed_truth}
 use Rattle.cstn_reply.specs.Texts.{line}
 use Rattle.cstn_follow.specs.Following.{name_at}
 use Rattle.cstn_follow.specs.FactLines.{refused_fact, unless_refused, all_done, unknown_of, node_of, node_named, nodes_of}
+use Rattle.cstn_follow.proofs.InOrder.{none_refused}
 use Rattle.cstn_follow.specs.Recorded.{AreDone, HasCome, HasPassed, IsExpectedAt}
 
 -- ---- refusals
@@ -29,35 +28,24 @@ use Rattle.cstn_follow.specs.Recorded.{AreDone, HasCome, HasPassed, IsExpectedAt
 abbrev pub IsRefusal : List ℕ → Type 0
 IsRefusal text = (why : List ℕ) × (text ≡ line (codes "refused " ++ why))
 
-pub fact_refusal : (names : List (List ℕ)) (e : FactError) → IsRefusal (line (refused_fact names e))
+pub fact_refusal : (names : List (List ℕ)) (e : FactRefusal) → IsRefusal (line (refused_fact names e))
 fact_refusal names (Past now) = (codes "F1 " ++ decimal now, refl)
 fact_refusal names (OutOfRange moment) = (codes "F2 " ++ decimal moment, refl)
-fact_refusal names (NoSuch x) = (codes "F3 " ++ printed_name (name_at names x.0), refl)
-fact_refusal names (Done x moment) = (codes "F4 " ++ printed_name (name_at names x.0) ++ 32 ∷ decimal moment, refl)
-fact_refusal names (Undecided x) = (codes "F5 " ++ printed_name (name_at names x.0), refl)
-fact_refusal names (NotObserved p) = (codes "F6 " ++ letter_of p.index ∷ [], refl)
-fact_refusal names (Told p v) = (codes "F7 " ++ letter_of p.index ∷ 32 ∷ printed_truth v, refl)
-
-pub outcome_refusal : (names : List (List ℕ)) (o : Option FactError) (refusal : List ℕ) → option_map (refused_fact names) o ≡ Some refusal
-    → IsRefusal (line refusal)
-outcome_refusal names None refusal is = absurd (cc)
-outcome_refusal names (Some e) refusal is =
-    let same : refused_fact names e ≡ refusal = cc in subst (λ text. IsRefusal (line text)) same (fact_refusal names e)
-
--- where a test and the rest refuse nothing, the test is false
-passed : {X : Type 0} (b : Bool) (e : X) (o : Option X) → (if b then Some e else o) ≡ None → (b ≡ false) × (o ≡ None)
-passed true e o is = absurd (cc)
-passed false e o is = (refl, is)
+fact_refusal names (NoSuch x) = (codes "F3 " ++ printed_name (name_at names x), refl)
+fact_refusal names (Done x moment) = (codes "F4 " ++ printed_name (name_at names x) ++ 32 ∷ decimal moment, refl)
+fact_refusal names (Undecided x) = (codes "F5 " ++ printed_name (name_at names x), refl)
+fact_refusal names (NotObserved p) = (codes "F6 " ++ letter_of p ∷ [], refl)
+fact_refusal names (Told p v) = (codes "F7 " ++ letter_of p ∷ 32 ∷ printed_truth v, refl)
 
 -- a time-point that is accepted as done wasn't done
-pub undone_here : (m : Labelled) (h : History) (t : ℕ) (x : NodeId) → done_refusal m h t x ≡ None → h.done x.0 ≡ None
-undone_here m h t x e = free (h.done x.0) (passed (nat_le (count m.base) x.0) _ _ (passed (is_beyond t) _ _ e).1).1
+pub undone_here : (m : Labelled) (h : History) (t x : ℕ) → done_refusal m h t x ≡ None → h.done x ≡ None
+undone_here m h t x e = free (h.done x) (none_refused (nat_le (count m.base) x) _ _ (none_refused (is_beyond t) _ _ e).1).1
   where
     free : (o : Option ℕ) → again_refusal m h x o ≡ None → o ≡ None
     free None f = refl
     free (Some u) f = absurd (cc)
 
-abbrev recorded : History → Result History FactError
+abbrev recorded : History → Result History FactRefusal
 recorded h = Ok h
 
 pub same_history : (h g : History) → recorded h ≡ recorded g → h ≡ g
@@ -69,11 +57,11 @@ module _ (m : Labelled) (t : ℕ) where
   -- the first wasn't done, and the others are done after it
   first_done : (h g : History) (x : NodeId) (xs : List NodeId) → all_done m t h (x ∷ xs) ≡ Ok g
       → (h.done x.0 ≡ None) × (all_done m t (with_done h t x.0) xs ≡ Ok g)
-  first_done h g x xs is = by_refusal (done_refusal m h t x) refl is
+  first_done h g x xs is = by_refusal (done_refusal m h t x.0) refl is
     where
-      by_refusal : (o : Option FactError) → done_refusal m h t x ≡ o → unless_refused o (all_done m t (with_done h t x.0) xs) ≡ Ok g
+      by_refusal : (o : Option FactRefusal) → done_refusal m h t x.0 ≡ o → unless_refused o (all_done m t (with_done h t x.0) xs) ≡ Ok g
           → (h.done x.0 ≡ None) × (all_done m t (with_done h t x.0) xs ≡ Ok g)
-      by_refusal None none so = (undone_here m h t x none, so)
+      by_refusal None none so = (undone_here m h t x.0 none, so)
       by_refusal (Some e) some so = absurd (cc)
 
   done_stays : (h g : History) (xs : List NodeId) (y u : ℕ) → all_done m t h xs ≡ Ok g → h.done y ≡ Some u → g.done y ≡ Some u
@@ -172,50 +160,50 @@ module _ (names : List (List ℕ)) where
 module _ (m : Labelled) (h : History) (t : ℕ) where
   pub has_passed : now_refusal h t ≡ None → HasPassed h t (at_now h t)
   has_passed none =
-      record { from = not_before (passed (nat_lt t h.now) _ _ none).0; now = refl; done = refl; told = refl; expected = refl }
+      record { from = not_before (none_refused (nat_lt t h.now) _ _ none).0; now = refl; done = refl; told = refl; expected = refl }
     where
       not_before : nat_lt t h.now ≡ false → h.now ≤ t
       not_before e = grind arith
 
-  module _ (p : Prop) where
-    untold_came : told_refusal m h t p ≡ None → h.told p.index ≡ None
-    untold_came none = since (observed_since m h p.index) (passed (is_beyond t) _ _ none).1
+  module _ (p : ℕ) where
+    untold_came : told_refusal m h t p ≡ None → h.told p ≡ None
+    untold_came none = since (observed_since m h p) (none_refused (is_beyond t) _ _ none).1
       where
         untold : (u : ℕ) (o : Option Bool) → again_told t p u o ≡ None → o ≡ None
         untold u None free = refl
         untold u (Some v) free = absurd (cc)
 
-        since : (o : Option ℕ) → told_after h t p o ≡ None → h.told p.index ≡ None
+        since : (o : Option ℕ) → told_after h t p o ≡ None → h.told p ≡ None
         since None free = absurd (cc)
-        since (Some u) free = untold u (h.told p.index) free
+        since (Some u) free = untold u (h.told p) free
 
-    pub has_come : (v : Bool) → told_refusal m h t p ≡ None → HasCome h t p.index v (with_told h t p.index v)
+    pub has_come : (v : Bool) → told_refusal m h t p ≡ None → HasCome h t p v (with_told h t p v)
     has_come v none = record {
       now = refl;
       none = untold_came none;
-      told = put_there h.told p.index v p.index refl;
-      others = put_other h.told p.index v;
+      told = put_there h.told p v p refl;
+      others = put_other h.told p v;
       done = refl;
       expected = refl;
     }
 
-    untold_expected : expected_refusal m h t p ≡ None → h.told p.index ≡ None
-    untold_expected none = since (observed_since m h p.index) none
+    untold_expected : expected_refusal m h t p ≡ None → h.told p ≡ None
+    untold_expected none = since (observed_since m h p) none
       where
         untold : (u : ℕ) (o : Option Bool) → again_expected m h t p u o ≡ None → o ≡ None
         untold u None free = refl
         untold u (Some v) free = absurd (cc)
 
-        since : (o : Option ℕ) → expected_after m h t p o ≡ None → h.told p.index ≡ None
+        since : (o : Option ℕ) → expected_after m h t p o ≡ None → h.told p ≡ None
         since None free = absurd (cc)
-        since (Some u) free = untold u (h.told p.index) free
+        since (Some u) free = untold u (h.told p) free
 
-    pub is_expected : expected_refusal m h t p ≡ None → IsExpectedAt h t p.index (with_expected h t p.index)
+    pub is_expected : expected_refusal m h t p ≡ None → IsExpectedAt h t p (with_expected h t p)
     is_expected none = record {
       now = refl;
       none = untold_expected none;
-      expected = put_there h.expected p.index t p.index refl;
-      others = put_other h.expected p.index t;
+      expected = put_there h.expected p t p refl;
+      others = put_other h.expected p t;
       done = refl;
       told = refl;
     }

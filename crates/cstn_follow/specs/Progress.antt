@@ -33,7 +33,7 @@ pub record IsTelling (m : Labelled) (h later : History) : Type 0 where
   pub prop : Prop
   pub value : Bool
   pub quiet : IsQuietUpto m h moment
-  pub accepted : told_refusal m h moment prop ≡ None
+  pub accepted : told_refusal m h moment prop.index ≡ None
   pub recorded : later ≡ with_told h moment prop.index value
 
 -- a time-point that is named at the next moment is done at it

@@ -29,7 +29,7 @@ pub fn next_keeps_going()
     ensures steps { (m : Labelled) (h : History) (steps : List History) → IsLabelled m → IsTimelyHistory m h → Can m h → AreSteps m h steps
         → IsTimelyHistory m (after h steps) × Can m (after h steps) }
     ensures accepted { (m : Labelled) (h : History) (t : ℕ) (x : NodeId) → IsLabelled m → IsTimelyHistory m h → IsNamed m h t x.0
-        → done_refusal m h t x ≡ None }
+        → done_refusal m h t x.0 ≡ None }
     ensures named { (m : Labelled) (h : History) (t y : ℕ) (x : NodeId) → IsLabelled m → IsTimelyHistory m h → HasRoomLeft m h → Can m h
         → IsQuietUpto m h t → IsNamed m h t x.0 → IsNamed m h t y → (y ≡ x.0 → ⊥)
         → IsNamed m (with_done h t x.0) t y × IsQuietUpto m (with_done h t x.0) t }

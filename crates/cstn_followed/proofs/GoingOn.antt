@@ -2,7 +2,6 @@
 use Rattle.std.proofs.Common.{ℕ, ◌≡◌, ◌<◌, ◌≤◌, Bool, true, false, List, [], ◌∷◌, ◌++◌, length, Option, Some, None, arith, refl, sym, subst, ap, ◌∙◌, inl, inr}
 use Rattle.std.specs.Prelude.{◌⊎◌, Result, Ok, Err, if◌then◌else◌, codes}
 use Rattle.std.specs.List.{All}
-use Rattle.std.specs.Option.{option_map}
 use Rattle.std.proofs.lemmas.Bool.{cases_eq}
 use Rattle.std.proofs.lemmas.List.Elements.{All-head, All-tail, All-weaker}
 use Rattle.cstn_label.specs.declared.nodes.NodeId.{NodeId}
@@ -16,11 +15,9 @@ use Rattle.cstn_lift.specs.Lowered.{lowered}
 use Rattle.cstn_lift.specs.WellFormed.{IsLabelled}
 use Rattle.cstn_check.specs.declared.verdicts.Verdict.{Verdict}
 use Rattle.cstn_check.specs.declared.verdicts.Verdict.TheVariants.{Yes, No, Full}
-use Rattle.cstn_history.specs.declared.errors.FactError.{FactError}
-use Rattle.cstn_history.specs.declared.errors.FactError.TheVariants.{OutOfRange}
 use Rattle.cstn_history.specs.Histories.{History, IsTimelyHistory}
 use Rattle.cstn_history.specs.Continuations.{Continues, Can, IsLeastTable, IsNamed, IsAlwaysAt, IsQuietBefore}
-use Rattle.cstn_history.specs.Facts.{is_beyond, now_refusal, done_refusal, told_refusal, at_now, with_done, with_told}
+use Rattle.cstn_history.specs.Facts.{FactRefusal, OutOfRange, is_beyond, now_refusal, done_refusal, told_refusal, at_now, with_done, with_told}
 use Rattle.cstn_history.proofs.Followed.{step_is_done}
 use Rattle.cstn_history.proofs.NextMoment.{quiet_upto}
 use Rattle.cstn_history.proofs.Recorded.{put_there, put_other, timely_done}
@@ -29,12 +26,11 @@ use Rattle.cstn_lines.proofs.FollowLemmas.{follow_is}
 use Rattle.cstn_reply.specs.Texts.{line, full_line}
 use Rattle.cstn_reply.specs.Reached.{state_after}
 use Rattle.cstn_follow.specs.Following.{Following, Heard, says, saves, begun, verdict_now, verdict_within, on_verdict, verdict_line}
-use Rattle.cstn_follow.specs.FactLines.{records, refuses, refused_fact, unless_refused, all_done, on_result, on_known, on_did, nodes_of, unknown_of, on_fact, on_now, on_outcome, on_saw}
+use Rattle.cstn_follow.specs.FactLines.{records, refuses, unless_refused, all_done, on_result, on_known, on_did, nodes_of, unknown_of, on_fact, on_now, on_saw}
 use Rattle.cstn_follow.specs.Hearing.{on_line, counted, hear}
 use Rattle.cstn_follow.specs.Progress.{HasRoomLeft, IsQuietUpto}
 use Rattle.cstn_follow.proofs.Going.{least_table, goes_on}
 use Rattle.cstn_follow.proofs.GoesOn.{left_says, no_cannot}
-use Rattle.cstn_follow.proofs.Recording.{saw_said}
 use Rattle.cstn_save.specs.Canonical.{canonical}
 use Rattle.cstn_follow.specs.Turns.{heard_by}
 use Rattle.cstn_followed.specs.Plans.{KeepsToNext, KeepToNext, AreNamed, IsYes, KeepsGoing, KeepGoing}
@@ -61,13 +57,13 @@ module _ (m : Labelled) (good : IsLabelled m) (table : Table) (t : ℕ) where
   all_follow h g [] timely goes quiet there is = subst (λ k. IsTimelyHistory m k × Can m k) (same_history h g is) (timely, (table, goes))
   all_follow h g (x ∷ xs) timely goes quiet there is =
       let first = All-head (IsThere h) x xs there in
-      by_refusal (done_refusal m h t x) refl (λ none so.
-      all_follow (with_done h t x.0) g xs (timely_done m h good timely.history timely.in_time t x none)
-      (step_is_done m h good timely.history table goes t x.0 first.0 (undone_here m h t x none) quiet first.1)
+      by_refusal (done_refusal m h t x.0) refl (λ none so.
+      all_follow (with_done h t x.0) g xs (timely_done m h good timely.history timely.in_time t x.0 none)
+      (step_is_done m h good timely.history table goes t x.0 first.0 (undone_here m h t x.0 none) quiet first.1)
       (still_quiet h x.0 quiet) (All-tail (IsThere h) x xs there) so) is
     where
-      by_refusal : (o : Option FactError) → done_refusal m h t x ≡ o
-          → (done_refusal m h t x ≡ None → all_done m t (with_done h t x.0) xs ≡ Ok g → IsTimelyHistory m g × Can m g)
+      by_refusal : (o : Option FactRefusal) → done_refusal m h t x.0 ≡ o
+          → (done_refusal m h t x.0 ≡ None → all_done m t (with_done h t x.0) xs ≡ Ok g → IsTimelyHistory m g × Can m g)
           → unless_refused o (all_done m t (with_done h t x.0) xs) ≡ Ok g → IsTimelyHistory m g × Can m g
       by_refusal None none follows so = follows none so
       by_refusal (Some e) some follows so = absurd (cc)
@@ -112,7 +108,7 @@ module _ (s : Following) (sound : IsSound s) (can : Can s.network s.history) whe
   refused : (why : List ℕ) → Answer s (says (line (codes "refused " ++ why)) s)
   refused why = (inl (refl, (why, refl)), can)
 
-  refuses_fact : (e : FactError) → Answer s (refuses s e)
+  refuses_fact : (e : FactRefusal) → Answer s (refuses s e)
   refuses_fact e = (inl (refl, fact_refusal s.names e), can)
 
   records_fact : (h : History) → IsTimelyHistory s.network h × Can s.network h → Answer s (records s h)
@@ -128,7 +124,7 @@ module _ (s : Following) (sound : IsSound s) (can : Can s.network s.history) whe
   did_goes : (t : ℕ) (given : List (List ℕ)) → IsQuietUpto s.network s.history t → AreNamed s t given → Answer s (on_did s t given)
   did_goes t given quiet named = by_moment (is_beyond t) (unknown_of s.names given)
     where
-      by_result : (r : Result History FactError) → all_done s.network t s.history (nodes_of s.names given) ≡ r → Answer s (on_result s r)
+      by_result : (r : Result History FactRefusal) → all_done s.network t s.history (nodes_of s.names given) ≡ r → Answer s (on_result s r)
       by_result (Ok h) is = records_fact h (
           all_named_done s.network s.history h t (nodes_of s.names given) sound.labelled sound.timely room can quiet named is)
       by_result (Err e) is = refuses_fact e
@@ -141,17 +137,15 @@ module _ (s : Following) (sound : IsSound s) (can : Can s.network s.history) whe
   now_goes : (t : ℕ) → IsQuietUpto s.network s.history t → Answer s (on_now s t)
   now_goes t quiet = by_refusal (now_refusal s.history t) refl
     where
-      by_refusal : (o : Option FactError) → now_refusal s.history t ≡ o → Answer s (on_fact s o (at_now s.history t))
+      by_refusal : (o : Option FactRefusal) → now_refusal s.history t ≡ o → Answer s (on_fact s o (at_now s.history t))
       by_refusal None none = records_fact (at_now s.history t) (goes_on s.network s.history sound.labelled sound.timely can (at_now s.history t)
           (room, inl (record { moment = t; quiet = quiet; accepted = none; recorded = refl })))
       by_refusal (Some e) some = refuses_fact e
 
   saw_goes : (t : ℕ) (p : Prop) (v : Bool) → IsQuietUpto s.network s.history t → Answer s (on_saw s t p.index v)
-  saw_goes t p v quiet = subst (λ o. Answer s (on_outcome s o (with_told s.history t p.index v))) (saw_said s.names t p s.network s.history)
-      (by_refusal (told_refusal s.network s.history t p) refl)
+  saw_goes t p v quiet = by_refusal (told_refusal s.network s.history t p.index) refl
     where
-      by_refusal : (o : Option FactError) → told_refusal s.network s.history t p ≡ o
-          → Answer s (on_outcome s (option_map (refused_fact s.names) o) (with_told s.history t p.index v))
+      by_refusal : (o : Option FactRefusal) → told_refusal s.network s.history t p.index ≡ o → Answer s (on_fact s o (with_told s.history t p.index v))
       by_refusal None none = records_fact (with_told s.history t p.index v) (
           goes_on s.network s.history sound.labelled sound.timely can (with_told s.history t p.index v)
           (room, inr (inl (record { moment = t; prop = p; value = v; quiet = quiet; accepted = none; recorded = refl }))))

@@ -35,9 +35,9 @@ use Rattle.cstn_next.proofs.Exact.{is_next, named_exactly, awaited_exactly, done
 use Rattle.cstn_lines.specs.FollowLines.{Follow, follow_read, asks_next, asks_by, asks_blame}
 use Rattle.cstn_reply.specs.Texts.{line}
 use Rattle.cstn_reply.specs.Sessions.{Turn, more, last, wrong}
-use Rattle.cstn_history.specs.declared.errors.FactError.TheVariants.{Undecided}
+use Rattle.cstn_history.specs.Facts.{Undecided}
 use Rattle.cstn_follow.specs.Following.{Following, Heard, says, saves, left_now, verdict_now, verdict_within, verdict_line, too_many, is_open, any_below, is_any_open}
-use Rattle.cstn_follow.specs.FactLines.{refused_fact, node_of}
+use Rattle.cstn_follow.specs.FactLines.{refused_fact}
 use Rattle.cstn_follow.specs.Hearing.{counted, hear}
 use Rattle.cstn_follow.specs.Questions.{next_at, next_after}
 use Rattle.cstn_follow.specs.Searches.{has_place, by_refusal, by_text, by_after, by_unless, by_number, blame_text, blame_after}
@@ -132,13 +132,13 @@ module _ (s : Following) (sound : IsSound s) (x : ℕ) (here : x < count s.netwo
             let can = yes_can s.network s.history s.fresh s.cap load sound.labelled sound.timely sound.above (sound.verdict ∙ ap Some is) in
             let both = last_found s.network s.history s.fresh x sound.labelled sound.timely sound.above room here none (left_here x none possible)
             s.cap can t found in
-            inl (t, record { can = both.0; last = both.1 }, refl)
+            inl (t, record { waits = both.0; last = both.1 }, refl)
         by_moment None full =
             let t = none_found (tried s.network s.history s.fresh x s.cap) 20 (record { low = s.history.now; high = s.network.base.deadline }) full in
             inr ((full, (t.0, said_full s.cap (lowered (rest_until s.network s.history s.fresh x t.0)) t.1)), refl)
 
   abbrev refusal : Bool → Bool → Option (List ℕ)
-  refusal possible place = if not possible then Some (line (refused_fact s.names (Undecided (node_of x)))) else if place then None else Some too_many
+  refusal possible place = if not possible then Some (line (refused_fact s.names (Undecided x))) else if place then None else Some too_many
 
   place_is : (net : Network) → has_place net ≡ true → length net.constraints < most_constraints
   place_is net is = ltb-true (length net.constraints) most_constraints is
@@ -181,11 +181,12 @@ blame_tells s (No load) sound is = (refl, by_ids (blamed s.network s.history s.f
     by_ids (Some ids) found = inl (
       ids,
       record {
-        own = found_own (said_by s.network s.history s.fresh s.cap) s.network.base ids found;
+        stuck = never;
         ascending = found_ascend s.network s.history s.fresh s.cap ids sound.labelled found;
         cannot = found_stops s.network s.history s.fresh sound.labelled sound.timely sound.above room s.cap ids found never;
         needed = found_needed s.network s.history s.fresh sound.labelled sound.timely sound.above room s.cap ids found;
       },
+      found_own (said_by s.network s.history s.fresh s.cap) s.network.base ids found,
       refl,
     )
     by_ids None full =

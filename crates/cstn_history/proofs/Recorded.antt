@@ -4,7 +4,6 @@ use Rattle.std.specs.Prelude.{cond, max, nat_lt, nat_le, ◌==◌, ◌&&◌, not
 use Rattle.std.proofs.Math.Path.{fun_ext}
 use Rattle.std.proofs.lemmas.Bool.{cases_eq, eq-eqb, ne_eqb, and_parts, ltb-true, ltb-false, leb-true, leb-false, le-ltb}
 use Rattle.std.proofs.lemmas.List.{length-set, get_or-set_same, get_or-set_other}
-use Rattle.cstn_label.specs.declared.nodes.NodeId.{NodeId}
 use Rattle.cstn_label.specs.declared.props.Prop.{Prop}
 use Rattle.cstn_label.specs.declared.knowledge.Known.{Known}
 use Rattle.cstn_label.specs.Labels.{MarkFits}
@@ -18,12 +17,10 @@ use Rattle.cstn_lift.specs.Lowered.{observer_of}
 use Rattle.cstn_lift.specs.WellFormed.{IsLabelled}
 use Rattle.cstn_lift.proofs.FullLemmas.{full_on}
 use Rattle.cstn_lift.proofs.LoweredLemmas.{observer_back, observer_found}
-use Rattle.cstn_history.specs.declared.errors.FactError.{FactError}
-use Rattle.cstn_history.specs.declared.errors.FactError.TheVariants.{Past, OutOfRange}
 use Rattle.cstn_label.specs.OnLetters.{IsOnLetters}
 use Rattle.cstn_history.specs.Histories.{IsTimelyHistory, History, IsHistory, IsInTime, IsObservedAt, SettlesMark, Settles}
 use Rattle.cstn_history.specs.Read.{HistoryParts, the_history, IsKeptFor}
-use Rattle.cstn_history.specs.Facts.{settles, is_beyond, now_refusal, again_refusal, done_refusal, since, observed_since, again_told, told_after, told_refusal, latest_expected, again_expected, expected_after, expected_refusal, at_now, with_done, with_told, with_expected}
+use Rattle.cstn_history.specs.Facts.{FactRefusal, Past, OutOfRange, settles, is_beyond, now_refusal, again_refusal, done_refusal, since, observed_since, again_told, told_after, told_refusal, latest_expected, again_expected, expected_after, expected_refusal, at_now, with_done, with_told, with_expected}
 use Rattle.cstn_history.proofs.Settled.{settles_absent}
 use Rattle.cstn_history.proofs.Told.{settles_back}
 
@@ -31,11 +28,11 @@ not_beyond : (t : ℕ) → nat_lt most_deadline t ≡ false → t ≤ most_deadl
 not_beyond t e = grind arith
 
 -- where a test that refuses is passed, it is false, and the rest isn't refused either
-passed : (b : Bool) (e : FactError) (o : Option FactError) → (if b then Some e else o) ≡ None → (b ≡ false) × (o ≡ None)
+passed : (b : Bool) (e : FactRefusal) (o : Option FactRefusal) → (if b then Some e else o) ≡ None → (b ≡ false) × (o ≡ None)
 passed true e o is = absurd (cc)
 passed false e o is = (refl, is)
 
-accepted : (b : Bool) (e : FactError) → (if b then None else Some e) ≡ None → b ≡ true
+accepted : (b : Bool) (e : FactRefusal) → (if b then None else Some e) ≡ None → b ≡ true
 accepted true e is = refl
 accepted false e is = absurd (cc)
 
@@ -102,37 +99,37 @@ module _ (m : Labelled) (good : IsLabelled m) (h : History) (known : IsHistory m
   ]
 
   -- a time-point is done
-  module _ (t : ℕ) (x : NodeId) (e : done_refusal m h t x ≡ None) where
+  module _ (t x : ℕ) (e : done_refusal m h t x ≡ None) where
     in_range : t ≤ most_deadline
     in_range = not_beyond t (passed (is_beyond t) _ _ e).0
 
-    inside : x.0 < count m.base
-    inside = leb-false (count m.base) x.0 (passed (nat_le (count m.base) x.0) _ _ (passed (is_beyond t) _ _ e).1).0
+    inside : x < count m.base
+    inside = leb-false (count m.base) x (passed (nat_le (count m.base) x) _ _ (passed (is_beyond t) _ _ e).1).0
 
-    again : again_refusal m h x (h.done x.0) ≡ None
-    again = (passed (nat_le (count m.base) x.0) _ _ (passed (is_beyond t) _ _ e).1).1
+    again : again_refusal m h x (h.done x) ≡ None
+    again = (passed (nat_le (count m.base) x) _ _ (passed (is_beyond t) _ _ e).1).1
 
-    again_free : (o : Option ℕ) → again_refusal m h x o ≡ None → (o ≡ None) × (settles h (completed_label m x.0) ≡ true)
+    again_free : (o : Option ℕ) → again_refusal m h x o ≡ None → (o ≡ None) × (settles h (completed_label m x) ≡ true)
     again_free (Some u) is = absurd (cc)
-    again_free None is = (refl, accepted (settles h (completed_label m x.0)) _ is)
+    again_free None is = (refl, accepted (settles h (completed_label m x)) _ is)
 
-    undone : h.done x.0 ≡ None
-    undone = (again_free (h.done x.0) again).0
+    undone : h.done x ≡ None
+    undone = (again_free (h.done x) again).0
 
-    settled_here : Settles h (completed_label m x.0)
-    settled_here = settles_back h (completed_label m x.0) (full_below x.0) (again_free (h.done x.0) again).1
+    settled_here : Settles h (completed_label m x)
+    settled_here = settles_back h (completed_label m x) (full_below x) (again_free (h.done x) again).1
 
-    still : (y u : ℕ) → h.done y ≡ Some u → (with_done h t x.0).done y ≡ Some u
-    still y u is = put_kept h.done x.0 t y u undone is
+    still : (y u : ℕ) → h.done y ≡ Some u → (with_done h t x).done y ≡ Some u
+    still y u is = put_kept h.done x t y u undone is
 
-    pub done_history : IsHistory m (with_done h t x.0)
+    pub done_history : IsHistory m (with_done h t x)
     done_history = record {
       origin = still 0 0 known.origin;
-      inside = λ y u is. elim (put_from h.done x.0 t y u is) [
+      inside = λ y u is. elim (put_from h.done x t y u is) [
         | inl new ↦ subst (λ z. z < count m.base) (sym new.0) inside
         | inr old ↦ known.inside y u old
       ];
-      past = λ y u is. elim (put_from h.done x.0 t y u is) [
+      past = λ y u is. elim (put_from h.done x t y u is) [
         | inl new ↦ let at = new.1 in omega arith
         | inr old ↦ let upto = known.past y u old in omega arith
       ];
@@ -140,20 +137,20 @@ module _ (m : Labelled) (good : IsLabelled m) (h : History) (known : IsHistory m
           (o.0, record { observer = o.1.observer; observes = o.1.observes; done = still o.1.observer o.0 o.1.done });
       expected = λ p u is. let o = known.expected p u is in
           (o.0, o.1, record { observer = o.2.observer; observes = o.2.observes; done = still o.2.observer o.0 o.2.done });
-      settled = λ y u is. elim (put_from h.done x.0 t y u is) [
+      settled = λ y u is. elim (put_from h.done x t y u is) [
         | inl new ↦ subst (λ z. Settles h (completed_label m z)) (sym new.0) settled_here
         | inr old ↦ known.settled y u old
       ];
     }
 
-    pub done_in_time : IsInTime m (with_done h t x.0)
+    pub done_in_time : IsInTime m (with_done h t x)
     done_in_time = record {
       now = (let low = timely.now in let upto = in_range in omega arith);
       expected = timely.expected;
       origin = timely.origin;
     }
 
-    pub done_inside : x.0 < count m.base
+    pub done_inside : x < count m.base
     done_inside = inside
 
   -- the observer of p, by when it was done
@@ -162,35 +159,35 @@ module _ (m : Labelled) (good : IsLabelled m) (h : History) (known : IsHistory m
   since_from p u (Some j) at is = record { observer = j; observes = observer_back m.base j p at; done = is }
 
   -- an outcome is told
-  module _ (t : ℕ) (p : Prop) (v : Bool) (e : told_refusal m h t p ≡ None) where
+  module _ (t p : ℕ) (v : Bool) (e : told_refusal m h t p ≡ None) where
     told_in_range : t ≤ most_deadline
     told_in_range = not_beyond t (passed (is_beyond t) _ _ e).0
 
-    told_free : (o : Option ℕ) → observed_since m h p.index ≡ o → told_after h t p o ≡ None → (u : ℕ) × IsObservedAt m h p.index u × (h.told p.index ≡ None)
+    told_free : (o : Option ℕ) → observed_since m h p ≡ o → told_after h t p o ≡ None → (u : ℕ) × IsObservedAt m h p u × (h.told p ≡ None)
     told_free None at is = absurd (cc)
-    told_free (Some u) at is = (u, since_from p.index u (observer_of m.base p.index) refl at, untold_by (h.told p.index) is)
+    told_free (Some u) at is = (u, since_from p u (observer_of m.base p) refl at, untold_by (h.told p) is)
       where
         untold_by : (o : Option Bool) → again_told t p u o ≡ None → o ≡ None
         untold_by None f = refl
         untold_by (Some w) f = absurd (cc)
 
-    told_here : (u : ℕ) × IsObservedAt m h p.index u × (h.told p.index ≡ None)
-    told_here = told_free (observed_since m h p.index) refl (passed (is_beyond t) _ _ e).1
+    told_here : (u : ℕ) × IsObservedAt m h p u × (h.told p ≡ None)
+    told_here = told_free (observed_since m h p) refl (passed (is_beyond t) _ _ e).1
 
-    marks_settled : (y q : ℕ) → Settles h (completed_label m y) → SettlesMark ((with_told h t p.index v).told q) (completed_label m y q)
-    marks_settled y q s = elim (cases_eq q p.index) [
+    marks_settled : (y q : ℕ) → Settles h (completed_label m y) → SettlesMark ((with_told h t p v).told q) (completed_label m y q)
+    marks_settled y q s = elim (cases_eq q p) [
       | inl same ↦
           let gone = settles_absent h (completed_label m y) q s (ap h.told same ∙ told_here.2) in
-          subst (λ o. SettlesMark o (completed_label m y q)) (sym (put_there h.told p.index v q same)) (subst (MarkFits v) (sym gone) tt)
-      | inr other ↦ subst (λ o. SettlesMark o (completed_label m y q)) (sym (put_other h.told p.index v q other)) (s q)
+          subst (λ o. SettlesMark o (completed_label m y q)) (sym (put_there h.told p v q same)) (subst (MarkFits v) (sym gone) tt)
+      | inr other ↦ subst (λ o. SettlesMark o (completed_label m y q)) (sym (put_other h.told p v q other)) (s q)
     ]
 
-    pub told_history : IsHistory m (with_told h t p.index v)
+    pub told_history : IsHistory m (with_told h t p v)
     told_history = record {
       origin = known.origin;
       inside = known.inside;
       past = λ y u is. let upto = known.past y u is in omega arith;
-      told = λ q w is. elim (put_from h.told p.index v q w is) [
+      told = λ q w is. elim (put_from h.told p v q w is) [
         | inl new ↦
             let o = told_here.1 in
             (told_here.0, record { observer = o.observer; observes = subst (Observes m.base o.observer) (sym new.0) o.observes; done = o.done })
@@ -200,7 +197,7 @@ module _ (m : Labelled) (good : IsLabelled m) (h : History) (known : IsHistory m
       settled = λ y u is q. marks_settled y q (known.settled y u is);
     }
 
-    pub told_in_time : IsInTime m (with_told h t p.index v)
+    pub told_in_time : IsInTime m (with_told h t p v)
     told_in_time = record {
       now = (let low = timely.now in let upto = told_in_range in omega arith);
       expected = timely.expected;
@@ -213,41 +210,41 @@ module _ (m : Labelled) (good : IsLabelled m) (h : History) (known : IsHistory m
   latest_upto (Some (suc x)) = omega arith
 
   -- an outcome is expected
-  module _ (t : ℕ) (p : Prop) (e : expected_refusal m h t p ≡ None) where
+  module _ (t p : ℕ) (e : expected_refusal m h t p ≡ None) where
     record IsFree : Type 0 where
       u : ℕ
-      observed : IsObservedAt m h p.index u
+      observed : IsObservedAt m h p u
       after : u < t
-      upto : t ≤ latest_expected (observer_of m.base p.index)
+      upto : t ≤ latest_expected (observer_of m.base p)
 
-    expected_free : (o : Option ℕ) → observed_since m h p.index ≡ o → expected_after m h t p o ≡ None → IsFree
+    expected_free : (o : Option ℕ) → observed_since m h p ≡ o → expected_after m h t p o ≡ None → IsFree
     expected_free None at is = absurd (cc)
     expected_free (Some u) at is =
-        let test = tested (h.told p.index) is in
-        let a = and_parts (not (nat_lt t h.now) && nat_lt u t) (nat_le t (latest_expected (observer_of m.base p.index))) test in
+        let test = tested (h.told p) is in
+        let a = and_parts (not (nat_lt t h.now) && nat_lt u t) (nat_le t (latest_expected (observer_of m.base p))) test in
         let b = and_parts (not (nat_lt t h.now)) (nat_lt u t) a.0 in
         record {
           u = u;
-          observed = since_from p.index u (observer_of m.base p.index) refl at;
+          observed = since_from p u (observer_of m.base p) refl at;
           after = ltb-true u t b.1;
-          upto = leb-true t (latest_expected (observer_of m.base p.index)) a.1;
+          upto = leb-true t (latest_expected (observer_of m.base p)) a.1;
         }
       where
         tested : (o : Option Bool) → again_expected m h t p u o ≡ None →
-            (not (nat_lt t h.now) && nat_lt u t && nat_le t (latest_expected (observer_of m.base p.index))) ≡ true
-        tested None f = accepted (not (nat_lt t h.now) && nat_lt u t && nat_le t (latest_expected (observer_of m.base p.index))) _ f
+            (not (nat_lt t h.now) && nat_lt u t && nat_le t (latest_expected (observer_of m.base p))) ≡ true
+        tested None f = accepted (not (nat_lt t h.now) && nat_lt u t && nat_le t (latest_expected (observer_of m.base p))) _ f
         tested (Some w) f = absurd (cc)
 
     free : IsFree
-    free = expected_free (observed_since m h p.index) refl e
+    free = expected_free (observed_since m h p) refl e
 
-    pub expected_history : IsHistory m (with_expected h t p.index)
+    pub expected_history : IsHistory m (with_expected h t p)
     expected_history = record {
       origin = known.origin;
       inside = known.inside;
       past = known.past;
       told = λ q w is. let o = known.told q w is in (o.0, record { observer = o.1.observer; observes = o.1.observes; done = o.1.done });
-      expected = λ q u is. elim (put_from h.expected p.index t q u is) [
+      expected = λ q u is. elim (put_from h.expected p t q u is) [
         | inl new ↦
             let o = free.observed in
             let late = free.after in
@@ -258,17 +255,17 @@ module _ (m : Labelled) (good : IsLabelled m) (h : History) (known : IsHistory m
       settled = known.settled;
     }
 
-    pub expected_in_time : IsInTime m (with_expected h t p.index)
+    pub expected_in_time : IsInTime m (with_expected h t p)
     expected_in_time = record {
       now = timely.now;
-      expected = λ q u is. elim (put_from h.expected p.index t q u is) [
-        | inl new ↦ let at = new.1 in let upto = free.upto in let last = latest_upto (observer_of m.base p.index) in omega arith
+      expected = λ q u is. elim (put_from h.expected p t q u is) [
+        | inl new ↦ let at = new.1 in let upto = free.upto in let last = latest_upto (observer_of m.base p) in omega arith
         | inr old ↦ timely.expected q u old
       ];
-      origin = λ q u is o. elim (put_from h.expected p.index t q u is) [
+      origin = λ q u is o. elim (put_from h.expected p t q u is) [
         | inl new ↦
             let at = new.1 in
-            let found = observer_found m.base good.base.network 0 p.index (subst (Observes m.base 0) new.0 o) in
+            let found = observer_found m.base good.base.network 0 p (subst (Observes m.base 0) new.0 o) in
             let upto : t ≤ most_reaction = subst (λ j. t ≤ latest_expected j) found free.upto in
             omega arith
         | inr old ↦ timely.origin q u old o
@@ -280,21 +277,21 @@ module _ (m : Labelled) (good : IsLabelled m) (q : HistoryParts) (kept : IsKeptF
   abbrev h : History
   h = the_history q
 
-  pub kept_done : (t : ℕ) (x : NodeId) → done_refusal m h t x ≡ None →
-      IsKeptFor m (record q { time = max q.time t; done = slice_set q.done x.0 (Some t) })
+  pub kept_done : (t x : ℕ) → done_refusal m h t x ≡ None →
+      IsKeptFor m (record q { time = max q.time t; done = slice_set q.done x (Some t) })
   kept_done t x e =
       let here = done_inside m good h kept.history kept.in_time t x e in
       let long = kept.one_each in
-      let is : with_done h t x.0 ≡ the_history (record q { time = max q.time t; done = slice_set q.done x.0 (Some t) }) =
-      ap (λ f. record (with_done h t x.0) { done = f }) (fun_ext (λ y. sym (set_is q.done x.0 t (omega arith) y))) in
+      let is : with_done h t x ≡ the_history (record q { time = max q.time t; done = slice_set q.done x (Some t) }) =
+      ap (λ f. record (with_done h t x) { done = f }) (fun_ext (λ y. sym (set_is q.done x t (omega arith) y))) in
       record {
-        one_each = length-set q.done x.0 (Some t) ∙ kept.one_each;
+        one_each = length-set q.done x (Some t) ∙ kept.one_each;
         wide = kept.wide;
         history = subst (IsHistory m) is (done_history m good h kept.history kept.in_time t x e);
         in_time = subst (IsInTime m) is (done_in_time m good h kept.history kept.in_time t x e);
       }
 
-  pub kept_told : (t : ℕ) (p : Prop) (v : Bool) (k : Known) → told_refusal m h t p ≡ None →
+  pub kept_told : (t : ℕ) (p : Prop) (v : Bool) (k : Known) → told_refusal m h t p.index ≡ None →
       ((r : ℕ) → known_value k r ≡ cond (r == p.index) (Some v) (known_value q.told r)) →
       IsKeptFor m (record q { time = max q.time t; told = k })
   kept_told t p v k e told =
@@ -303,11 +300,11 @@ module _ (m : Labelled) (good : IsLabelled m) (q : HistoryParts) (kept : IsKeptF
       record {
         one_each = kept.one_each;
         wide = kept.wide;
-        history = subst (IsHistory m) is (told_history m good h kept.history kept.in_time t p v e);
-        in_time = subst (IsInTime m) is (told_in_time m good h kept.history kept.in_time t p v e);
+        history = subst (IsHistory m) is (told_history m good h kept.history kept.in_time t p.index v e);
+        in_time = subst (IsInTime m) is (told_in_time m good h kept.history kept.in_time t p.index v e);
       }
 
-  pub kept_expected : (t : ℕ) (p : Prop) → expected_refusal m h t p ≡ None →
+  pub kept_expected : (t : ℕ) (p : Prop) → expected_refusal m h t p.index ≡ None →
       IsKeptFor m (record q { expected = slice_set q.expected p.index (Some t) })
   kept_expected t p e =
       let inside : p.index < length q.expected = (let letter = p.in_range in let wide = kept.wide in omega arith) in
@@ -316,8 +313,8 @@ module _ (m : Labelled) (good : IsLabelled m) (q : HistoryParts) (kept : IsKeptF
       record {
         one_each = kept.one_each;
         wide = length-set q.expected p.index (Some t) ∙ kept.wide;
-        history = subst (IsHistory m) is (expected_history m good h kept.history kept.in_time t p e);
-        in_time = subst (IsInTime m) is (expected_in_time m good h kept.history kept.in_time t p e);
+        history = subst (IsHistory m) is (expected_history m good h kept.history kept.in_time t p.index e);
+        in_time = subst (IsInTime m) is (expected_in_time m good h kept.history kept.in_time t p.index e);
       }
 
 pub kept_now : (m : Labelled) (q : HistoryParts) → IsKeptFor m q → (t : ℕ) → now_refusal (the_history q) t ≡ None →
@@ -342,11 +339,11 @@ pub timely_now : (m : Labelled) (h : History) (t : ℕ) → IsHistory m h → Is
 timely_now m h t known timely e = record { history = now_history m h known timely t e; in_time = now_in_time m h known timely t e }
 
 module _ (m : Labelled) (h : History) (good : IsLabelled m) (known : IsHistory m h) (timely : IsInTime m h) where
-  pub timely_done : (t : ℕ) (x : NodeId) → done_refusal m h t x ≡ None → IsTimelyHistory m (with_done h t x.0)
+  pub timely_done : (t x : ℕ) → done_refusal m h t x ≡ None → IsTimelyHistory m (with_done h t x)
   timely_done t x e = record { history = done_history m good h known timely t x e; in_time = done_in_time m good h known timely t x e }
 
-  pub timely_told : (t : ℕ) (p : Prop) (v : Bool) → told_refusal m h t p ≡ None → IsTimelyHistory m (with_told h t p.index v)
+  pub timely_told : (t p : ℕ) (v : Bool) → told_refusal m h t p ≡ None → IsTimelyHistory m (with_told h t p v)
   timely_told t p v e = record { history = told_history m good h known timely t p v e; in_time = told_in_time m good h known timely t p v e }
 
-  pub timely_expected : (t : ℕ) (p : Prop) → expected_refusal m h t p ≡ None → IsTimelyHistory m (with_expected h t p.index)
+  pub timely_expected : (t p : ℕ) → expected_refusal m h t p ≡ None → IsTimelyHistory m (with_expected h t p)
   timely_expected t p e = record { history = expected_history m good h known timely t p e; in_time = expected_in_time m good h known timely t p e }

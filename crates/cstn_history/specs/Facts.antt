@@ -1,9 +1,7 @@
 -- Facts: which are refused, and what the history is once one is recorded.
-use Rattle.std.specs.Prelude.{ℕ, zero, suc, nat_lt, nat_le, max, ◌==◌, cond, Bool, ◌&&◌, not, Option, None, Some, Result, Ok, Err, if◌then◌else◌}
+use Rattle.std.specs.Prelude.{ℕ, zero, suc, nat_lt, nat_le, max, ◌==◌, cond, Bool, ◌&&◌, not, Option, None, Some, if◌then◌else◌}
 use Rattle.std.specs.List.{list_all, range_with_len}
 use Rattle.cstn_label.specs.declared.marks.Mark.{Mark}
-use Rattle.cstn_label.specs.declared.nodes.NodeId.{NodeId}
-use Rattle.cstn_label.specs.declared.props.Prop.{Prop}
 use Rattle.cstn_label.specs.Labels.{Label}
 use Rattle.cstn_label.specs.Marks.{is_absent}
 use Rattle.cstn_net.specs.Limits.{most_deadline, most_reaction}
@@ -11,10 +9,20 @@ use Rattle.cstn_net.specs.Networks.{count}
 use Rattle.cstn_lift.specs.Labelled.{Labelled}
 use Rattle.cstn_lift.specs.Completion.{completed_label}
 use Rattle.cstn_lift.specs.Lowered.{observer_of}
-use Rattle.cstn_history.specs.declared.errors.FactError.{FactError}
-use Rattle.cstn_history.specs.declared.errors.FactError.TheVariants.{Past, OutOfRange, NoSuch, Done, Undecided, NotObserved, Told}
 use Rattle.cstn_label.specs.Tests.{fits}
 use Rattle.cstn_history.specs.Histories.{History}
+
+-- Why a fact is refused. F1: the moment that it is to be now has passed. F2: the moment is out of range. F3: no time-point has the
+-- number. F4: the time-point was done, at this moment. F5: what was told doesn't decide that the time-point is executed. F6: no
+-- time-point that is done observes the proposition. F7: the proposition was told, with this value.
+pub data FactRefusal : Type 0 where
+  Past : (now : ℕ) → FactRefusal
+  OutOfRange : (moment : ℕ) → FactRefusal
+  NoSuch : (node : ℕ) → FactRefusal
+  Done : (node moment : ℕ) → FactRefusal
+  Undecided : (node : ℕ) → FactRefusal
+  NotObserved : (prop : ℕ) → FactRefusal
+  Told : (prop : ℕ) → (value : Bool) → FactRefusal
 
 -- what was told settles the mark
 abbrev pub settles_mark : Option Bool → Mark → Bool
@@ -30,20 +38,20 @@ abbrev pub is_beyond : ℕ → Bool
 is_beyond t = nat_lt most_deadline t
 
 -- F1 and F2: why it can't be this moment now
-abbrev pub now_refusal : History → ℕ → Option FactError
+abbrev pub now_refusal : History → ℕ → Option FactRefusal
 now_refusal h t = if nat_lt t h.now then Some (Past h.now) else if is_beyond t then Some (OutOfRange t) else None
 
 -- F4, where the time-point was done at this moment, and F5
-abbrev pub again_refusal : Labelled → History → NodeId → Option ℕ → Option FactError
+abbrev pub again_refusal : Labelled → History → ℕ → Option ℕ → Option FactRefusal
 again_refusal m h x (Some u) = Some (Done x u)
-again_refusal m h x None = if settles h (completed_label m x.0) then None else Some (Undecided x)
+again_refusal m h x None = if settles h (completed_label m x) then None else Some (Undecided x)
 
 -- F2 to F5: why the time-point can't be done at this moment
-abbrev pub done_refusal : Labelled → History → ℕ → NodeId → Option FactError
+abbrev pub done_refusal : Labelled → History → ℕ → ℕ → Option FactRefusal
 done_refusal m h t x =
     if is_beyond t then Some (OutOfRange t)
-    else if nat_le (count m.base) x.0 then Some (NoSuch x)
-    else again_refusal m h x (h.done x.0)
+    else if nat_le (count m.base) x then Some (NoSuch x)
+    else again_refusal m h x (h.done x)
 
 -- when the observer was done, where there is one that is done
 abbrev pub since : History → Option ℕ → Option ℕ
@@ -55,18 +63,18 @@ abbrev pub observed_since : Labelled → History → ℕ → Option ℕ
 observed_since m h p = since h (observer_of m.base p)
 
 -- F7, where this value was told, and F2, where the observer was done at u
-abbrev pub again_told : ℕ → Prop → ℕ → Option Bool → Option FactError
+abbrev pub again_told : ℕ → ℕ → ℕ → Option Bool → Option FactRefusal
 again_told t p u (Some v) = Some (Told p v)
 again_told t p u None = if nat_lt t u then Some (OutOfRange t) else None
 
 -- F6, where the observer isn't done, and what else there is
-abbrev pub told_after : History → ℕ → Prop → Option ℕ → Option FactError
+abbrev pub told_after : History → ℕ → ℕ → Option ℕ → Option FactRefusal
 told_after h t p None = Some (NotObserved p)
-told_after h t p (Some u) = again_told t p u (h.told p.index)
+told_after h t p (Some u) = again_told t p u (h.told p)
 
 -- F2, F6 and F7: why the outcome of p can't have come at this moment
-abbrev pub told_refusal : Labelled → History → ℕ → Prop → Option FactError
-told_refusal m h t p = if is_beyond t then Some (OutOfRange t) else told_after h t p (observed_since m h p.index)
+abbrev pub told_refusal : Labelled → History → ℕ → ℕ → Option FactRefusal
+told_refusal m h t p = if is_beyond t then Some (OutOfRange t) else told_after h t p (observed_since m h p)
 
 -- the latest moment at which an outcome is expected: 1,000 where the origin observes it
 abbrev pub latest_expected : Option ℕ → ℕ
@@ -75,18 +83,18 @@ latest_expected (Some zero) = most_reaction
 latest_expected (Some (suc x)) = most_deadline
 
 -- F7, where this value was told, and F2, where the observer was done at u
-abbrev pub again_expected : Labelled → History → ℕ → Prop → ℕ → Option Bool → Option FactError
+abbrev pub again_expected : Labelled → History → ℕ → ℕ → ℕ → Option Bool → Option FactRefusal
 again_expected m h t p u (Some v) = Some (Told p v)
 again_expected m h t p u None =
-    if not (nat_lt t h.now) && nat_lt u t && nat_le t (latest_expected (observer_of m.base p.index)) then None else Some (OutOfRange t)
+    if not (nat_lt t h.now) && nat_lt u t && nat_le t (latest_expected (observer_of m.base p)) then None else Some (OutOfRange t)
 
-abbrev pub expected_after : Labelled → History → ℕ → Prop → Option ℕ → Option FactError
+abbrev pub expected_after : Labelled → History → ℕ → ℕ → Option ℕ → Option FactRefusal
 expected_after m h t p None = Some (NotObserved p)
-expected_after m h t p (Some u) = again_expected m h t p u (h.told p.index)
+expected_after m h t p (Some u) = again_expected m h t p u (h.told p)
 
 -- F6, F7 and F2: why the outcome of p can't be expected at this moment
-abbrev pub expected_refusal : Labelled → History → ℕ → Prop → Option FactError
-expected_refusal m h t p = expected_after m h t p (observed_since m h p.index)
+abbrev pub expected_refusal : Labelled → History → ℕ → ℕ → Option FactRefusal
+expected_refusal m h t p = expected_after m h t p (observed_since m h p)
 
 -- it is t now
 abbrev pub at_now : History → ℕ → History
@@ -103,8 +111,3 @@ with_told h t p v = record h { now = max h.now t; told = λ q. cond (q == p) (So
 -- the outcome of p is expected at t
 abbrev pub with_expected : History → ℕ → ℕ → History
 with_expected h t p = record h { expected = λ q. cond (q == p) (Some t) (h.expected q) }
-
--- why a call was refused, if it was
-abbrev pub refusal_of : Result (Unit {0}) FactError → Option FactError
-refusal_of (Ok u) = None
-refusal_of (Err e) = Some e

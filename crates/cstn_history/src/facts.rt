@@ -1,13 +1,14 @@
 // Facts that are recorded in a history, and those that are refused.
 ghost use Rattle.std.specs.Prelude.{◌≡◌, ◌<◌, ◌≤◌, ◌↔◌, IfSome, IsTrue, length, OnOk, OnErr};
+ghost use Rattle.std.specs.Option.{option_map};
 ghost use Rattle.cstn_net.specs.Limits.{most_deadline};
 ghost use Rattle.cstn_net.specs.Networks.{count};
 ghost use Rattle.cstn_lift.specs.Labelled.{Labelled as TheLabelled};
 ghost use Rattle.cstn_lift.specs.WellFormed.{IsLabelled};
 ghost use Rattle.cstn_lift.specs.Read.{the_labelled};
 ghost use Rattle.cstn_lift.specs.Lowered.{observer_of};
-ghost use Rattle.cstn_history.specs.Read.{the_history, IsKeptFor};
-ghost use Rattle.cstn_history.specs.Facts.{now_refusal, done_refusal, told_refusal, expected_refusal, observed_since, latest_expected, is_beyond, refusal_of};
+ghost use Rattle.cstn_history.specs.Read.{the_history, IsKeptFor, the_fact_refusal, refusal_of};
+ghost use Rattle.cstn_history.specs.Facts.{now_refusal, done_refusal, told_refusal, expected_refusal, observed_since, latest_expected, is_beyond};
 ghost use Rattle.cstn_history.specs.Facts.{at_now, with_done, with_told, with_expected};
 
 use crate::completion::completed;
@@ -40,7 +41,7 @@ impl History {
     /// now. Refused with the first that applies of `OutOfRange`, `NoSuch`, `Done` and `Undecided`.
     pub fn execute(&mut self, network: &Labelled, moment: u32, x: NodeId) -> Result<(), FactError>
         requires kept { IsKeptFor (the_labelled network.now) self.old }
-        ensures refused { refusal_of result ≡ done_refusal (the_labelled network.now) (the_history self.old) moment x }
+        ensures refused { refusal_of result ≡ done_refusal (the_labelled network.now) (the_history self.old) moment x.0 }
         ensures recorded { OnOk result (the_history self.new ≡ with_done (the_history self.old) moment x.0) }
         ensures same { OnErr result (self.new ≡ self.old) }
         ensures kept { IsKeptFor (the_labelled network.now) self.new }
@@ -64,7 +65,7 @@ impl History {
         value: bool,
     ) -> Result<(), FactError>
         requires kept { IsKeptFor (the_labelled network.now) self.old }
-        ensures refused { refusal_of result ≡ told_refusal (the_labelled network.now) (the_history self.old) moment p }
+        ensures refused { refusal_of result ≡ told_refusal (the_labelled network.now) (the_history self.old) moment p.index }
         ensures recorded { OnOk result (the_history self.new ≡ with_told (the_history self.old) moment p.index value) }
         ensures same { OnErr result (self.new ≡ self.old) }
         ensures kept { IsKeptFor (the_labelled network.now) self.new }
@@ -81,7 +82,7 @@ impl History {
     /// that applies of `NotObserved`, `Told` and `OutOfRange`.
     pub fn expect(&mut self, network: &Labelled, moment: u32, p: Prop) -> Result<(), FactError>
         requires kept { IsKeptFor (the_labelled network.now) self.old }
-        ensures refused { refusal_of result ≡ expected_refusal (the_labelled network.now) (the_history self.old) moment p }
+        ensures refused { refusal_of result ≡ expected_refusal (the_labelled network.now) (the_history self.old) moment p.index }
         ensures recorded { OnOk result (the_history self.new ≡ with_expected (the_history self.old) moment p.index) }
         ensures same { OnErr result (self.new ≡ self.old) }
         ensures kept { IsKeptFor (the_labelled network.now) self.new }
@@ -96,7 +97,7 @@ impl History {
     // Why a time-point can't be done at this moment.
     fn done_refusal(&self, network: &Labelled, moment: u32, x: NodeId) -> Option<FactError>
         requires kept { IsKeptFor (the_labelled network.now) self.now }
-        ensures refusal { result ≡ done_refusal (the_labelled network.now) (the_history self.now) moment x }
+        ensures refusal { option_map the_fact_refusal result ≡ done_refusal (the_labelled network.now) (the_history self.now) moment x.0 }
         ensures labelled { IsLabelled (the_labelled network.now) }
     {
         let base = network.base();
@@ -119,7 +120,7 @@ impl History {
     // Why the outcome of a proposition can't have come at this moment.
     fn told_refusal(&self, network: &Labelled, moment: u32, p: Prop) -> Option<FactError>
         requires kept { IsKeptFor (the_labelled network.now) self.now }
-        ensures refusal { result ≡ told_refusal (the_labelled network.now) (the_history self.now) moment p }
+        ensures refusal { option_map the_fact_refusal result ≡ told_refusal (the_labelled network.now) (the_history self.now) moment p.index }
         ensures labelled { IsLabelled (the_labelled network.now) }
     {
         let since = self.observed_since(network, p);
@@ -142,7 +143,7 @@ impl History {
     // Why the outcome of a proposition can't be expected at this moment.
     fn expected_refusal(&self, network: &Labelled, moment: u32, p: Prop) -> Option<FactError>
         requires kept { IsKeptFor (the_labelled network.now) self.now }
-        ensures refusal { result ≡ expected_refusal (the_labelled network.now) (the_history self.now) moment p }
+        ensures refusal { option_map the_fact_refusal result ≡ expected_refusal (the_labelled network.now) (the_history self.now) moment p.index }
         ensures labelled { IsLabelled (the_labelled network.now) }
     {
         let Some(since) = self.observed_since(network, p) else {

@@ -1,8 +1,6 @@
 // Laws of histories and of what is left.
 ghost use Rattle.std.specs.Prelude.{ℕ, ◌≡◌, ◌<◌, ◌≤◌, ◌↔◌, [], None, Bool, IsTrue, List, length};
 ghost use Rattle.std.specs.List.{All};
-ghost use Rattle.cstn_label.specs.declared.nodes.NodeId.{NodeId};
-ghost use Rattle.cstn_label.specs.declared.props.Prop.{Prop};
 ghost use Rattle.cstn_label.specs.Labels.{Label, Scenario};
 ghost use Rattle.cstn_net.specs.Limits.{most_constraints};
 ghost use Rattle.cstn_net.specs.Networks.{Constraint, IsWellFormed, AreConstraintsOf, count};
@@ -119,12 +117,12 @@ pub fn told_labels_are_decided()
 /// A fact that isn't refused makes the history one of the same network, with all numbers in range.
 pub fn facts_make_histories()
     ensures now { (m : Labelled) (h : History) (t : ℕ) → IsHistory m h → IsInTime m h → now_refusal h t ≡ None → IsTimelyHistory m (at_now h t) }
-    ensures done { (m : Labelled) (h : History) (t : ℕ) (x : NodeId) → IsLabelled m → IsHistory m h → IsInTime m h
-        → done_refusal m h t x ≡ None → IsTimelyHistory m (with_done h t x.0) }
-    ensures told { (m : Labelled) (h : History) (t : ℕ) (p : Prop) (v : Bool) → IsLabelled m → IsHistory m h → IsInTime m h
-        → told_refusal m h t p ≡ None → IsTimelyHistory m (with_told h t p.index v) }
-    ensures expected { (m : Labelled) (h : History) (t : ℕ) (p : Prop) → IsLabelled m → IsHistory m h → IsInTime m h
-        → expected_refusal m h t p ≡ None → IsTimelyHistory m (with_expected h t p.index) }
+    ensures done { (m : Labelled) (h : History) (t x : ℕ) → IsLabelled m → IsHistory m h → IsInTime m h
+        → done_refusal m h t x ≡ None → IsTimelyHistory m (with_done h t x) }
+    ensures told { (m : Labelled) (h : History) (t p : ℕ) (v : Bool) → IsLabelled m → IsHistory m h → IsInTime m h
+        → told_refusal m h t p ≡ None → IsTimelyHistory m (with_told h t p v) }
+    ensures expected { (m : Labelled) (h : History) (t p : ℕ) → IsLabelled m → IsHistory m h → IsInTime m h
+        → expected_refusal m h t p ≡ None → IsTimelyHistory m (with_expected h t p) }
 {}
 
 /// A builder that has the time-points that are left, each with what it observes and its reaction, and no constraints yet was

@@ -1,6 +1,7 @@
-use Rattle.std.proofs.Common.{◌≡◌, None, sym, subst, ◌∙◌}
+use Rattle.std.proofs.Common.{◌≡◌, None, sym, subst, ap, ◌∙◌}
+use Rattle.std.specs.Option.{option_map}
 use Rattle.cstn_lift.specs.Read.{the_labelled}
-use Rattle.cstn_history.specs.Read.{HistoryParts, the_history, IsKeptFor}
+use Rattle.cstn_history.specs.Read.{HistoryParts, the_history, IsKeptFor, the_fact_refusal}
 use Rattle.cstn_history.specs.Facts.{expected_refusal}
 use Rattle.cstn_history.specs.contracts.histories.History.{the_view}
 use Rattle.cstn_history.proofs.Recorded.{kept_expected}
@@ -12,6 +13,6 @@ returns-clause-kept c =
     let q = the_view c.self.inside in
     let t = c.args.moment in
     let was = subst (IsKeptFor m) (sym c.self.view_is) c.requires.kept in
-    let free = subst (λ (p : HistoryParts). expected_refusal m (the_history p) t c.args.p ≡ None) (sym c.self.view_is)
-    (sym c.expected_refusal.ensures.refusal ∙ c.in_default.is) in
+    let free = subst (λ (p : HistoryParts). expected_refusal m (the_history p) t c.args.p.index ≡ None) (sym c.self.view_is)
+    (sym c.expected_refusal.ensures.refusal ∙ ap (option_map the_fact_refusal) c.in_default.is) in
     kept_expected m c.expected_refusal.ensures.labelled q was t c.args.p free
