@@ -12,6 +12,8 @@ from pathlib import Path
 from unittest import mock
 
 from cstn.draw.command import run as run_draw
+from cstn.errors import NoProgram
+from cstn.explain.asking import Stopped, program
 from cstn.explain.command import run as run_explain
 from cstn.program import find
 
@@ -63,6 +65,13 @@ class Written(unittest.TestCase):
 
     def test_draw(self) -> None:
         self.check("draw", run_draw)
+
+    def test_the_program_without_a_launcher_is_the_package_s(self) -> None:
+        with mock.patch.dict(os.environ), mock.patch("cstn.explain.asking.LAUNCHER", Path("/nowhere/cstn")):
+            os.environ.pop("CSTN", None)
+            self.assertEqual(program(), find())
+            with mock.patch("cstn.explain.asking.find", side_effect=NoProgram("none")):
+                self.assertRaisesRegex(Stopped, "none", program)
 
 
 if __name__ == "__main__":

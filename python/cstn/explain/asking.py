@@ -11,6 +11,8 @@ import sys
 import tempfile
 from collections.abc import Iterable, Iterator
 
+from ..errors import NoProgram
+from ..program import find
 from .documents import MOST_BYTES
 from .names import typed
 from .networks import Network, literals, plain_copy, written
@@ -69,11 +71,14 @@ def read_once(path: str) -> Iterator[tuple[bytes, str]]:
 
 def program() -> str:
     """The program: the one that CSTN names, else the one that `./cstn` takes, or builds. The script says why there is
-    none. Where there is no script beside the package, it is `cstn` of the PATH."""
+    none. Where there is no script beside the package, it is the one that the package finds."""
     if "CSTN" in os.environ:
         return os.environ["CSTN"]
     if not LAUNCHER.is_file():
-        return "cstn"
+        try:
+            return find()
+        except NoProgram as error:
+            raise Stopped(2, str(error)) from error
     found = subprocess.run([LAUNCHER, "--program"], stdout=subprocess.PIPE, check=False)
     if found.returncode:
         sys.exit(found.returncode)

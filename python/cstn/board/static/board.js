@@ -7,6 +7,7 @@ import * as talk from "./talk.js";
 
 const POLL = 5000;
 const OLD = 10000;
+const LONGEST = 60000;
 const SAID_FOR = 7000;
 
 const state = { data: null, clock: null, alive: true, wrong: "", chosen: {}, wanted: 0, asked: 0, asking: null, fetched: 0, forced: false, held: false, pressed: false, timer: null, resizing: null, saidTimer: null };
@@ -65,7 +66,7 @@ function tickLater() {
   state.timer = setTimeout(() => {
     const isDue = data.next && data.next.at <= clock.now();
     return isDue || Date.now() - state.fetched > OLD ? refresh() : drawAll();
-  }, Math.max(wait, 200));
+  }, Math.min(Math.max(wait, 200), LONGEST));
 }
 
 function choose(letter, value) {
