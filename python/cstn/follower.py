@@ -141,8 +141,9 @@ class Follower:
         """Tells the journal anew with a correction, and keeps that if what stands instead can be."""
         mended = Session(self.plan, self.allowed, [*self.entries, entry])
         try:
-            if entry.instead is not None and mended.tellings[entry.forget].standing is Standing.FELL:
-                raise Refused("key", mended.tellings[entry.forget].why)
+            now = mended.tellings.get(entry.forget)
+            if entry.instead is not None and now is not None and now.standing is Standing.FELL:
+                raise Refused("key", now.why)
             self.append(entry)
         except BaseException:
             mended.close()

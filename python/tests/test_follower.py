@@ -266,6 +266,13 @@ class Corrections(unittest.TestCase):
         follower.did("Sample", 5)
         self.assertEqual(follower.outlook().seen["i"].at, 45)
 
+    def test_of_a_time_that_has_passed(self) -> None:
+        self.follower.tell(Now(80, "n"))
+        self.follower.now(90)
+        self.assertEqual(self.follower.correct("n", Now(85)).fallen, ())
+        self.assertEqual(self.follower.outlook().now, 90)
+        self.same_when_told_anew()
+
     def test_history(self) -> None:
         self.follower.correct("a", Did("Antibiotic", 72))
         self.assertEqual([(it.event.key, it.standing.value) for it in self.follower.history()],
