@@ -226,104 +226,23 @@ def kept_edits(folder):
     check("edits that are kept: the verdict", first_line(run(["check", folder.put("kept", done.stdout)])), (GOOD, b"yes 16"))
 
 
-# What the client of the examples prints, which is killed halfway and goes on from its journal.
-CLIENT = """yes 16, next 0 do Sample
-  did 5 Sample: yes 17, next 65 wait i
-  now 65: yes 15, next 65 wait i
-  await 90 i: yes 20, next 90 wait i
-  saw 80 i true: yes 10, next 80 do Antibiotic
-killed
-yes 10, next 80 do Antibiotic
-  did 91 Antibiotic: yes 6, next 211 do Review
-  did 211 Review: yes 3, next 221 do Discharge
-  did 221 Discharge: yes 1, done
-done 0
-"""
-
-# What is asked of the client after a no, over its journal with a cap that is too small, and with a larger one, where the journal
-# takes a part of a line alone. A second client is refused meanwhile, and two lines as one. At last it is begun over the journal with
-# another deadline.
-ASKING = """import os, resource, sys
-sys.path.insert(0, sys.argv[1])
-from follow import DOCUMENT, Followed, Gone, Taken
-def verdict(session):
-    return session.ask("check").partition("\\n")[0]
-def stop(session):
-    session.child.kill()
-    session.journal.close()
-session = Followed(sys.argv[2], DOCUMENT, [], [], sys.argv[3])
-for line in "did 5 Sample", "saw 45 i true", "did 112 Antibiotic":
-    session.tell(line)
-print(verdict(session), session.ask("check"), session.ask("rest").count("\\n"), session.ask("blame"), session.tell("remove 2"), verdict(session), sep="\\n")
-try:
-    Followed(sys.argv[2], DOCUMENT, [], [], sys.argv[3])
-except Taken as taken:
-    print(str(taken).partition(": ")[2])
-try:
-    session.tell("now 120\\nnow 121")
-except ValueError:
-    print("two lines")
-stop(session)
-session = Followed(sys.argv[2], DOCUMENT, [], ["--cap", "5"], sys.argv[3])
-print(session.tell("next"), session.tell("now 120"), sep="\\n")
-stop(session)
-session = Followed(sys.argv[2], DOCUMENT, [], ["--cap", "65536"], sys.argv[3])
-print(session.ask("next"))
-most = resource.getrlimit(resource.RLIMIT_FSIZE)[1]
-resource.setrlimit(resource.RLIMIT_FSIZE, (os.path.getsize(sys.argv[3]) + 5, most))
-try:
-    session.tell("did 232 Review")
-except Gone as gone:
-    print(gone)
-resource.setrlimit(resource.RLIMIT_FSIZE, (most, most))
-session = Followed(sys.argv[2], DOCUMENT, [], [], sys.argv[3])
-print(session.ask("next"), session.tell("did 232 Review"), sep="\\n")
-stop(session)
-try:
-    Followed(sys.argv[2], DOCUMENT, ["--deadline", "400"], [], sys.argv[3])
-except Gone as gone:
-    sys.exit(str(gone))
-"""
-
-ASKED = """no 4
-no 4
-0 base Z 0 -
-1 chain 0 0 Z 1 -
-end
-14
-blame 2
-removed 2
-yes 6
-another client has it
-two lines
-full 5
-full 5
-next 232 do Review
-journal: short write, status 8
-next 232 do Review
-yes 3
+# What the client of the examples prints, which goes on from its journal after a change of shift.
+CLIENT = """at 0 do Sample
+  Sample done at 5: yes; at 65 wait for i
+  it is 65: yes; at 65 wait for i
+  i expected at 90: yes; at 90 wait for i
+  i true at 80: yes; at 80 do Antibiotic
+at 80 do Antibiotic
+  Antibiotic done at 91: yes; at 211 do Review
+  Review done at 211: yes; at 221 do Discharge
+  Discharge done at 221: yes; done
 """
 
 
-def client(folder):
-    def ended(program):
-        child = subprocess.run([os.path.join(TOP, "examples", "follow.py"), program], capture_output=True, timeout=SECONDS, check=False)
-        return child.returncode, child.stdout.decode(), child.stderr.decode()
-
-    check("a client that is killed, and goes on", ended(PROGRAM), (GOOD, CLIENT, ""))
-    journal = folder.at("journal")
-    child = subprocess.run([sys.executable, "-B", "-c", ASKING, os.path.join(TOP, "examples"), PROGRAM, journal], capture_output=True, timeout=SECONDS, check=False)
-    check("a client that asks after a no", (child.returncode, child.stdout.decode()), (BAD, ASKED))
-    check("a client with another deadline", child.stderr.decode().partition(": of another document, version or deadline: follow 1 ")[0], journal)
-    for name, lines, status, says in (
-        ("has no memory left", "'follow 1' 'yes 16' memory", 7, "no answer to check: memory, status 7"),
-        ("has none to begin", "memory", 7, "no answer to the start: memory, status 7"),
-        ("refuses the document", "'document X9'", 3, "no session: document X9, status 3"),
-        ("writes other lines", "'follow 2' 'yes 16'", 0, "no session: follow 2, status 0"),
-    ):
-        gone = folder.put("gone", f"#!/bin/sh\nprintf '%s\\n' {lines}\nexit {status}\n")
-        os.chmod(gone, 0o755)
-        check(f"a client whose program {name}", ended(gone), (BAD, "", says + "\n"))
+def client():
+    child = subprocess.run([sys.executable, "-B", os.path.join(TOP, "examples", "follow.py")], env={**os.environ, "CSTN": PROGRAM}, capture_output=True,
+                           timeout=SECONDS, check=False)
+    check("a client that goes on from its journal", (child.returncode, child.stdout.decode(), child.stderr.decode()), (GOOD, CLIENT, ""))
 
 
 def followings(folder):
@@ -359,7 +278,7 @@ def followings(folder):
     case("no file", ["follow", folder.at("not there")], READ_FAULT, "read fault\n", "now 5\n")
     for words in (["--cap", "0"], ["--cap", "4194305"], ["--deadline", "05"], ["--cap", "5", "--deadline", "5"]):
         case(f"the words {words}", ["follow", folder.put("f", TWO_POINTS), *words], WORDS, "words\n")
-    client(folder)
+    client()
     kept_edits(folder)
     broken_streams()
     continuations(folder)

@@ -16,7 +16,7 @@ from runs import (BAD, DOCUMENT, GOOD, LETTERS, PROGRAM, READ_FAULT, SCRIPT, SEC
                   compact, run)
 
 SOON = 5
-EXPLAIN, REPLAY = (os.path.join(TOP, "tools", it) for it in ("explain", "replay"))
+EXPLAIN, REPLAY = (os.path.join(TOP, "cstn"), "explain"), (os.path.join(TOP, "tools", "replay"),)
 OBEYED = re.compile("[\x00-\x09\x0b-\x1f\x7f-\x9f\u061c\u200e\u200f\u2028-\u202e\u2066-\u2069]")
 
 
@@ -25,7 +25,7 @@ def called(tool, *words, live=b"", **more):
     live = live if isinstance(live, bytes) else live.encode()
     env, before = {**os.environ, "CSTN": PROGRAM, **more}, spent()
     try:
-        done = subprocess.run([tool, *words], input=live, capture_output=True, timeout=SECONDS, env=env, check=False)
+        done = subprocess.run([*tool, *words], input=live, capture_output=True, timeout=SECONDS, env=env, check=False)
     except subprocess.TimeoutExpired:
         return "late", "", ""
     return done.returncode if spent() - before < SOON else "late", done.stdout.decode(), done.stderr.decode()
@@ -141,7 +141,7 @@ def dear_forms(folder):
     wide = folder.put("wide", steps_with_outcomes(200, 10))
     check("dear: a tree that is too large for words", explained("--tree", wide)[:2], (10, (
         "The plan can be carried out, and has up to 1024 ways, by 10 outcomes, which are too many for words: "
-        "`./cstn tree` writes them, of the copy of `tools/explain --plain FILE` where FILE has labels on time-points."
+        "`./cstn tree` writes them, of the copy of `./cstn explain --plain FILE` where FILE has labels on time-points."
         "\n")))
     chased = folder.put("chased", compact(["Z", "X"], ["X->X -1"], '<data key="Deadline">60000</data>'))
     check("dear: turns", explained(chased, "-", "--only", live=run(["check", chased])[1])[0], GOOD)
@@ -273,10 +273,10 @@ def same_judgement(name, path, proof):
 
 
 # A script called where no temporary file can be written.
-NOWHERE = """import os, runpy, sys, tempfile
-tempfile.tempdir, sys.argv = "/nowhere", sys.argv[1:]
-sys.path.insert(0, os.path.dirname(sys.argv[0]))
-runpy.run_path(sys.argv[0], run_name="__main__")
+NOWHERE = """import runpy, sys, tempfile
+tempfile.tempdir = "/nowhere"
+sys.path.insert(0, sys.argv.pop(1))
+runpy.run_module("cstn.explain", run_name="__main__", alter_sys=True)
 """
 
 
@@ -294,17 +294,16 @@ def odd_files(folder):
     check("FILE from a named pipe", explained(folder.at("pipe")), told)
     writer.join()
     check("no FILE", explained(folder.at("none"))[:2], (READ_FAULT, "read fault\n"))
-    for tool in ("explain", "replay"):
-        os.symlink(os.path.join(TOP, "tools", tool), folder.at(tool))
+    os.symlink(REPLAY[0], folder.at("replay"))
     folder.put("cstn", "#!/bin/sh\necho another program\n")
     os.chmod(folder.at("cstn"), 0o755)
     os.makedirs(folder.at("bin"))
-    os.symlink(EXPLAIN, folder.at("bin/explain"))
-    check("a link to the script", called(folder.at("bin/explain"), visit), told)
-    check("a link to the other one", called(folder.at("replay"), visit, folder.put("p", LATE))[0], SCRIPT)
+    os.symlink(EXPLAIN[0], folder.at("bin/cstn"))
+    check("a link to the script", called((folder.at("bin/cstn"), "explain"), visit), told)
+    check("a link to the other one", called((folder.at("replay"),), visit, folder.put("p", LATE))[0], SCRIPT)
     found = explained(visit, CSTN="/none")
     check("no program, in words", (found[0], found[2].count("\n")), (WORDS, 1))
-    found = called(sys.executable, "-B", "-c", NOWHERE, EXPLAIN, "/dev/stdin", live=text)
+    found = called((sys.executable, "-B", "-c", NOWHERE, os.path.join(TOP, "python")), "/dev/stdin", live=text)
     check("no folder for a copy, in words", (found[0], found[2].count("\n")), (WORDS, 1))
     for coding in ("ascii", "latin-1", "utf-8"):
         for words in ((visit,), ("--json", visit), ("--plain", visit), (visit, answer)):

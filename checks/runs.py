@@ -128,13 +128,14 @@ def carried_out(words, outcomes, observers, reactions):
 
 
 # Of each example the further words, how many time-points it has, and the least deadline with which it can be carried out: of the small
-# ones as added up by hand, of the workflow, which is a no, by deciders/tables.py alone.
+# ones as added up by hand, of the night and of the workflow, which is a no, by deciders/tables.py alone.
 EXAMPLES = {
     "business-process.graphml": ([], 6, 11),
     "clinical-pathway.graphml": ([], 5, 195),
     "emergency-department.graphml": ([], 40, 195),
     "insurance-claim.graphml": (["--deadline", "48"], 8, 34),
     "mission.graphml": ([], 6, 81),
+    "night.graphml": ([], 52, 460),
     "stroke.graphml": ([], 5, 150),
     "test-and-visit.graphml": ([], 3, 10),
     "workflow.graphml": ([], 200, 117),

@@ -16,7 +16,8 @@ tell_commands() {
   echo "./cstn COMMAND ..: exact forms, answers and statuses are in docs/commands.md"
   each_command tell_command
   echo "./cstn --version says more: which program is taken, and what it was made from; ./cstn --program writes where it is"
-  echo "tools/explain FILE [PROOF] says a document, a no, a tree or what follow answers in words, what of FILE was passed over, and why it is refused"
+  echo "./cstn explain FILE [PROOF] says a document, a no, a tree or what follow answers in words, what of FILE was passed over, and why it is refused"
+  echo "./cstn draw network FILE, draw cases FILE, draw now FILE SESSION and draw --html FILE write pictures of a plan: docs/draw.md"
   echo "What \`refused ..\` means in run, edit, follow and host, and what to do: docs/guide.md, under \"Every refusal\""
   echo "That one file is what to install; CSTN_NO_BUILD=1 ./cstn COMMAND .. never begins a build"
 }
@@ -87,9 +88,7 @@ meant() {
 # The form of a command, for words that are no request.
 tell_form() {
   find_form "$1"
-  if [ "$1" = explain ]; then
-    say "that is tools/explain FILE [PROOF]"
-  elif [ -n "$form" ]; then
+  if [ -n "$form" ]; then
     say "these words are no request; the form is: $form"
     case $form in
       *NUMBER) say "(NUMBER from 0 to 18446744073709551615, without a leading zero)" ;;
@@ -128,7 +127,7 @@ tell_live() {
   say "an answer \`refused ..\` changes nothing${meanings:+: $meanings} (what to do: docs/guide.md, \"Every refusal\")"
 }
 
-# Says of a copy that tools/explain --plain wrote `warning`.
+# Says of a copy that ./cstn explain --plain wrote `warning`.
 tell_copy() {
   [ -f "$1" ] && head -n 5 -- "$1" | grep -qF '<!-- A copy without labels on time-points' || return 0
   say "$(shown "$1") is a copy without labels, and $warning"
@@ -162,7 +161,7 @@ tell_lines() {
 
 # After a yes of `check`, at a terminal: what was understood is not told by it.
 tell_accepted() {
-  [ ! -t 0 ] || [ "$1" != check ] || say "a misspelt key is passed over without a word; tools/explain FILE says what was understood"
+  [ ! -t 0 ] || [ "$1" != check ] || say "a misspelt key is passed over without a word; ./cstn explain FILE says what was understood"
 }
 
 # What a check of PROOF that says no means, at a terminal.
@@ -194,11 +193,11 @@ ask_save() {
 # What a command says that takes no labels on time-points.
 labels_of() {
   case $1 in
-    conflict) echo "conflict takes no labels on time-points; tools/explain --conflict FILE asks it of a copy without them, and tells the answer with the lines of FILE" ;;
+    conflict) echo "conflict takes no labels on time-points; ./cstn explain --conflict FILE asks it of a copy without them, and tells the answer with the lines of FILE" ;;
     edit) echo "edit takes no labels on time-points; follow has the same edits, and takes them" ;;
     host) echo "host takes no labels on time-points; carry out such a document by run, once for each plan" ;;
-    tree) echo "tree takes no labels on time-points; tools/explain --plain FILE writes a copy without them, to be checked and edited; tools/explain --tree FILE says its tree in words" ;;
-    *) echo "$1 takes no labels on time-points; tools/explain --plain FILE writes a copy without them, to be checked and edited" ;;
+    tree) echo "tree takes no labels on time-points; ./cstn explain --plain FILE writes a copy without them, to be checked and edited; ./cstn explain --tree FILE says its tree in words" ;;
+    *) echo "$1 takes no labels on time-points; ./cstn explain --plain FILE writes a copy without them, to be checked and edited" ;;
   esac
 }
 
@@ -212,8 +211,8 @@ tell_document() {
   esac
   case $said in
     labels) say "$(labels_of "$1")" ;;
-    refused) say "the document is refused; tools/explain FILE says why, and shows the line" ;;
-    *) say "\`document labels\` means: $(labels_of "$1"). Any other refusal: tools/explain FILE says why" ;;
+    refused) say "the document is refused; ./cstn explain FILE says why, and shows the line" ;;
+    *) say "\`document labels\` means: $(labels_of "$1"). Any other refusal: ./cstn explain FILE says why" ;;
   esac
 }
 

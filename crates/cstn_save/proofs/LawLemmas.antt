@@ -24,7 +24,8 @@ use Rattle.cstn_element.specs.Contents.{content_of}
 use Rattle.cstn_graphml.specs.DrawnGraph.{Observation, DrawnGraph, with_constraint}
 use Rattle.cstn_graphml.specs.Document.{in_document, drawn_parts, document}
 use Rattle.cstn_save.specs.Canonical.{canonical, observed_by, timed_observations, head, nodes_below, edges, tail}
-use Rattle.cstn_save.specs.ReadBack.{drawn, parts, AreNamesOf}
+use Rattle.cstn_save.specs.ReadBack.{drawn, parts}
+use Rattle.cstn_save.specs.Names.{AreNamesOf}
 use Rattle.cstn_save.proofs.WholeLemmas.{drafted, IsNew, IsInReach}
 use Rattle.cstn_save.proofs.EdgeLemmas.{IsKnown, AreKnown}
 use Rattle.cstn_save.proofs.ReadBackLemmas.{begun, drafted_of, canonical_drafted}

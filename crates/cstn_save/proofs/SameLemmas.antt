@@ -19,7 +19,8 @@ use Rattle.cstn_lift.specs.WellFormed.{IsLabelled}
 use Rattle.cstn_graphml.proofs.Built.{numbered_length, same_network}
 use Rattle.cstn_graphml.proofs.Fits.{fits}
 use Rattle.cstn_save.specs.Canonical.{canonical, observed_by, timed_observations}
-use Rattle.cstn_save.specs.ReadBack.{drawn, parts, AreNamesOf, AreNumbered, AreSameButIds}
+use Rattle.cstn_save.specs.ReadBack.{drawn, parts, AreNumbered, AreSameButIds}
+use Rattle.cstn_save.specs.Names.{AreNamesOf}
 use Rattle.cstn_save.proofs.LawLemmas.{document_back}
 
 observed_back : (reaction : ℕ → ℕ) (o : Option ℕ) → observed_prop (observed_by reaction o) ≡ o

@@ -1,8 +1,7 @@
 -- What the canonical document says of a labelled network.
-use Rattle.std.specs.Prelude.{◌≡◌, ℕ, ◌<◌, List, length, map, Some, slice_get, slice_index_or, codes}
+use Rattle.std.specs.Prelude.{◌≡◌, ℕ, ◌<◌, List, length, map, slice_index_or}
 use Rattle.cstn_lift.specs.Labelled.{Labelled}
-use Rattle.cstn_net.specs.Networks.{Network, Constraint, count, Observes}
-use Rattle.cstn_text.specs.Names.{AreNames}
+use Rattle.cstn_net.specs.Networks.{Network, Constraint, Observes}
 use Rattle.cstn_graphml.specs.DrawnGraph.{DrawnConstraint}
 use Rattle.cstn_save.specs.Canonical.{timed_observations}
 use Rattle.cstn_graphml.specs.Document.{Parts}
@@ -20,12 +19,6 @@ parts m names = record {
   labels = m.labels;
   constraints = map drawn m.base.constraints;
 }
-
--- one name for each time-point, all different, and the first is `Z`
-pub record AreNamesOf (net : Network) (names : List (List ℕ)) : Type 0 where
-  pub named : AreNames names
-  pub each : length names ≡ count net
-  pub origin : slice_get names 0 ≡ Some (codes "Z")
 
 -- the ids are from 0 up, without a gap
 abbrev pub AreNumbered : List Constraint → Type 0

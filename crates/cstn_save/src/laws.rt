@@ -20,7 +20,8 @@ ghost use Rattle.cstn_net.specs.declared.errors.NetError.{NetError};
 ghost use Rattle.cstn_save.specs.Canonical.{canonical, escaped_name, document_label};
 ghost use Rattle.cstn_graphml.specs.Networks.{network_of, labelled_of, IsFit, IsUnfit, IsMislabelled};
 ghost use Rattle.cstn_lift.specs.declared.errors.LiftError.{LiftError};
-ghost use Rattle.cstn_save.specs.ReadBack.{parts, AreNamesOf, AreNumbered, AreSameButIds};
+ghost use Rattle.cstn_save.specs.ReadBack.{parts, AreNumbered, AreSameButIds};
+ghost use Rattle.cstn_save.specs.Names.{AreNamesOf};
 
 use cstn_lift::labelled_networks_have_no_fault;
 

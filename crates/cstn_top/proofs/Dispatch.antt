@@ -1,43 +1,43 @@
--- What is proved of each request, by its command.
+-- What the clauses of `run` need of each request, by its command.
 use Rattle.std.proofs.Common.{◌≡◌, ℕ, Bool, true, false, List, refl}
 use Rattle.cstn_request.specs.Requests.{Request, check, run, edit, follow, closed, tight, conflict, tree, save, replay, closedcheck, treecheck, drill, host, version}
 use Rattle.cstn_edit.specs.Editing.{edit_wants}
 use Rattle.cstn_run.specs.hosted.Sessions.{host_wants}
 use Rattle.cstn_top.specs.Command.{Kind, a_text, a_run, an_edit, a_host, a_follow}
 use Rattle.cstn_top.specs.Dispatch.{command_of}
-use Rattle.cstn_top.proofs.Proved.{IsProved}
-use Rattle.cstn_top.proofs.records.Check.{check_proved}
-use Rattle.cstn_top.proofs.records.Run.{run_proved}
-use Rattle.cstn_top.proofs.records.Edit.{edit_proved}
-use Rattle.cstn_top.proofs.records.Follow.{follow_proved}
-use Rattle.cstn_top.proofs.records.Closed.{closed_proved}
-use Rattle.cstn_top.proofs.records.Tight.{tight_proved}
-use Rattle.cstn_top.proofs.records.Conflict.{conflict_proved}
-use Rattle.cstn_top.proofs.records.Tree.{tree_proved}
-use Rattle.cstn_top.proofs.records.Save.{save_proved}
-use Rattle.cstn_top.proofs.records.Replay.{replay_proved}
-use Rattle.cstn_top.proofs.records.Closedcheck.{closedcheck_proved}
-use Rattle.cstn_top.proofs.records.Treecheck.{treecheck_proved}
-use Rattle.cstn_top.proofs.records.Drill.{drill_proved}
-use Rattle.cstn_top.proofs.records.Host.{host_proved}
-use Rattle.cstn_top.proofs.records.Version.{version_proved}
+use Rattle.cstn_top.proofs.Handled.{IsHandled}
+use Rattle.cstn_top.proofs.records.Check.{check_handled}
+use Rattle.cstn_top.proofs.records.Run.{run_handled}
+use Rattle.cstn_top.proofs.records.Edit.{edit_handled}
+use Rattle.cstn_top.proofs.records.Follow.{follow_handled}
+use Rattle.cstn_top.proofs.records.Closed.{closed_handled}
+use Rattle.cstn_top.proofs.records.Tight.{tight_handled}
+use Rattle.cstn_top.proofs.records.Conflict.{conflict_handled}
+use Rattle.cstn_top.proofs.records.Tree.{tree_handled}
+use Rattle.cstn_top.proofs.records.Save.{save_handled}
+use Rattle.cstn_top.proofs.records.Replay.{replay_handled}
+use Rattle.cstn_top.proofs.records.Closedcheck.{closedcheck_handled}
+use Rattle.cstn_top.proofs.records.Treecheck.{treecheck_handled}
+use Rattle.cstn_top.proofs.records.Drill.{drill_handled}
+use Rattle.cstn_top.proofs.records.Host.{host_handled}
+use Rattle.cstn_top.proofs.records.Version.{version_handled}
 
-pub proved : (request : Request) → IsProved request
-proved (check asked cap) = check_proved asked cap
-proved (run asked cap) = run_proved asked cap
-proved (edit asked cap) = edit_proved asked cap
-proved (follow asked cap) = follow_proved asked cap
-proved (closed asked cap) = closed_proved asked cap
-proved (tight asked cap) = tight_proved asked cap
-proved (conflict asked cap) = conflict_proved asked cap
-proved (tree asked cap) = tree_proved asked cap
-proved (save asked) = save_proved asked
-proved (replay asked proof) = replay_proved asked proof
-proved (closedcheck asked proof) = closedcheck_proved asked proof
-proved (treecheck asked proof) = treecheck_proved asked proof
-proved (drill number) = drill_proved number
-proved (host files deadline cap) = host_proved files deadline cap
-proved (version release) = version_proved release
+pub handled : (request : Request) → IsHandled request
+handled (check asked cap) = check_handled asked cap
+handled (run asked cap) = run_handled asked cap
+handled (edit asked cap) = edit_handled asked cap
+handled (follow asked cap) = follow_handled asked cap
+handled (closed asked cap) = closed_handled asked cap
+handled (tight asked cap) = tight_handled asked cap
+handled (conflict asked cap) = conflict_handled asked cap
+handled (tree asked cap) = tree_handled asked cap
+handled (save asked) = save_handled asked
+handled (replay asked proof) = replay_handled asked proof
+handled (closedcheck asked proof) = closedcheck_handled asked proof
+handled (treecheck asked proof) = treecheck_handled asked proof
+handled (drill number) = drill_handled number
+handled (host files deadline cap) = host_handled files deadline cap
+handled (version release) = version_handled release
 
 -- the lines whose answers may want memory, by the kind of a command
 abbrev pub kind_wants : Kind → List ℕ → Bool

@@ -16,8 +16,16 @@ use Rattle.cstn_request.specs.Documents.{parts_of, HasLabelled, HasNetwork, IsNo
 use Rattle.cstn_graphml.proofs.Fits.{fits}
 use Rattle.cstn_top.proofs.DocumentNames.{document_names}
 use Rattle.cstn_top.proofs.ReadBack.{numbered_ids}
-use Rattle.cstn_top.proofs.Standing.{IsOfDocument}
 use Rattle.cstn_top.proofs.Edited.{document_named}
+use Rattle.cstn_top.specs.Accepted.{HasIds}
+use Rattle.cstn_text.specs.Names.{AreNames}
+
+-- a network as a document has it: it is well-formed, its time-points have names, and its ids are numbers of 32 bits
+pub record IsOfDocument (names : List (List ℕ)) (net : Network) : Type 0 where
+  pub good : IsWellFormed net
+  pub named : length names ≡ count net
+  pub are : AreNames names
+  pub ids : HasIds net
 
 -- what is said of a document: it is refused, or this is said of its labelled network
 pub labelled_says : (answer : LabelledAnswer) (bytes : List ℕ) (deadline : Option ℕ) (live : List ℕ) (said : Said) → IsOutput (on_labelled answer bytes deadline) live said → ((said.outcome ≡ Document) × IsNoDocument bytes deadline) ⊎ HasLabelled bytes deadline (λ names m. IsOutput (answer names m) live said)

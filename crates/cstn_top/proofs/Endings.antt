@@ -31,9 +31,8 @@ use Rattle.cstn_reply.specs.declared.output.Outcome.{Outcome}
 use Rattle.cstn_reply.specs.declared.output.Outcome.TheVariants.{Words, Document}
 use Rattle.cstn_reply.proofs.Contents.{given, all_given}
 use Rattle.cstn_request.proofs.Contents.{some_contents, none_there}
-use Rattle.cstn_top.proofs.Proved.{IsRight}
-use Rattle.cstn_top.proofs.Dispatch.{proved, kind_wants, wants_by}
-use Rattle.cstn_top.proofs.Dispatched.{IsComplete}
+use Rattle.cstn_top.proofs.Handled.{IsRight}
+use Rattle.cstn_top.proofs.Dispatch.{handled, kind_wants, wants_by}
 use Rattle.cstn_top.specs.commands.Follow.{follow_turn}
 use Rattle.cstn_follow.specs.Read.{the_following}
 use Rattle.cstn_top.specs.Command.{Kind, WantsMemory, wants_ends, an_edit, a_follow, a_host}
@@ -162,7 +161,7 @@ request_tells r told source now before after old new result outcome answered is 
   where
     by_status : EndsAs (plan_at r answered.0) before result ⊎ IsStopped result → IsRight before.left outcome r answered.0
     by_status (inl (live, all, (said, output, at))) =
-        subst (λ (o : Outcome). IsRight before.left o r answered.0) (status_alone said.outcome outcome (sym at ∙ is)) ((proved r).right before.left answered.0 live said all output)
+        subst (λ (o : Outcome). IsRight before.left o r answered.0) (status_alone said.outcome outcome (sym at ∙ is)) ((handled r).right before.left answered.0 live said all output)
     by_status (inr stopped) = absurd (not_stopped outcome (subst IsStopped is stopped))
 
 -- the status Words comes only where the words are no request
@@ -170,18 +169,10 @@ pub words_is : {S : Type 0} (words : Option Request) (told : Option (List ℕ �
 words_is None told source now before after old new result answered is = refl
 words_is (Some r) told source now before after old new result answered is = absurd (request_tells r told source now before after old new result Words answered is)
 
--- a call is stopped, or it is complete
-pub complete_at : {S : Type 0} (r : Request) (told : Option (List ℕ → Option (List ℕ))) (source now : S) (before after : LiveState) (old new : Option (List ℕ)) (result : Status) (answered : Answered (Some r) told source now before after old new result) → IsStopped result ⊎ IsComplete result r answered.0
-complete_at r told source now before after old new result answered = by_status (end_status (plan_at r answered.0) before after old new result answered.2)
-  where
-    by_status : EndsAs (plan_at r answered.0) before result ⊎ IsStopped result → IsStopped result ⊎ IsComplete result r answered.0
-    by_status (inl (live, all, (said, output, at))) = inr (subst (λ (s : Status). IsComplete s r answered.0) (sym at) ((proved r).complete answered.0 live said output))
-    by_status (inr stopped) = inl stopped
-
 -- a session was held only by a request that reads the live source
 pub reads_live : (words : Option Request) (r : Request) (told : Option (List ℕ → Option (List ℕ))) (plan : Plan) → Some r ≡ words → Planned r told plan → MayTalk plan → HoldsOf words told ReadsLive
 reads_live words r told plan there planned may =
-    subst (λ (w : Option Request). HoldsOf w told ReadsLive) there (planned.contents, planned.are, (proved r).talks planned.contents (planned.comes.talks may))
+    subst (λ (w : Option Request). HoldsOf w told ReadsLive) there (planned.contents, planned.are, (handled r).talks planned.contents (planned.comes.talks may))
 
 -- and else the live source is as it was
 pub live_is : {S : Type 0} (words : Option Request) (r : Request) (told : Option (List ℕ → Option (List ℕ))) (plan : Plan) (source now : S) → Some r ≡ words → Planned r told plan → Untouched plan source now → HoldsOf words told ReadsLive ⊎ (now ≡ source)
@@ -209,7 +200,7 @@ meets ends heard other opening kind told same (live, all, found) = (
 may_stop : (words : Option Request) (r : Request) (told : Option (List ℕ → Option (List ℕ))) (live : Option (List ℕ)) (plan : Plan) → Some r ≡ words → Planned r told plan → WantsMemory (command_of r).kind → MayTalk plan → ((contents : List (List ℕ)) → ComesTo (plan_at r contents) plan → MeetsLine (wants_ends (command_of r).kind) (before_fault (plan_at r contents)) (command_of r).lines.wants_at live) → HoldsOf words told (MayStop live)
 may_stop words r told live plan there planned wants may at =
     subst (λ (w : Option Request). HoldsOf w told (MayStop live)) there
-    (planned.contents, planned.are, ((proved r).wants planned.contents wants (planned.comes.talks may), at planned.contents planned.comes))
+    (planned.contents, planned.are, ((handled r).wants planned.contents wants (planned.comes.talks may), at planned.contents planned.comes))
 
 -- a session of a kind comes to a line that may want memory
 kinded : (r : Request) (contents : List (List ℕ)) (live : Option (List ℕ)) (kind : Kind) → (command_of r).kind ≡ kind → MeetsLine (wants_ends kind) (before_fault (plan_at r contents)) (kind_wants kind) live →

@@ -38,7 +38,7 @@ use Rattle.cstn_run.specs.hosted.Sessions.{begun, host_turn, host_ending}
 use Rattle.cstn_run.specs.hosted.Files.{Named, the_file, yes_lines}
 use Rattle.cstn_top.specs.Begun.{IsRefusedAt}
 use Rattle.cstn_run.proofs.hosts.Plays.{IsEnd, plays}
-use Rattle.cstn_top.proofs.Standing.{IsOfDocument as IsNamedNetwork}
+use Rattle.cstn_top.proofs.Documents.{IsOfDocument as IsNamedNetwork}
 use Rattle.cstn_top.proofs.Comes.{plain_refusal_output}
 use Rattle.cstn_top.proofs.Documents.{document_says, document_talks, document_then}
 

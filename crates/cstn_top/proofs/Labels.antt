@@ -22,8 +22,7 @@ use Rattle.cstn_top.specs.Answers.{LabelledAnswer, on_labelled}
 use Rattle.cstn_reply.specs.declared.output.Outcome.TheVariants.{Document}
 use Rattle.cstn_request.specs.Documents.{parts_of, HasLabelled, IsNoDocument}
 use Rattle.cstn_top.proofs.DocumentNames.{document_names}
-use Rattle.cstn_top.proofs.Standing.{IsOfDocument}
-use Rattle.cstn_top.proofs.Documents.{labelled_says, labelled_talks}
+use Rattle.cstn_top.proofs.Documents.{IsOfDocument, labelled_says, labelled_talks}
 use Rattle.cstn_top.proofs.Edited.{document_named}
 
 -- the ids of the constraints of a lowered network are numbers of 32 bits
@@ -37,7 +36,8 @@ pub record IsOfLabelled (names : List (List ℕ)) (m : Labelled) : Type 0 where
   pub same : IsEquivalent m (lowered m)
   pub plain : IsOfDocument names (lowered m)
 
-of_parts : (bytes : List ℕ) (deadline : Option ℕ) (parts : Parts) → document bytes deadline ≡ Ok parts → IsFit parts → IsOfLabelled parts.names (labelled_of parts)
+-- the labelled network of the parts of a document
+pub of_parts : (bytes : List ℕ) (deadline : Option ℕ) (parts : Parts) → document bytes deadline ≡ Ok parts → IsFit parts → IsOfLabelled parts.names (labelled_of parts)
 of_parts bytes deadline parts is fit =
     let good : IsLabelled (labelled_of parts) = fit.labelled in
     let few : length (lowered (labelled_of parts)).constraints ≤ most_constraints = within (length (lowered (labelled_of parts)).constraints) (fit.faultless TooManyConstraints) in

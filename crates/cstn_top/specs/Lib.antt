@@ -10,12 +10,7 @@ pub mod commands
 pub mod Dispatch
 -- What the clauses of `run` say.
 pub mod Meanings
-pub mod Evidence
 pub mod Told
--- What the laws say.
-pub mod EditSessions
-pub mod Headline
-pub mod LabelledDeadlines
 -- What is asked on the way to an answer.
 pub mod Prepared
 pub mod Begun

@@ -1,5 +1,5 @@
 -- What a call tells, and what follows of it for its command: all of it of the same contents of the files that its words name.
-use Rattle.std.specs.Prelude.{◌≡◌, ◌⊎◌, ℕ, List, Option, IfSome, String, codes}
+use Rattle.std.specs.Prelude.{◌≡◌, ℕ, List, Option, IfSome, String, codes}
 use Rattle.cstn_io.specs.Causes.{Rose}
 use Rattle.cstn_io.specs.Contents.{with_bytes}
 use Rattle.cstn_request.specs.Requests.{Request, names_of}
@@ -9,12 +9,9 @@ use Rattle.cstn_reply.specs.Texts.{line}
 use Rattle.cstn_request.specs.Files.{AreContents}
 use Rattle.cstn_reply.specs.Written.{LiveState}
 use Rattle.cstn_top.specs.Plans.{Ends, Untouched}
-use Rattle.cstn_top.specs.Command.{Command}
 use Rattle.cstn_top.specs.Dispatch.{command_of, plan_of}
-use Rattle.cstn_top.specs.Meanings.{HoldsOf, ReadsLive, IsStopped}
-use Rattle.cstn_top.specs.Evidence.{WroteEvidence}
+use Rattle.cstn_top.specs.Meanings.{HoldsOf, ReadsLive}
 use Rattle.cstn_reply.specs.declared.status.Status.{Status}
-use Rattle.cstn_reply.specs.declared.status.Status.TheVariants.{Good, Bad, Full, Unfinished, Wide}
 
 -- what is seen of a live source, by the bytes that it has left and its count of faults
 abbrev pub view : {S : Type 0} → (S → Option (List ℕ)) → (S → ℕ) → S → LiveState
@@ -35,31 +32,6 @@ Reads release words files = TellsOf release words files ReadsLive
 -- the line `memory` was written, and nothing else
 abbrev pub WroteMemory : {K : Type 0} → (K → Option (List ℕ)) → K → K → Type 0
 WroteMemory written old new = written new ≡ with_bytes (written old) (line (codes "memory"))
-
--- What follows for a command whose files have these contents from what was written. The live source was seen as `before`, and what
--- was written goes from `old` to `new`.
-pub record IsToldOf (before : LiveState) (old new : Option (List ℕ)) (status : Status) (contents : List (List ℕ)) (command : Command) : Type 0 where
-  -- Good: the network has a strategy, or what was handed in or asked for is right
-  pub good : status ≡ Good → command.good before.left contents
-  -- Bad: the network has no strategy, or what was handed in is wrong
-  pub bad : status ≡ Bad → command.bad before.left contents
-  -- Full: a log has more entries than the cap
-  pub full : status ≡ Full → command.full before.left contents
-  -- Wide: more than 10 propositions are observed
-  pub wide : status ≡ Wide → command.wide contents
-  -- a network whose log isn't too long is decided, and a text is accepted or not; there is no third case but a document or a
-  -- text that isn't of its grammar
-  pub complete : IsStopped status ⊎ command.complete status contents
-  -- what was written as evidence is accepted when it is handed in again
-  pub evidence : IsStopped status ⊎ WroteEvidence old new status command contents
-  -- after yes, each answer of a run is of least moments
-  pub least : command.lines.least contents
-  -- a run that ends with Good is carried through to its end, and meets each constraint that is in force
-  pub carried_out : status ≡ Good → command.lines.carried_out before.left old new contents
-  -- a run that ends with Unfinished tells the due moment
-  pub unfinished : status ≡ Unfinished → command.lines.unfinished before.left old new contents
-  -- a run and an edit session end by the network and by the lines of the live source
-  pub ended : IsStopped status ⊎ command.lines.ended status before.left old new contents
 
 -- what a call with these words wrote, for some contents of the files that they name, and whether it left the live source
 abbrev pub Answers : {S : Type 0} → Option Request → Option (List ℕ → Option (List ℕ)) → (S → LiveState) → S → S → Option (List ℕ) → Option (List ℕ) → Status → Type 0

@@ -26,11 +26,13 @@ pub fn run<F: Shelf, S: Source, K: Sink>(
     out: &mut K,
 ) -> Status
     requires may_ask { IsTrue (list_all (F.may_ask shelf.old) (named_files release words.now)) }
-    ensures told { IsTold (request_in release words.now) (F.files shelf.old) (view S.left S.faults) live.old live.new (K.written out.old) (K.written out.new) result }
+    ensures told { IsTold (request_in release words.now) (F.files shelf.old) (view S.left S.faults) live.old live.new (K.written out.old) (K.written out.new)
+        result }
     ensures there { AreThere (F.files shelf.old) (files_read result (named_files release words.now)) }
     ensures refused { result ≡ Document → TellsOf release words.now (F.files shelf.old) (RefusedIsThere (F.files shelf.old)) }
     ensures flushed { result ≢ WriteFault → K.flushed out.new ≡ option_map length (K.written out.new) }
-    ensures read_fault { result ≡ ReadFault → Failed F.faults shelf.old shelf.new ⊎ (Reads release words.now (F.files shelf.old) × Failed S.faults live.old live.new) }
+    ensures read_fault { result ≡ ReadFault → Failed F.faults shelf.old shelf.new
+        ⊎ (Reads release words.now (F.files shelf.old) × Failed S.faults live.old live.new) }
     ensures write_fault { result ≡ WriteFault → Failed K.faults out.old out.new }
     ensures live { Reads release words.now (F.files shelf.old) ⊎ (live.new ≡ live.old) }
     ensures memory { result ≡ Memory → TellsOf release words.now (F.files shelf.old) (MayStop (S.left live.old))

@@ -9,7 +9,6 @@ use Rattle.cstn_reply.specs.Texts.{Said, say}
 use Rattle.cstn_top.specs.Plans.{says, IsOutput, MayTalk}
 use Rattle.cstn_top.specs.Answers.{of_lowered, by_text}
 use Rattle.cstn_top.specs.commands.Closedcheck.{AreClosed, AreFaulty, certified_bounds, certified}
-use Rattle.cstn_reply.specs.Sessions.{script}
 use Rattle.cstn_lift.specs.Labelled.{Labelled}
 use Rattle.cstn_lift.specs.Lowered.{lowered}
 use Rattle.cstn_lift.specs.Strategies.{IsEquivalent, IsLabelledConsistent}
@@ -20,10 +19,8 @@ use Rattle.cstn_top.proofs.Labels.{IsOfLabelled, none_labelled, on_labels, label
 use Rattle.cstn_plan.specs.Asked.{asked as table_of}
 use Rattle.cstn_plan.proofs.Strategies.{asked_strategy}
 use Rattle.cstn_closed.specs.Texts.{Told as ToldBounds, tells as tells_bounds, wrong as wrong_bound, told as told_bounds}
-use Rattle.cstn_graphml.specs.Networks.{labelled_of}
-use Rattle.cstn_top.proofs.Proved.{IsRight, IsProved, no_evidence}
+use Rattle.cstn_top.proofs.Handled.{IsRight, IsHandled}
 use Rattle.cstn_top.proofs.Meanings.{text_silent}
-use Rattle.cstn_top.proofs.SomeOutput.{text_some, certified_some, document_some}
 
 -- what the outcome of a check of bounds tells of a network
 abbrev Certifies : ToldBounds → Network → Outcome → Type 0
@@ -88,23 +85,14 @@ bounds_silent : (names : List (List ℕ)) (told : ToldBounds) (net : Network) �
 bounds_silent names (tells_bounds load bounds) net is = is
 bounds_silent names (wrong_bound at) net is = is
 
-pub closedcheck_proved : (asked : Asked) (proof : List ℕ) → IsProved (closedcheck asked proof)
-closedcheck_proved asked proof = record {
+pub closedcheck_handled : (asked : Asked) (proof : List ℕ) → IsHandled (closedcheck asked proof)
+closedcheck_handled asked proof = record {
   right = λ told contents live said all output.
       on_labels (of_lowered (by_text certified (get_or contents 1 []))) (get_or contents 0 []) asked.deadline live said (λ names m. CertifiesLabelled (told_bounds names (get_or contents 1 [])) m said.outcome) (IsRight told said.outcome (closedcheck asked proof) contents)
       (λ is refused. subst (λ (o : Outcome). IsRight told o (closedcheck asked proof) contents) (sym is) tt) (bounds_text_tells (get_or contents 1 []) live said) (closedcheck_right told asked proof contents said.outcome) output;
-  complete = λ contents live said output. tt;
-  evidence = λ yes_text no_text contents live said capped output. no_evidence (closedcheck asked proof) contents said.text tt tt said.outcome;
   talks = λ contents may.
       labels_silent (of_lowered (by_text certified (get_or contents 1 []))) (get_or contents 0 []) asked.deadline
       (λ names m. text_silent certified (get_or contents 1 []) names (lowered m) (bounds_silent names (told_bounds names (get_or contents 1 [])) (lowered m))) may;
   wants = λ contents wants may. absurd wants;
   refused = λ told question prepared asks comes fits. tt;
-  least = λ contents. tt;
-  ended = λ told old new contents live said all wrote output. tt;
-  carried_out = λ told old new contents ended. tt;
-  unfinished = λ told old new contents ended. tt;
-  some = λ laws contents live ranged held.
-      document_some laws.made (of_lowered (by_text certified (get_or contents 1 []))) (get_or contents 0 []) asked.deadline live held
-      (λ parts is fit. text_some certified (get_or contents 1 []) parts.names (lowered (labelled_of parts)) live (certified_some laws.bounds (get_or contents 1 []) parts.names (lowered (labelled_of parts)) live));
 }

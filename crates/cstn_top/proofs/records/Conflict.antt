@@ -9,21 +9,16 @@ use Rattle.cstn_check.specs.declared.verdicts.Verdict.{Verdict}
 use Rattle.cstn_check.specs.declared.verdicts.Verdict.TheVariants.{Yes, No, Full as IsFull}
 use Rattle.cstn_check.proofs.Deciding.{Tells, verdict_tells}
 use Rattle.cstn_request.specs.Requests.{Asked, conflict}
-use Rattle.cstn_top.specs.commands.Conflict.{IsConflict, blamed, IsConflictText}
+use Rattle.cstn_top.specs.commands.Conflict.{IsConflict, blamed}
 use Rattle.cstn_reply.specs.Texts.{Said}
 use Rattle.cstn_request.specs.Documents.{parts_of, HasNetwork}
 use Rattle.cstn_top.proofs.EvidenceLemmas.{conflict_well}
-use Rattle.cstn_reply.specs.Statuses.{status_of}
 use Rattle.cstn_reply.specs.declared.output.Outcome.{Outcome}
 use Rattle.cstn_reply.specs.declared.output.Outcome.TheVariants.{Good, Bad, Words, Document, Full, Unfinished, Script, Wide}
 use Rattle.cstn_conflict.specs.Conflicts.{conflict_set, IsConflictFull}
 use Rattle.cstn_conflict.specs.Texts.{blamed_after_no, blamed_by}
-use Rattle.cstn_top.proofs.Standing.{Stands, StandsFor, conflict_stands}
-use Rattle.cstn_top.proofs.Dispatched.{IsEvidence}
-use Rattle.cstn_top.proofs.Proved.{IsRight, IsProved}
+use Rattle.cstn_top.proofs.Handled.{IsRight, IsHandled}
 use Rattle.cstn_top.proofs.Meanings.{on_network, none_such, never_talks}
-use Rattle.cstn_top.proofs.Accepted.{network_shown}
-use Rattle.cstn_top.proofs.SomeOutput.{said_some, plain_some}
 
 -- what the outcome of `conflict` tells
 abbrev Blames : ℕ → Network → Outcome → Type 0
@@ -57,35 +52,13 @@ conflict_right live asked cap contents Unfinished has = tt
 conflict_right live asked cap contents Script has = tt
 conflict_right live asked cap contents Wide has = none_such (parts_of (document (get_or contents 0 []) asked.deadline)) has
 
-conflict_shown : (asked : Asked) (cap : ℕ) (contents : List (List ℕ)) (o : Outcome) (text : List ℕ) → HasNetwork (get_or contents 0 []) asked.deadline (λ names net. Stands o (Unit {0}) (IsConflictText names net text)) → IsEvidence (conflict asked cap) (status_of o) text contents
-conflict_shown asked cap contents Good text has = tt
-conflict_shown asked cap contents Bad text has = has
-conflict_shown asked cap contents Words text has = tt
-conflict_shown asked cap contents Document text has = tt
-conflict_shown asked cap contents Full text has = tt
-conflict_shown asked cap contents Unfinished text has = tt
-conflict_shown asked cap contents Script text has = tt
-conflict_shown asked cap contents Wide text has = tt
-
-pub conflict_proved : (asked : Asked) (cap : ℕ) → IsProved (conflict asked cap)
-conflict_proved asked cap = record {
+pub conflict_handled : (asked : Asked) (cap : ℕ) → IsHandled (conflict asked cap)
+conflict_handled asked cap = record {
   right = λ told contents live said all output.
       on_network (blamed cap) (get_or contents 0 []) asked.deadline live said (λ o names net. Blames cap net o) (λ o. IsRight told o (conflict asked cap) contents) (λ refused. tt)
       (λ names net good named is. blames cap names net said good (verdict cap net) (verdict_tells cap net good) is) (conflict_right told asked cap contents) output;
-  complete = λ contents live said output. tt;
-  evidence = λ yes_text no_text contents live said capped output.
-      network_shown (blamed cap) (get_or contents 0 []) asked.deadline live said (λ names net s. StandsFor (λ text. Unit {0}) (IsConflictText names net) s) (λ s. IsEvidence (conflict asked cap) (status_of s.outcome) s.text contents)
-      (λ is. subst (λ (o : Outcome). IsEvidence (conflict asked cap) (status_of o) said.text contents) (sym is) tt)
-      (λ names net is out. conflict_stands yes_text no_text cap names net live said is capped out)
-      (conflict_shown asked cap contents said.outcome said.text) output;
   talks = λ contents may.
       never_talks (blamed cap) (get_or contents 0 []) asked.deadline (λ names net may'. may') may;
   wants = λ contents wants may. absurd wants;
   refused = λ told question prepared asks comes fits. tt;
-  least = λ contents. tt;
-  ended = λ told old new contents live said all wrote output. tt;
-  carried_out = λ told old new contents ended. tt;
-  unfinished = λ told old new contents ended. tt;
-  some = λ laws contents live ranged held.
-      plain_some laws.made (blamed cap) (get_or contents 0 []) asked.deadline live held (λ names net of. said_some _ live);
 }

@@ -1,7 +1,7 @@
 -- What is proved of `follow`.
-use Rattle.std.proofs.Common.{◌≡◌, ◌<◌, ℕ, Bool, true, false, List, refl, ap, sym, ◌∙◌, subst, inl, inr, []}
+use Rattle.std.proofs.Common.{◌≡◌, ◌<◌, ℕ, Bool, true, false, List, refl, ap, sym, subst, inl, inr, []}
 use Rattle.std.specs.Prelude.{◌⊎◌, get_or, Option, Some}
-use Rattle.cstn_io.specs.Contents.{IsAllOf, with_bytes}
+use Rattle.cstn_io.specs.Contents.{IsAllOf}
 use Rattle.cstn_lift.specs.Labelled.{Labelled}
 use Rattle.cstn_lift.specs.Lowered.{lowered}
 use Rattle.cstn_check.specs.Growth.{load_of}
@@ -13,36 +13,30 @@ use Rattle.cstn_lines.specs.FollowLines.{follow_read}
 use Rattle.cstn_follow.specs.Following.{Following, Heard, says, saves, begun, left_now, verdict_now, is_any_open, following_ending, outcome_by}
 use Rattle.cstn_follow.specs.Hearing.{hear}
 use Rattle.cstn_request.specs.Requests.{Asked, follow}
-use Rattle.cstn_reply.specs.Texts.{Said, after_text}
+use Rattle.cstn_reply.specs.Texts.{Said}
 use Rattle.cstn_reply.specs.Sessions.{play}
 use Rattle.cstn_reply.specs.Reached.{state_after}
-use Rattle.cstn_reply.specs.Statuses.{status_of}
-use Rattle.cstn_reply.specs.declared.status.Status.{Status}
-use Rattle.cstn_reply.specs.declared.status.Status.TheVariants.{Unfinished as IsUnfinished}
 use Rattle.cstn_reply.specs.declared.output.Outcome.{Outcome}
 use Rattle.cstn_reply.specs.declared.output.Outcome.TheVariants.{Good, Bad, Words, Document, Full, Unfinished, Script, Wide}
-use Rattle.cstn_request.specs.Documents.{HasLabelled, IsNoDocument}
+use Rattle.cstn_request.specs.Documents.{HasLabelled}
 use Rattle.cstn_top.specs.Plans.{IsOutput, MayTalk}
 use Rattle.cstn_save.specs.Canonical.{canonical}
-use Rattle.cstn_top.specs.commands.Follow.{heard_turn, follow_turn, follow_opening, followed, EndsWith, IsVerdictOn, FollowEnds, WroteFollowing}
+use Rattle.cstn_top.specs.commands.Follow.{heard_turn, follow_turn, followed, EndsWith}
 use Rattle.cstn_top.specs.Dispatch.{plan_at}
 use Rattle.cstn_top.specs.Meanings.{ReadsLive}
-use Rattle.cstn_top.proofs.Dispatched.{IsEnded}
-use Rattle.cstn_top.proofs.Documents.{labelled_says}
 use Rattle.cstn_follow.specs.Turns.{IsTrueOf}
 use Rattle.cstn_follow.proofs.States.{IsSound, begun_sound, lines_sound, verdict_true}
-use Rattle.cstn_top.proofs.Labels.{IsOfLabelled, on_labels, labelled_then, none_labelled, talks_labelled}
-use Rattle.cstn_top.proofs.Played.{TurnIs, stops_at, Played, all_answered, one_last, one_stops, played}
-use Rattle.cstn_top.proofs.Proved.{IsRight, IsProved, no_evidence}
-use Rattle.cstn_top.proofs.SomeOutput.{document_some}
+use Rattle.cstn_top.proofs.Labels.{IsOfLabelled, on_labels, none_labelled, talks_labelled}
+use Rattle.cstn_top.proofs.Played.{TurnIs, Played, all_answered, one_last, one_stops, played}
+use Rattle.cstn_top.proofs.Handled.{IsRight, IsHandled}
 
 -- each line is answered, and no answer is the last
-heard_is : (heard : Heard) → TurnIs ⊥ (λ outcome. ⊥) (heard_turn heard)
+pub heard_is : (heard : Heard) → TurnIs ⊥ (λ outcome. ⊥) (heard_turn heard)
 heard_is (says text next) = tt
 heard_is (saves m names next) = tt
 
 -- what an outcome tells
-abbrev FollowTells : Option (List ℕ) → ℕ → Outcome → List (List ℕ) → Labelled → Type 0
+abbrev pub FollowTells : Option (List ℕ) → ℕ → Outcome → List (List ℕ) → Labelled → Type 0
 FollowTells told cap Good names m = EndsWith told cap names m (λ s. Can s.network s.history)
 FollowTells told cap Bad names m = EndsWith told cap names m (λ s. Can s.network s.history → ⊥)
 FollowTells told cap Full names m = EndsWith told cap names m (λ s. s.cap < load_of (lowered (left_now s)))
@@ -53,10 +47,10 @@ FollowTells told cap Script names m = Unit {0}
 FollowTells told cap Wide names m = ⊥
 
 -- how a session ends in a state
-abbrev EndsIn : Outcome → Following → Type 0
+abbrev pub EndsIn : Outcome → Following → Type 0
 EndsIn o s = ((o ≡ Unfinished) × (is_any_open s ≡ true)) ⊎ ((is_any_open s ≡ false) × ((v : Verdict) × (o ≡ outcome_by v) × IsTrueOf s v))
 
-ends_in : (s : Following) → IsSound s → EndsIn (following_ending s).outcome s
+pub ends_in : (s : Following) → IsSound s → EndsIn (following_ending s).outcome s
 ends_in s sound = by_open (is_any_open s) refl
   where
     by_open : (open_ : Bool) → is_any_open s ≡ open_ → EndsIn (following_ending s).outcome s
@@ -64,15 +58,15 @@ ends_in s sound = by_open (is_any_open s) refl
     by_open false is = inr (is, (verdict_now s, (rw is refl), verdict_true s (verdict_now s) sound refl))
 
 module _ (cap : ℕ) (names : List (List ℕ)) (m : Labelled) (of : IsOfLabelled names m) (live : List ℕ) where
-  abbrev Ended : Said → Type 0
+  abbrev pub Ended : Said → Type 0
   Ended said = Played follow_turn following_ending (λ text. ⊥) (λ outcome. ⊥) (begun cap names m) 0 (heard_lines true live) said
 
   -- how the session over these bytes ends
-  session_ended : Ended (play follow_turn following_ending (begun cap names m) 0 (heard_lines true live))
+  pub session_ended : Ended (play follow_turn following_ending (begun cap names m) 0 (heard_lines true live))
   session_ended = played follow_turn following_ending (λ text. ⊥) (λ outcome. ⊥) (λ s text. heard_is (hear s (follow_read text))) (begun cap names m) 0 (heard_lines true live)
 
   -- in a state that its lines lead to
-  reached_ends : (reached : Following) → state_after follow_turn (begun cap names m) 0 (heard_lines true live) ≡ Some reached → EndsIn (following_ending reached).outcome reached
+  pub reached_ends : (reached : Following) → state_after follow_turn (begun cap names m) 0 (heard_lines true live) ≡ Some reached → EndsIn (following_ending reached).outcome reached
   reached_ends reached leads = ends_in reached (lines_sound canonical (begun cap names m) reached 0 (heard_lines true live) (begun_sound cap names m of.labelled of.plain.good.few_constraints of.plain.named) leads)
 
   module _ (told : Option (List ℕ)) (all : IsAllOf told live) where
@@ -100,40 +94,6 @@ module _ (cap : ℕ) (names : List (List ℕ)) (m : Labelled) (of : IsOfLabelled
         by_played end (one_last never) = absurd never
         by_played end (one_stops at stops) = subst (λ (o : Outcome). FollowTells told cap o names m) (sym at) tt
 
-  -- the status by which it ends there
-  ends_by : (status : Status) (o : Outcome) (s : Following) → status ≡ status_of o → EndsIn o s
-      → ((status ≡ IsUnfinished) × (is_any_open s ≡ true)) ⊎ ((is_any_open s ≡ false) × IsVerdictOn status s)
-  ends_by status o s is (inl end) = inl (is ∙ ap status_of end.0, end.1)
-  ends_by status o s is (inr end) = inr (end.0, by_verdict end.1.0 (is ∙ ap status_of end.1.1) end.1.2)
-    where
-      by_verdict : (v : Verdict) → status ≡ status_of (outcome_by v) → IsTrueOf s v → IsVerdictOn status s
-      by_verdict (Yes load) at true_of = inl (at, true_of)
-      by_verdict (No load) at true_of = inr (inl (at, true_of))
-      by_verdict IsFullVerdict at true_of = inr (inr (at, true_of))
-
-  follow_ends : (said : Said) → IsOutput (followed cap names m) live said → FollowEnds cap (status_of said.outcome) names m (heard_lines true live)
-  follow_ends said output = by_played session_ended
-    where
-      by_played : Ended (play follow_turn following_ending (begun cap names m) 0 (heard_lines true live)) → FollowEnds cap (status_of said.outcome) names m (heard_lines true live)
-      by_played (all_answered reached leads same) =
-          inl (
-            reached,
-            leads,
-            ends_by (status_of said.outcome) (following_ending reached).outcome reached
-                (ap (λ (s : Said). status_of s.outcome) (output ∙ ap (after_text (follow_opening (begun cap names m))) same)) (reached_ends reached leads),
-          )
-      by_played (one_last never) = absurd never
-      by_played (one_stops at stops) =
-          inr (ap status_of (ap (λ (s : Said). s.outcome) output ∙ at), stops_at follow_turn (begun cap names m) (λ text. ⊥) (heard_lines true live) _ stops)
-
-  wrote_following : (told old new : Option (List ℕ)) (said : Said) → IsAllOf told live → new ≡ with_bytes old said.text → IsOutput (followed cap names m) live said → WroteFollowing cap told old new (status_of said.outcome) names m
-  wrote_following told old new said all wrote output = record {
-    live = live;
-    all = all;
-    wrote = wrote ∙ ap (λ (s : Said). with_bytes old s.text) output;
-    ends = follow_ends said output;
-  }
-
 follow_right : (told : Option (List ℕ)) (asked : Asked) (cap : ℕ) (contents : List (List ℕ)) (o : Outcome) → HasLabelled (get_or contents 0 []) asked.deadline (FollowTells told cap o) → IsRight told o (follow asked cap) contents
 follow_right told asked cap contents Good has = has
 follow_right told asked cap contents Bad has = has
@@ -144,32 +104,15 @@ follow_right told asked cap contents Unfinished has = tt
 follow_right told asked cap contents Script has = tt
 follow_right told asked cap contents Wide has = none_labelled (get_or contents 0 []) asked.deadline has
 
--- how an output ends
-follow_ended : (told old new : Option (List ℕ)) (asked : Asked) (cap : ℕ) (contents : List (List ℕ)) (live : List ℕ) (said : Said) → IsAllOf told live → new ≡ with_bytes old said.text → IsOutput (plan_at (follow asked cap) contents) live said → IsEnded (status_of said.outcome) told old new (follow asked cap) contents
-follow_ended told old new asked cap contents live said all wrote output = by_said (labelled_says (followed cap) (get_or contents 0 []) asked.deadline live said output)
-  where
-    by_said : ((said.outcome ≡ Document) × IsNoDocument (get_or contents 0 []) asked.deadline) ⊎ HasLabelled (get_or contents 0 []) asked.deadline (λ names m. IsOutput (followed cap names m) live said) → IsEnded (status_of said.outcome) told old new (follow asked cap) contents
-    by_said (inl is) = inl (ap status_of is.0, is.1)
-    by_said (inr has) =
-        inr (labelled_then (get_or contents 0 []) asked.deadline (λ names m. IsOutput (followed cap names m) live said) (λ names m. WroteFollowing cap told old new (status_of said.outcome) names m) has
-        (λ names m of out. wrote_following cap names m of live told old new said all wrote out))
-
 follow_talks : (asked : Asked) (cap : ℕ) (contents : List (List ℕ)) → MayTalk (plan_at (follow asked cap) contents) → ReadsLive (follow asked cap) contents
 follow_talks asked cap contents may = talks_labelled (followed cap) (get_or contents 0 []) asked.deadline (λ names m. Unit {0}) (λ names m of is. tt) may
 
-pub follow_proved : (asked : Asked) (cap : ℕ) → IsProved (follow asked cap)
-follow_proved asked cap = record {
+pub follow_handled : (asked : Asked) (cap : ℕ) → IsHandled (follow asked cap)
+follow_handled asked cap = record {
   right = λ told contents live said all output.
       on_labels (followed cap) (get_or contents 0 []) asked.deadline live said (FollowTells told cap said.outcome) (IsRight told said.outcome (follow asked cap) contents)
       (λ is refused. subst (λ (o : Outcome). IsRight told o (follow asked cap) contents) (sym is) tt) (λ names m of is. follow_tells cap names m of live told all said is) (follow_right told asked cap contents said.outcome) output;
-  complete = λ contents live said output. tt;
-  evidence = λ yes_text no_text contents live said capped output. no_evidence (follow asked cap) contents said.text tt tt said.outcome;
   talks = follow_talks asked cap;
   wants = λ contents wants may. follow_talks asked cap contents may;
   refused = λ told question prepared asks comes fits. tt;
-  least = λ contents. tt;
-  ended = λ told old new contents live said all wrote output. follow_ended told old new asked cap contents live said all wrote output;
-  carried_out = λ told old new contents ended. tt;
-  unfinished = λ told old new contents ended. tt;
-  some = λ laws contents live ranged held. document_some laws.made (followed cap) (get_or contents 0 []) asked.deadline live held (λ parts is fit none. none _ refl);
 }

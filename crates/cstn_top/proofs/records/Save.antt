@@ -10,8 +10,7 @@ use Rattle.cstn_request.specs.Documents.{parts_of, HasLabelled}
 use Rattle.cstn_reply.specs.declared.output.Outcome.{Outcome}
 use Rattle.cstn_reply.specs.declared.output.Outcome.TheVariants.{Good}
 use Rattle.cstn_top.proofs.Labels.{on_labels, labels_silent}
-use Rattle.cstn_top.proofs.Proved.{IsRight, IsProved, no_evidence}
-use Rattle.cstn_top.proofs.SomeOutput.{said_some, document_some}
+use Rattle.cstn_top.proofs.Handled.{IsRight, IsHandled}
 
 save_right : (live : Option (List ℕ)) (asked : Asked) (contents : List (List ℕ)) (o : Outcome) → HasLabelled (get_or contents 0 []) asked.deadline (λ names m. o ≡ Good) → IsRight live o (save asked) contents
 save_right live asked contents o has = by_found (parts_of (document (get_or contents 0 []) asked.deadline)) has refl
@@ -22,20 +21,12 @@ save_right live asked contents o has = by_found (parts_of (document (get_or cont
         subst (λ (x : Outcome). IsRight live x (save asked) contents) (sym h.1)
         (subst (λ (f : Option Parts). IsSomeAnd f (λ parts. IsFit parts × Unit {0})) (sym is) (h.0, tt))
 
-pub save_proved : (asked : Asked) → IsProved (save asked)
-save_proved asked = record {
+pub save_handled : (asked : Asked) → IsHandled (save asked)
+save_handled asked = record {
   right = λ told contents live said all output.
       on_labels saved (get_or contents 0 []) asked.deadline live said (λ names m. said.outcome ≡ Good) (IsRight told said.outcome (save asked) contents)
       (λ is refused. subst (λ (o : Outcome). IsRight told o (save asked) contents) (sym is) tt) (λ names m of is. ap (λ (s : Said). s.outcome) is) (save_right told asked contents said.outcome) output;
-  complete = λ contents live said output. tt;
-  evidence = λ yes_text no_text contents live said capped output. no_evidence (save asked) contents said.text tt tt said.outcome;
   talks = λ contents may. labels_silent saved (get_or contents 0 []) asked.deadline (λ names m is. is) may;
   wants = λ contents wants may. absurd wants;
   refused = λ told question prepared asks comes fits. tt;
-  least = λ contents. tt;
-  ended = λ told old new contents live said all wrote output. tt;
-  carried_out = λ told old new contents ended. tt;
-  unfinished = λ told old new contents ended. tt;
-  some = λ laws contents live ranged held.
-      document_some laws.made saved (get_or contents 0 []) asked.deadline live held (λ parts is fit. said_some _ live);
 }

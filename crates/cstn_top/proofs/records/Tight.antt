@@ -7,26 +7,20 @@ use Rattle.cstn_reply.specs.Texts.{Said}
 use Rattle.cstn_top.specs.Plans.{IsOutput}
 use Rattle.cstn_top.specs.Answers.{of_lowered}
 use Rattle.cstn_top.specs.Verdicts.{IsRefutedByLog}
-use Rattle.cstn_top.specs.commands.Tight.{IsTight, tightened, IsTightText}
+use Rattle.cstn_top.specs.commands.Tight.{IsTight, tightened}
 use Rattle.cstn_lift.specs.Labelled.{Labelled}
 use Rattle.cstn_lift.specs.Lowered.{lowered}
 use Rattle.cstn_lift.specs.Strategies.{IsEquivalent, IsLabelledConsistent}
 use Rattle.cstn_request.specs.Documents.{HasLabelled}
 use Rattle.cstn_top.proofs.EvidenceLemmas.{refuted_well, tight_well}
-use Rattle.cstn_reply.specs.Statuses.{status_of}
 use Rattle.cstn_reply.specs.declared.output.Outcome.{Outcome}
 use Rattle.cstn_reply.specs.declared.output.Outcome.TheVariants.{Good, Bad, Words, Document, Full, Unfinished, Script, Wide}
 use Rattle.cstn_top.proofs.Labels.{IsOfLabelled, none_labelled, on_labels, labels_silent}
 use Rattle.cstn_check.specs.Growth.{load_of}
 use Rattle.cstn_tight.specs.Deadlines.{least_deadline}
 use Rattle.cstn_tight.specs.Texts.{tight_text}
-use Rattle.cstn_top.specs.Accepted.{IsNoText}
-use Rattle.cstn_top.proofs.Standing.{Stands, StandsFor, verdict_stands, tight_stands}
-use Rattle.cstn_top.proofs.Dispatched.{IsEvidence}
-use Rattle.cstn_graphml.specs.Networks.{labelled_of}
-use Rattle.cstn_top.proofs.Proved.{IsRight, IsProved}
+use Rattle.cstn_top.proofs.Handled.{IsRight, IsHandled}
 use Rattle.cstn_top.proofs.Meanings.{Verdicts, verdict_says, verdict_silent}
-use Rattle.cstn_top.proofs.SomeOutput.{checked_some, document_some}
 
 -- what the outcome of `tight` tells
 abbrev Tightens : ℕ → Labelled → Outcome → Type 0
@@ -64,38 +58,14 @@ tight_tells cap live said names m of is =
     tightens cap m said.outcome of.plain.good of.same
     (verdict_says cap names (lowered m) (tight_text names (lowered m) (least_deadline (lowered m))) live said of.plain.good is)
 
-tight_shown : (asked : Asked) (cap : ℕ) (contents : List (List ℕ)) (o : Outcome) (text : List ℕ) → HasLabelled (get_or contents 0 []) asked.deadline (λ names m. Stands o (IsTightText names (lowered m) text) (IsNoText names (lowered m) text)) → IsEvidence (tight asked cap) (status_of o) text contents
-tight_shown asked cap contents Good text has = has
-tight_shown asked cap contents Bad text has = has
-tight_shown asked cap contents Words text has = tt
-tight_shown asked cap contents Document text has = tt
-tight_shown asked cap contents Full text has = tt
-tight_shown asked cap contents Unfinished text has = tt
-tight_shown asked cap contents Script text has = tt
-tight_shown asked cap contents Wide text has = tt
-
-pub tight_proved : (asked : Asked) (cap : ℕ) → IsProved (tight asked cap)
-tight_proved asked cap = record {
+pub tight_handled : (asked : Asked) (cap : ℕ) → IsHandled (tight asked cap)
+tight_handled asked cap = record {
   right = λ told contents live said all output.
       on_labels (of_lowered (tightened cap)) (get_or contents 0 []) asked.deadline live said (λ names m. Tightens cap m said.outcome) (IsRight told said.outcome (tight asked cap) contents)
       (λ is refused. subst (λ (o : Outcome). IsRight told o (tight asked cap) contents) (sym is) tt) (tight_tells cap live said) (tight_right told asked cap contents said.outcome) output;
-  complete = λ contents live said output. tt;
-  evidence = λ yes_text no_text contents live said capped output.
-      on_labels (of_lowered (tightened cap)) (get_or contents 0 []) asked.deadline live said (λ names m. StandsFor (IsTightText names (lowered m)) (IsNoText names (lowered m)) said) (IsEvidence (tight asked cap) (status_of said.outcome) said.text contents)
-      (λ is refused. subst (λ (o : Outcome). IsEvidence (tight asked cap) (status_of o) said.text contents) (sym is) tt)
-      (λ names m of out. verdict_stands yes_text no_text cap names (lowered m) (tight_text names (lowered m) (least_deadline (lowered m))) live said (IsTightText names (lowered m)) of.plain capped
-      (tight_stands yes_text no_text cap names (lowered m) of.plain capped) out)
-      (tight_shown asked cap contents said.outcome said.text) output;
   talks = λ contents may.
       labels_silent (of_lowered (tightened cap)) (get_or contents 0 []) asked.deadline
       (λ names m. verdict_silent cap names (lowered m) (tight_text names (lowered m) (least_deadline (lowered m)))) may;
   wants = λ contents wants may. absurd wants;
   refused = λ told question prepared asks comes fits. tt;
-  least = λ contents. tt;
-  ended = λ told old new contents live said all wrote output. tt;
-  carried_out = λ told old new contents ended. tt;
-  unfinished = λ told old new contents ended. tt;
-  some = λ laws contents live ranged held.
-      document_some laws.made (of_lowered (tightened cap)) (get_or contents 0 []) asked.deadline live held
-      (λ parts is fit. checked_some cap parts.names (lowered (labelled_of parts)) _ live);
 }

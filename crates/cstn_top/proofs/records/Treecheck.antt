@@ -10,9 +10,8 @@ use Rattle.cstn_reply.specs.declared.output.Outcome.{Outcome}
 use Rattle.cstn_reply.specs.declared.output.Outcome.TheVariants.{Good, Bad, Words, Document, Full, Unfinished, Script, Wide}
 use Rattle.cstn_tree.specs.Texts.{told as told_tree}
 use Rattle.cstn_top.proofs.Trees.{ChecksTree, tree_tells, lines_silent}
-use Rattle.cstn_top.proofs.Proved.{IsRight, IsProved, no_evidence}
+use Rattle.cstn_top.proofs.Handled.{IsRight, IsHandled}
 use Rattle.cstn_top.proofs.Meanings.{on_network, none_such, never_talks, text_silent}
-use Rattle.cstn_top.proofs.SomeOutput.{text_some, lines_some, plain_some}
 
 treecheck_right : (live : Option (List ℕ)) (asked : Asked) (proof : List ℕ) (contents : List (List ℕ)) (o : Outcome) → HasNetwork (get_or contents 0 []) asked.deadline (λ names net. ChecksTree (told_tree names (get_or contents 1 [])) net o) → IsRight live o (treecheck asked proof) contents
 treecheck_right live asked proof contents Good has = has
@@ -24,22 +23,13 @@ treecheck_right live asked proof contents Unfinished has = tt
 treecheck_right live asked proof contents Script has = tt
 treecheck_right live asked proof contents Wide has = none_such (parts_of (document (get_or contents 0 []) asked.deadline)) has
 
-pub treecheck_proved : (asked : Asked) (proof : List ℕ) → IsProved (treecheck asked proof)
-treecheck_proved asked proof = record {
+pub treecheck_handled : (asked : Asked) (proof : List ℕ) → IsHandled (treecheck asked proof)
+treecheck_handled asked proof = record {
   right = λ told contents live said all output.
       on_network (by_text tree_checked (get_or contents 1 [])) (get_or contents 0 []) asked.deadline live said (λ o names net. ChecksTree (told_tree names (get_or contents 1 [])) net o) (λ o. IsRight told o (treecheck asked proof) contents) (λ refused. tt)
       (λ names net good named is. tree_tells (get_or contents 1 []) names net live said good is) (treecheck_right told asked proof contents) output;
-  complete = λ contents live said output. tt;
-  evidence = λ yes_text no_text contents live said capped output. no_evidence (treecheck asked proof) contents said.text tt tt said.outcome;
   talks = λ contents may.
       never_talks (by_text tree_checked (get_or contents 1 [])) (get_or contents 0 []) asked.deadline (λ names net. text_silent tree_checked (get_or contents 1 []) names net (lines_silent (told_tree names (get_or contents 1 [])) net)) may;
   wants = λ contents wants may. absurd wants;
   refused = λ told question prepared asks comes fits. tt;
-  least = λ contents. tt;
-  ended = λ told old new contents live said all wrote output. tt;
-  carried_out = λ told old new contents ended. tt;
-  unfinished = λ told old new contents ended. tt;
-  some = λ laws contents live ranged held.
-      plain_some laws.made (by_text tree_checked (get_or contents 1 [])) (get_or contents 0 []) asked.deadline live held
-      (λ names net of. text_some tree_checked (get_or contents 1 []) names net live (lines_some (told_tree names (get_or contents 1 [])) net live));
 }

@@ -4,7 +4,6 @@ use Rattle.std.specs.Prelude.{Option}
 use Rattle.cstn_request.specs.Requests.{version}
 use Rattle.cstn_request.specs.declared.words.Release.{Release}
 use Rattle.cstn_reply.specs.Texts.{Said}
-use Rattle.cstn_reply.specs.Statuses.{status_of}
 use Rattle.cstn_reply.specs.declared.output.Outcome.{Outcome}
 use Rattle.cstn_request.proofs.Contents.{none_there}
 use Rattle.cstn_top.specs.Plans.{says}
@@ -12,25 +11,17 @@ use Rattle.cstn_top.specs.Questions.{Asks}
 use Rattle.cstn_top.specs.commands.Version.{versioned}
 use Rattle.cstn_top.specs.declared.commands.questions.Question.TheVariants.{Version}
 use Rattle.cstn_top.proofs.Comes.{comes_itself}
-use Rattle.cstn_top.proofs.Proved.{IsRight, IsProved, no_evidence}
-use Rattle.cstn_top.proofs.SomeOutput.{said_some}
+use Rattle.cstn_top.proofs.Handled.{IsRight, IsHandled}
 
 -- what `--version` asks: no file is read for it
 pub version_asked : (release : Release) (told : Option (List ℕ → Option (List ℕ))) → Asks (version release) told (Version release)
 version_asked release told = record { contents = []; are = λ files e. refl; comes = comes_itself (says (versioned release)); there = none_there told }
 
-pub version_proved : (release : Release) → IsProved (version release)
-version_proved release = record {
+pub version_handled : (release : Release) → IsHandled (version release)
+version_handled release = record {
   right = λ told contents live said all output.
       subst (λ (o : Outcome). IsRight told o (version release) contents) (sym (ap (λ (s : Said). s.outcome) output)) tt;
-  complete = λ contents live said output. ap (λ (s : Said). status_of s.outcome) output;
-  evidence = λ yes_text no_text contents live said capped output. no_evidence (version release) contents said.text tt tt said.outcome;
   talks = λ contents may. may;
   wants = λ contents wants may. absurd wants;
   refused = λ told question prepared asks comes fits. tt;
-  least = λ contents. tt;
-  ended = λ told old new contents live said all wrote output. tt;
-  carried_out = λ told old new contents ended. tt;
-  unfinished = λ told old new contents ended. tt;
-  some = λ laws contents live ranged held. said_some _ live;
 }

@@ -1,0 +1,241 @@
+"""A night on the ward: the clinical pathway on the board, with a late result and a late antibiotic."""
+import os
+import re
+import subprocess
+
+from browsers import OFFLINE, TOP, Browser, Served, program, until
+from looks import look
+
+PATHWAY = os.path.join(TOP, "examples", "clinical-pathway.graphml")
+
+
+def step(page, name):
+    """The place of a step in the document."""
+    return next(it["index"] for it in page["steps"] if it["shown"] == name)
+
+
+def did(browser, page, name):
+    """Presses "Done now" of a step, wherever it stands, and waits until it is told."""
+    row = f"[data-step='{step(page, name)}']"
+    browser.click(f"{name} is done", f"{row} [data-act='did']")
+    browser.gone(f"{name} is told", row)
+
+
+def it_is(browser, moment):
+    """Says by hand how late it is."""
+    browser.type("#hand input", moment)
+    browser.click("it is later", "#hand [data-key='hand-set']")
+    browser.says("the clock", "#top .time", moment)
+
+
+def dialog(browser, row, moment, kind=None):
+    """Opens the dialog of a row, and writes a moment."""
+    browser.click("the dialog", f"{row} [data-act='ask']")
+    browser.wait("the dialog", "dialog[open] #ask-at")
+    if kind:
+        browser.choose("#ask-kind", kind)
+    browser.type("#ask-at", moment)
+
+
+def tell(browser):
+    browser.click("it is told", "#ask-tell")
+    browser.gone("the dialog", "dialog[open]")
+
+
+def try_it(browser, wanted):
+    browser.click("what if", "#ask-try")
+    browser.wait("what would follow", f"dialog [data-outcome='{wanted}']")
+    return browser.text("dialog .outcome")
+
+
+def verdict(browser, wanted):
+    browser.wait(f"the verdict {wanted}", f"#verdict[data-verdict='{wanted}']")
+
+
+def pathway(tally, browser):
+    """A late result, asked about before it is told, a restart in the middle, and a late antibiotic."""
+    with Served([PATHWAY]) as board:
+        browser.open(board.url)
+        browser.says("the list", "[data-plan]", "Sample")
+        look(tally, browser, "list")
+        browser.click("the plan", "[data-plan] button")
+        verdict(browser, "yes")
+        page = board.page("clinical-pathway")
+        it_is(browser, "5")
+        did(browser, page, "Sample")
+        browser.says("what is next", "#next", "Next at 65")
+        late_result(tally, board, browser)
+        tally.check("the console before the restart", browser.console(), [])
+        restart(tally, board, browser)
+        late_antibiotic(tally, board, browser, page)
+        tally.check("the console", browser.console(OFFLINE), [])
+        journal(tally, board)
+
+
+def late_result(tally, board, browser):
+    it_is(browser, "65")
+    dialog(browser, "[data-letter='i']", "120", "late")
+    words = try_it(browser, "no")
+    tally.check("what a result at 120 would break", "Antibiotic at most 90 ticks after Sample" in words)
+    tally.check("nothing was told by asking", board.page("clinical-pathway")["verdict"], "yes")
+    browser.picture("what-if")
+    browser.type("#ask-at", "90")
+    tally.check("what a result at 90 would mean", "Next at 90: i" in try_it(browser, "yes"))
+    tell(browser)
+    browser.says("what is next", "#next", "Next at 90")
+    look(tally, browser, "late-result")
+    dialog(browser, "[data-letter='i']", "80", "true")
+    tell(browser)
+    browser.says("the result", "#history", "i is true")
+
+
+def restart(tally, board, browser):
+    """The board is killed and started again: the page says so meanwhile, and nothing that was answered is lost."""
+    before = board.page("clinical-pathway")
+    board.kill()
+    browser.says("the page without a board", "#main", "No connection")
+    browser.picture("no-connection")
+    board.start()
+    browser.gone("the page with a board", ".offline")
+    after = board.page("clinical-pathway")
+    for each in (before, after):
+        each["clock"].pop("server")
+    tally.check("the plan after the restart", after, before)
+
+
+def late_antibiotic(tally, board, browser, page):
+    it_is(browser, "91")
+    browser.says("what is late", "#next", "late by")
+    it_is(browser, "112")
+    verdict(browser, "no")
+    did(browser, page, "Antibiotic")
+    browser.says("what is to blame", "#no", "Antibiotic at most 90 ticks after Sample")
+    browser.says("how far it has to give way", "#no", "107")
+    look(tally, browser, "late-antibiotic")
+    browser.click("the limit gives way", "[data-act='give']")
+    verdict(browser, "yes")
+    tally.check("the limit", [it["value"] for it in board.page("clinical-pathway")["limits"] if it["state"]], [107])
+    browser.says("what is next", "#next", "Next at 232")
+    it_is(browser, "235")
+    did(browser, page, "Review")
+    correct(tally, board, browser)
+    it_is(browser, "250")
+    did(browser, page, "Discharge")
+    browser.says("the end", "#verdict", "All is done")
+    browser.picture("done")
+
+
+def correct(tally, board, browser):
+    """The review was at 233 in fact; and a slip is left out again."""
+    browser.click("a correction", "[data-line] [data-act='correct']")
+    browser.type("#ask-at", "233")
+    tell(browser)
+    until("the correction", lambda: 233 in [it["at"] for it in board.page("clinical-pathway")["steps"]])
+    browser.says("the correction", "#history", "233")
+    page = board.page("clinical-pathway")
+    browser.click("a slip", f"[data-step='{step(page, 'Discharge')}'] [data-act='did']")
+    verdict(browser, "no")
+    browser.click("a correction", "[data-line] [data-act='correct']")
+    browser.click("it did not happen", "#ask-leave")
+    browser.wait("the step is left again", f"[data-step='{step(page, 'Discharge')}']")
+    verdicts = [it["verdict"] for it in board.page("clinical-pathway")["history"]]
+    tally.check("the edits among what was told", verdicts.count(None), 1)
+
+
+def journal(tally, board):
+    """The journal's file is what `follow` takes, to the end."""
+    status, lines, headers = board.ask(f"api/plans/{board.plans()['clinical-pathway']}/journal")
+    tally.check("the journal's file", (status, "attachment" in headers["Content-Disposition"]), (200, True))
+    tally.check("what follow says of it", followed(PATHWAY, lines), (0, False, True))
+
+
+def followed(document, lines):
+    """How `follow` ends with a journal: its status, whether it refused a line, and whether nothing is left."""
+    told = subprocess.run([program(), "follow", document], input=lines.encode(), capture_output=True, timeout=60,
+                          check=False)
+    return told.returncode, b"refused" in told.stdout, told.stdout.endswith(b"done\n")
+
+
+def two(tally, one):
+    """Two browsers see the same, and one fact that both tell counts once."""
+    with Served([PATHWAY]) as board, Browser(one.pictures) as other:
+        for browser in (one, other):
+            browser.open(board.url)
+            browser.click("the plan", "[data-plan] button")
+            verdict(browser, "yes")
+        it_is(one, "5")
+        other.says("the other clock", "#top .time", "5")
+        page = board.page("clinical-pathway")
+        button = f"[data-step='{step(page, 'Sample')}'] [data-act='did']"
+        script = "document.querySelector(arguments[0]).click()"
+        one.run(script, button)
+        other.run(script, button)
+        for browser in (one, other):
+            browser.says("what both see", "#history", "Sample done")
+        taken = [it["event"] for it in board.page("clinical-pathway")["history"] if it["standing"] == "taken"]
+        tally.check("a fact that both tell", [it["kind"] for it in taken if it].count("did"), 1)
+        stale = {"of": "x", "version": 1, "instead": None}
+        status, answer, _ = board.ask(f"api/plans/{page['id']}/correct", stale, board.own)
+        tally.check("a correction of what was seen before", (status, "Another browser" in answer), (409, True))
+        for browser in (one, other):
+            tally.check("the console of two", browser.console(), [])
+
+
+def keyboard(tally, browser):
+    """The whole way by keys alone: to the plan, a step, a dialog and back."""
+    from selenium.webdriver.common.keys import Keys
+    with Served([PATHWAY]) as board:
+        browser.open(board.url)
+        browser.says("the list", "[data-plan]", "Sample")
+        press(browser, Keys, "Open clinical-pathway")
+        verdict(browser, "yes")
+        reach(browser, Keys, "Sample done now")
+        outline = browser.run("return getComputedStyle(document.activeElement).outlineStyle")
+        tally.check("what has the focus is marked", outline, "solid")
+        browser.picture("focus")
+        browser.keys(Keys.ENTER)
+        browser.says("the step is told", "#history", "Sample done")
+        press(browser, Keys, "Result i is late, or came at another time")
+        browser.wait("the dialog", "dialog[open]")
+        browser.keys(Keys.ESCAPE)
+        browser.gone("the dialog", "dialog[open]")
+        tally.check("the focus after the dialog", focus(browser), "Result i is late, or came at another time")
+        press(browser, Keys, "It is now", "70", Keys.ENTER)
+        browser.says("the clock", "#top .time", "70")
+        press(browser, Keys, "i is false")
+        browser.says("the result is told", "#history", "i is false")
+        tally.check("the console by keys", browser.console(), [])
+
+
+def focus(browser):
+    return browser.run("const it = document.activeElement; return it.ariaLabel || it.innerText || it.tagName")
+
+
+def reach(browser, keys, label):
+    """Goes on with the tabulator until what has the focus is called so."""
+    for _ in range(60):
+        if focus(browser) == label:
+            return
+        browser.keys(keys.TAB)
+    raise TimeoutError(f"{label} cannot be reached by keys")
+
+
+def press(browser, keys, label, *then):
+    reach(browser, keys, label)
+    browser.keys(*(then or (keys.ENTER,)))
+
+
+def clock(tally, browser):
+    """Ticks that pass by themselves: a plan that is begun, is due, and is late."""
+    with Served([PATHWAY], "--tick", "1") as board:
+        browser.open(board.url)
+        browser.says("the list", "[data-plan]", "Not begun")
+        browser.click("the plan", "[data-plan] button")
+        browser.click("it begins", "[data-act='begin']")
+        verdict(browser, "yes")
+        browser.says("the sample is late", "#next", "late by 2 s")
+        tally.check("the clock", bool(re.fullmatch(r"\d\d:\d\d:\d\d", browser.text("#top .time"))))
+        did(browser, board.page("clinical-pathway"), "Sample")
+        kinds = [it["event"]["kind"] for it in board.page("clinical-pathway")["history"]]
+        tally.check("no time is told by itself", kinds, ["did"])
+        tally.check("the console of the clock", browser.console(), [])

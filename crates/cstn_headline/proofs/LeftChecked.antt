@@ -1,0 +1,96 @@
+-- A check of the document of what is left tells whether what has happened can go on.
+use Rattle.std.proofs.Common.{ℕ, ◌≡◌, ◌≤◌, List, [], ◌∷◌, length, Option, None, Some, sym, subst, ap}
+use Rattle.std.specs.Prelude.{Result, IsSomeAnd, codes}
+use Rattle.cstn_net.specs.Limits.{most_constraints}
+use Rattle.cstn_net.specs.Strategies.{IsConsistent}
+use Rattle.cstn_lift.specs.Labelled.{Labelled}
+use Rattle.cstn_lift.specs.Lowered.{lowered}
+use Rattle.cstn_lift.specs.WellFormed.{IsLabelled}
+use Rattle.cstn_lift.specs.Strategies.{IsLabelledConsistent}
+use Rattle.cstn_lift.proofs.Equivalent.{equivalent}
+use Rattle.cstn_element.specs.Results.{Refusal as DocumentRefusal}
+use Rattle.cstn_graphml.specs.Document.{Parts}
+use Rattle.cstn_graphml.specs.Networks.{labelled_of, IsFit}
+use Rattle.cstn_save.specs.Canonical.{canonical}
+use Rattle.cstn_save.specs.Names.{AreNamesOf}
+use Rattle.cstn_history.specs.Continuations.{Can}
+use Rattle.cstn_history.proofs.Decides.{can_both}
+use Rattle.cstn_request.specs.Requests.{Asked, check}
+use Rattle.cstn_reply.specs.Texts.{Said}
+use Rattle.cstn_reply.specs.Sessions.{more}
+use Rattle.cstn_reply.specs.Reached.{state_after}
+use Rattle.cstn_reply.specs.declared.output.Outcome.{Outcome}
+use Rattle.cstn_reply.specs.declared.output.Outcome.TheVariants.{Good, Bad}
+use Rattle.cstn_request.specs.Documents.{parts_of, HasLabelled}
+use Rattle.cstn_follow.specs.Following.{Following, begun, left_now, names_left, verdict_now}
+use Rattle.cstn_follow.proofs.GoesOn.{left_labelled}
+use Rattle.cstn_follow.proofs.Points.{lines_keep}
+use Rattle.cstn_follow.proofs.States.{IsSound, begun_sound, lines_sound}
+use Rattle.cstn_top.specs.Dispatch.{plan_at}
+use Rattle.cstn_top.specs.Plans.{IsOutput}
+use Rattle.cstn_top.specs.Verdicts.{IsLabelledYes, IsLabelledNo}
+use Rattle.cstn_top.specs.commands.Follow.{follow_turn}
+use Rattle.cstn_headline.proofs.LeftDocuments.{renumbered, read_back, lowered_same, left_unseen, names_of_left}
+use Rattle.cstn_headline.proofs.LeftReplayed.{AreUnseen, DocumentsBack, text_of, named_still, unseen_still}
+use Rattle.cstn_top.proofs.Handled.{IsRight}
+use Rattle.cstn_top.proofs.records.Check.{check_handled}
+
+module _ (backs : DocumentsBack) where
+  -- what holds of the document of a labelled network holds of it under other ids
+  module _ (m : Labelled) (names : List (List ℕ)) (good : IsLabelled m) (named : AreNamesOf m.base names) (unseen : AreUnseen m.base) where
+    of_document : (holds : Labelled → Type 0) (deadline : Option ℕ) → deadline ≡ None
+        → HasLabelled (canonical m names) deadline (λ ns l. holds l) → IsLabelled (renumbered m) × holds (renumbered m)
+    of_document holds deadline plain has =
+        let at = subst (λ (d : Option ℕ). HasLabelled (canonical m names) d (λ ns l. holds l)) plain has in
+        let parts_are = subst (λ (told : Result Parts DocumentRefusal). IsSomeAnd (parts_of told) (λ ps. IsFit ps × holds (labelled_of ps)))
+        (backs.back m names good named) at in
+        let back = read_back m names unseen in
+        (subst IsLabelled back parts_are.0.labelled, subst holds back parts_are.1)
+
+  consistent_back : (m : Labelled) → IsLabelled m → IsLabelled (renumbered m) → IsLabelledConsistent (renumbered m) → IsLabelledConsistent m
+  consistent_back m good also consistent =
+      (equivalent m good).consistent.1 (subst IsConsistent (lowered_same m) ((equivalent (renumbered m) also).consistent.0 consistent))
+
+  consistent_on : (m : Labelled) → IsLabelled m → IsLabelled (renumbered m) → IsLabelledConsistent m → IsLabelledConsistent (renumbered m)
+  consistent_on m good also consistent =
+      (equivalent (renumbered m) also).consistent.1 (subst IsConsistent (sym (lowered_same m)) ((equivalent m good).consistent.0 consistent))
+
+  module _ (cap : ℕ) (names : List (List ℕ)) (m : Labelled) (lines : List (List ℕ)) (s u : Following) (bytes live : List ℕ) (asked : Asked) (checks : ℕ)
+      (said : Said) (good : IsLabelled m) (few : length (lowered m).constraints ≤ most_constraints) (named : AreNamesOf m.base names) (unseen : AreUnseen m.base)
+      (leads : state_after follow_turn (begun cap names m) 0 lines ≡ Some s) (left_is : follow_turn s (codes "rest") ≡ more bytes u)
+      (plain : asked.deadline ≡ None) (output : IsOutput (plan_at (check asked checks) (bytes ∷ [])) live said) where
+    sound : IsSound s
+    sound = lines_sound canonical (begun cap names m) s 0 lines (begun_sound cap names m good few named.each) leads
+
+    left_good : IsLabelled (left_now s)
+    left_good = left_labelled s.network s.history s.fresh s.cap (verdict_now s) sound.verdict sound.labelled sound.timely sound.above
+
+    bytes_are : canonical (left_now s) (names_left s) ≡ bytes
+    bytes_are = ap text_of left_is
+
+    -- what a check of the document says of what is left
+    on_left : (holds : Labelled → Type 0) → HasLabelled bytes asked.deadline (λ ns l. holds l)
+        → IsLabelled (renumbered (left_now s)) × holds (renumbered (left_now s))
+    on_left holds has =
+        let keeps = lines_keep canonical (begun cap names m) s 0 lines (begun_sound cap names m good few named.each) leads in
+        let still = named_still (begun cap names m) s keeps named in
+        let hidden = unseen_still (begun cap names m) s keeps unseen in
+        of_document (left_now s) (names_left s) left_good
+        (names_of_left s.network s.history s.fresh s.names still sound.labelled.base.network.origin)
+        (left_unseen s.network s.history s.fresh sound.labelled sound.timely.history hidden) holds asked.deadline plain
+        (subst (λ (b : List ℕ). HasLabelled b asked.deadline (λ ns l. holds l)) (sym bytes_are) has)
+
+    right : (o : Outcome) → said.outcome ≡ o → IsRight None o (check asked checks) (bytes ∷ [])
+    right o is = subst (λ (x : Outcome). IsRight None x (check asked checks) (bytes ∷ [])) is
+        ((check_handled asked checks).right None (bytes ∷ []) live said (λ xs told. absurd (cc)) output)
+
+    pub checked_yes : said.outcome ≡ Good → Can s.network s.history
+    checked_yes is =
+        let both = on_left (IsLabelledYes checks) (right Good is) in
+        (can_both s.network s.history s.fresh sound.labelled sound.timely.history).1 (consistent_back (left_now s) left_good both.0 both.1.0)
+
+    pub checked_no : said.outcome ≡ Bad → Can s.network s.history → ⊥
+    checked_no is can =
+        let both = on_left (IsLabelledNo checks) (right Bad is) in
+        both.1.0 (consistent_on (left_now s) left_good both.0
+        ((can_both s.network s.history s.fresh sound.labelled sound.timely.history).0 can))

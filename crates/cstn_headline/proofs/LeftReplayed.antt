@@ -1,0 +1,139 @@
+-- The refutation of what is left is accepted by a replay on the document of what is left.
+use Rattle.std.proofs.Common.{ℕ, ◌≡◌, ◌+◌, ◌<◌, ◌≤◌, ◌^◌, Bool, true, false, List, [], ◌∷◌, ◌++◌, length, Option, None, Some, arith, sym, subst, ap, ◌∙◌}
+use Rattle.std.specs.Prelude.{Result, Ok, IsSomeAnd, nat_lt, slice_get, slice_index_or, if◌then◌else◌, codes}
+use Rattle.std.proofs.lemmas.List.{append_cancel_right}
+use Rattle.std.proofs.lemmas.List.Elements.{All-weaker}
+use Rattle.cstn_net.specs.Limits.{most_constraints, most_load}
+use Rattle.cstn_net.specs.Networks.{Network, Constraint, IsWellFormed, Observes}
+use Rattle.cstn_text.specs.Names.{AreNames}
+use Rattle.cstn_lift.specs.Labelled.{Labelled}
+use Rattle.cstn_lift.specs.Lowered.{lowered, full_constraints, guards}
+use Rattle.cstn_lift.specs.WellFormed.{IsLabelled}
+use Rattle.cstn_lift.proofs.WellFormed.{lowered_well_formed}
+use Rattle.cstn_element.specs.Results.{Refusal as DocumentRefusal}
+use Rattle.cstn_graphml.specs.Document.{Parts, document}
+use Rattle.cstn_graphml.specs.Networks.{labelled_of, IsFit}
+use Rattle.cstn_save.specs.Canonical.{canonical}
+use Rattle.cstn_save.specs.ReadBack.{parts}
+use Rattle.cstn_save.specs.Names.{AreNamesOf}
+use Rattle.cstn_log.specs.Cuts.{part}
+use Rattle.cstn_check.specs.Growth.{is_refuted, log_of, load_of}
+use Rattle.cstn_check.specs.Decisions.{verdict}
+use Rattle.cstn_check.specs.declared.verdicts.Verdict.{Verdict}
+use Rattle.cstn_check.specs.declared.verdicts.Verdict.TheVariants.{Yes, No, Full}
+use Rattle.cstn_check.proofs.Deciding.{Tells, verdict_tells}
+use Rattle.cstn_refute.specs.Texts.{shown}
+use Rattle.cstn_request.specs.Requests.{Asked, replay}
+use Rattle.cstn_reply.specs.Texts.{line}
+use Rattle.cstn_reply.specs.Sessions.{Turn, more, last, wrong}
+use Rattle.cstn_reply.specs.Reached.{state_after}
+use Rattle.cstn_request.specs.Limits.{most_document}
+use Rattle.cstn_request.specs.Documents.{parts_of, HasLabelled}
+use Rattle.cstn_follow.specs.Following.{Following, begun, left_now, names_left, verdict_now}
+use Rattle.cstn_follow.specs.Hearing.{counted}
+use Rattle.cstn_follow.specs.Questions.{check_after}
+use Rattle.cstn_follow.proofs.GoesOn.{left_says, left_labelled}
+use Rattle.cstn_top.specs.Accepted.{IsAccepted, IsNoText}
+use Rattle.cstn_top.specs.Answers.{of_lowered, by_text}
+use Rattle.cstn_top.specs.Dispatch.{plan_at}
+use Rattle.cstn_top.specs.commands.Replay.{replayed}
+use Rattle.cstn_top.specs.commands.Follow.{heard_turn, follow_turn}
+use Rattle.cstn_top.proofs.FollowedDocuments.{small_numbers}
+use Rattle.cstn_follow.proofs.Points.{KeepsPoints, lines_keep}
+use Rattle.cstn_follow.proofs.States.{IsSound, begun_sound, lines_sound}
+use Rattle.cstn_headline.proofs.LeftDocuments.{read_back, lowered_same, left_unseen, names_of_left}
+use Rattle.cstn_headline.proofs.OneOutput.{OneJudgement}
+use Rattle.cstn_headline.proofs.Replayed.{labelled_accepted}
+use Rattle.cstn_headline.proofs.Standing.{NoAccepted}
+
+-- what nothing observes has a reaction of 1 tick
+abbrev pub AreUnseen : Network → Type 0
+AreUnseen net = (p : ℕ) → ((x : ℕ) → Observes net x p → ⊥) → net.reaction p ≡ 1
+
+-- documents of labelled networks are read back
+pub record DocumentsBack : Type 0 where
+  pub back : (m : Labelled) (names : List (List ℕ)) → IsLabelled m → AreNamesOf m.base names → document (canonical m names) None ≡ Ok (parts m names)
+  pub fit : (m : Labelled) (names : List (List ℕ)) → IsLabelled m → IsWellFormed (lowered m) → IsFit (parts m names)
+
+-- the text of an answer
+abbrev pub text_of : Turn Following → List ℕ
+text_of (more text next) = text
+text_of (last said) = said.text
+text_of wrong = []
+
+not_longer : (n most : ℕ) → n ≤ most → nat_lt most n ≡ false
+not_longer n most few = grind arith
+
+-- after a no the load is that of the network
+no_load : (cap load : ℕ) (net : Network) → verdict cap net ≡ No load → load ≡ load_of net
+no_load cap load net is = by_tests (nat_lt cap (load_of net)) (is_refuted net (log_of net)) is
+  where
+    by_tests : (a b : Bool) → (if a then Full else if b then No (load_of net) else Yes (load_of net)) ≡ No load → load ≡ load_of net
+    by_tests true b here = absurd (cc)
+    by_tests false true here = cc
+    by_tests false false here = absurd (cc)
+
+-- the state that lines lead to has names and what is unseen as at the start
+module _ (start s : Following) (keeps : KeepsPoints start s) where
+  pub named_still : AreNamesOf start.network.base start.names → AreNamesOf s.network.base s.names
+  named_still named = record {
+    named = subst AreNames (sym keeps.names) named.named;
+    each = ap length keeps.names ∙ named.each ∙ sym (ap length keeps.observes);
+    origin = ap (λ (ns : List (List ℕ)). slice_get ns 0) keeps.names ∙ named.origin;
+  }
+
+  pub unseen_still : AreUnseen start.network.base → AreUnseen s.network.base
+  unseen_still unseen p none =
+      ap (λ (f : ℕ → ℕ). f p) keeps.reaction
+      ∙ unseen p (λ x o. none x (record { what = ap (λ (os : List (Option ℕ)). slice_index_or os x None) keeps.observes ∙ o.what }))
+
+module _ (one : OneJudgement) (no_text : NoAccepted) (backs : DocumentsBack) where
+  -- a labelled network whose lowered network has none but small ids, after a no
+  document_passes : (m : Labelled) (names : List (List ℕ)) (file text : List ℕ) → IsLabelled m → length (lowered m).constraints ≤ most_constraints → AreNamesOf m.base names → AreUnseen m.base
+      → length (canonical m names) ≤ most_document → IsNoText names (lowered m) text
+      → (asked : Asked) → asked.deadline ≡ None → IsAccepted (plan_at (replay asked file) (canonical m names ∷ text ∷ []))
+  document_passes m names file text good few named unseen short passes asked plain =
+      labelled_accepted one (of_lowered (by_text replayed text)) (canonical m names) asked.deadline (not_longer (length (canonical m names)) most_document short)
+      (subst (λ (d : Option ℕ). HasLabelled (canonical m names) d (λ ns l. IsNoText ns (lowered l) text)) (sym plain)
+      (subst (λ (told : Result Parts DocumentRefusal). IsSomeAnd (parts_of told) (λ ps. IsFit ps × IsNoText ps.names (lowered (labelled_of ps)) text)) (sym (backs.back m names good named)) (
+        backs.fit m names good (lowered_well_formed m good few),
+        subst (λ (l : Labelled). IsNoText names (lowered l) text) (sym (read_back m names unseen)) (subst (λ (net : Network). IsNoText names net text) (sym (lowered_same m)) passes),
+      )))
+
+  -- after a no the refutation is accepted on the document of what is left
+  pub left_passes : (s : Following) (load : ℕ) (file : List ℕ) → IsSound s → AreNamesOf s.network.base s.names → AreUnseen s.network.base → s.cap ≤ most_load → verdict_now s ≡ No load
+      → length (canonical (left_now s) (names_left s)) ≤ most_document → (asked : Asked) → asked.deadline ≡ None
+      → IsAccepted (plan_at (replay asked file) (canonical (left_now s) (names_left s) ∷ shown (names_left s) load (part (log_of (lowered (left_now s)))) ∷ []))
+  left_passes s load file sound named unseen capped refuted short asked plain =
+      let is = sound.verdict ∙ ap Some refuted in
+      let R = left_now s in
+      let room = (left_says s.network s.history s.fresh s.cap (No load) is).0 in
+      let good = left_labelled s.network s.history s.fresh s.cap (No load) is sound.labelled sound.timely sound.above in
+      let well = lowered_well_formed R good room.lowered in
+      let tells : Tells s.cap (lowered R) (No load) = subst (Tells s.cap (lowered R)) refuted (verdict_tells s.cap (lowered R) well) in
+      let names = names_of_left s.network s.history s.fresh s.names named sound.labelled.base.network.origin in
+      let ids = All-weaker (λ (c : Constraint). c.id < 2 ^ 31) (λ (c : Constraint). c.id < 2 ^ 32) (λ c low. omega (arith, low)) (lowered R).constraints
+      (small_numbers 0 (full_constraints R ++ guards R) (omega (arith, room.lowered))) in
+      document_passes R (names_left s) file (shown (names_left s) load (part (log_of (lowered R)))) good room.lowered names (left_unseen s.network s.history s.fresh sound.labelled sound.timely.history unseen) short
+      (subst (λ (n : ℕ). IsNoText (names_left s) (lowered R) (shown (names_left s) n (part (log_of (lowered R))))) (sym (no_load s.cap load (lowered R) refuted))
+      (no_text (names_left s) (lowered R) (lowered_well_formed R good room.lowered) names.named names.each ids (omega (arith, tells.1, capped)) tells.0))
+      asked plain
+
+  -- the answers to `check` and `rest`
+  pub refutation_passes : (cap : ℕ) (names : List (List ℕ)) (m : Labelled) (lines : List (List ℕ)) (s t u : Following) (load : ℕ) (text bytes file : List ℕ) (asked : Asked) → IsLabelled m
+      → length (lowered m).constraints ≤ most_constraints → AreNamesOf m.base names → AreUnseen m.base → cap ≤ most_load → state_after follow_turn (begun cap names m) 0 lines ≡ Some s → verdict_now s ≡ No load
+      → follow_turn s (codes "check") ≡ more (text ++ line (codes "end")) t → follow_turn s (codes "rest") ≡ more bytes u → length bytes ≤ most_document → asked.deadline ≡ None
+      → IsAccepted (plan_at (replay asked file) (bytes ∷ text ∷ []))
+  refutation_passes cap names m lines s t u load text bytes file asked good few named unseen capped leads refuted checked left_is short plain =
+      let begins = begun_sound cap names m good few named.each in
+      let sound = lines_sound canonical (begun cap names m) s 0 lines begins leads in
+      let keeps = lines_keep canonical (begun cap names m) s 0 lines begins leads in
+      let said : text_of (follow_turn s (codes "check")) ≡ shown (names_left s) load (part (log_of (lowered (left_now s)))) ++ line (codes "end") =
+      ap (λ (v : Verdict). text_of (heard_turn (check_after (counted s) v))) refuted in
+      let text_is : shown (names_left s) load (part (log_of (lowered (left_now s)))) ≡ text =
+      append_cancel_right _ text (line (codes "end")) (sym said ∙ ap text_of checked) in
+      let bytes_are : canonical (left_now s) (names_left s) ≡ bytes = ap text_of left_is in
+      subst (λ (b : List ℕ). IsAccepted (plan_at (replay asked file) (b ∷ text ∷ []))) bytes_are
+      (subst (λ (x : List ℕ). IsAccepted (plan_at (replay asked file) (canonical (left_now s) (names_left s) ∷ x ∷ []))) text_is
+      (left_passes s load file sound (named_still (begun cap names m) s keeps named) (unseen_still (begun cap names m) s keeps unseen) (subst (λ (c : ℕ). c ≤ most_load) (sym keeps.cap) capped) refuted
+      (subst (λ (b : List ℕ). length b ≤ most_document) (sym bytes_are) short) asked plain))

@@ -1,0 +1,15 @@
+pub mod Check
+pub mod Run
+pub mod Edit
+pub mod Follow
+pub mod Closed
+pub mod Tight
+pub mod Conflict
+pub mod Tree
+pub mod Save
+pub mod Replay
+pub mod Closedcheck
+pub mod Treecheck
+pub mod Drill
+pub mod Host
+pub mod Version

@@ -1,0 +1,59 @@
+// The headline, as one law, and the laws that give its premises and what else a call tells. The calls do nothing: their contracts are the
+// laws.
+ghost use Rattle.std.specs.Prelude.{◌≡◌, ◌⊎◌, ◌≤◌, ◌<◌, ◌++◌, ℕ, List, Option, Some, IfSome};
+ghost use Rattle.cstn_lines.specs.Pieces.{lines_of};
+ghost use Rattle.cstn_request.specs.Requests.{Request};
+ghost use Rattle.cstn_reply.specs.declared.status.Status.{Status};
+ghost use Rattle.cstn_reply.specs.declared.status.Status.TheVariants.{Good, Bad, Full};
+ghost use Rattle.cstn_top.specs.commands.Run.{AnswersLeast, run_bounds};
+ghost use Rattle.cstn_headline.specs.Headline.{Document, network, printed_names, HasStrategy, load, edited, Call, HasContents, IsCall};
+ghost use Rattle.cstn_headline.specs.Headline.{Checked, Ran, Replayed, Edited, Decides, IsEditedVerdict, IsExecutedOver};
+ghost use Rattle.cstn_top.specs.Dispatch.{command_of};
+ghost use Rattle.cstn_top.specs.Meanings.{IsStopped};
+ghost use Rattle.cstn_top.specs.Told.{IsTold, view};
+ghost use Rattle.cstn_headline.specs.Told.{IsToldOf};
+
+use crate::evidence_laws::evidence_is_accepted;
+use cstn_io::Source;
+
+/// For every labelled network of a document, `check` ends with Good exactly where a dynamic strategy exists and with Bad exactly
+/// where none does, or with Full, where the log of the lowered network has more entries than the cap. After yes, over any lines,
+/// each moment that `run` accepts is answered with exactly the time-points whose label holds and whose least moment it is in any
+/// dynamic strategy; and where a run ends with Good, each time-point whose label holds was named in what was written, at its least
+/// moment, and every constraint whose label holds is met, in every scenario that agrees with the outcomes that were handed in. After no the
+/// written derivation passes `replay`, whose Good implies that no strategy exists. After any edit lines, each of the grammar and
+/// none too long or too late, the verdict of the last check is that of the network as edited by the lines before it, or Full,
+/// where its log has more entries than the cap.
+pub fn the_headline()
+    ensures check { (d : Document) (cap : ℕ) (c : Checked d cap) → ((c.status ≡ Full) × (cap < load d)) ⊎ (Decides c.status (HasStrategy d) × (load d ≤ cap)) }
+    ensures least { (d : Document) → HasStrategy d → AnswersLeast (printed_names d) (network d) (run_bounds (network d)) }
+    ensures executed { (d : Document) (cap : ℕ) (c : Ran d cap) → c.status ≡ Good
+        → IsExecutedOver (printed_names d) (network d) (lines_of c.live) c.text }
+    ensures derivation { (d : Document) (cap : ℕ) (c : Checked d cap) → c.status ≡ Bad → (file : List ℕ) (r : Replayed d file c.text) → r.status ≡ Good }
+    ensures replay { (d : Document) (file text : List ℕ) (r : Replayed d file text) → r.status ≡ Good → HasStrategy d → ⊥ }
+    ensures edits { (d : Document) (cap : ℕ) (edits : List (List ℕ)) (e : Edited d cap edits) → IsEditedVerdict cap (edited d edits) e.call.status }
+{
+    evidence_is_accepted();
+}
+
+/// All that a call tells follows from what was written, for the contents of the files that its words name: the status tells that a
+/// network has a strategy or has none, that a log is too long, or that a text is right or wrong; what was written as evidence is
+/// accepted; each answer of a run is of least moments; and a run and an edit session end by the network and by the lines.
+pub fn calls_tell<S: Source>()
+    ensures told { (words : Option Request) (files : Option (List ℕ → Option (List ℕ))) (before after : S) (old new : Option (List ℕ)) (status : Status)
+        (told : IsTold words files (view S.left S.faults) before after old new status)
+        → IfSome words (λ request. IsToldOf (view S.left S.faults before) old new status told.contents (command_of request)) }
+    ensures call { (request : Request) (contents : List (List ℕ)) (c : Call request contents)
+        → IsToldOf c.before (Some c.old) (Some (c.old ++ c.text)) c.status contents (command_of request) }
+{
+    evidence_is_accepted();
+}
+
+/// What `run` tells makes a call that the headline speaks of. Where files, live source and sink tell their bytes, the words are a
+/// request, and neither a fault nor want of memory stopped the call, it is a call of that request over the contents of its files.
+pub fn calls_are_told<S: Source>()
+    ensures call { (request : Request) (contents : List (List ℕ)) (live had : List ℕ) (words : Option Request) (files : Option (List ℕ → Option (List ℕ)))
+        (before after : S) (old new : Option (List ℕ)) (status : Status) → IsTold words files (view S.left S.faults) before after old new status
+        → words ≡ Some request → HasContents files request contents → S.left before ≡ Some live → old ≡ Some had → (IsStopped status → ⊥)
+        → IsCall request contents live had new status }
+{}

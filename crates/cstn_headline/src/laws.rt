@@ -1,0 +1,132 @@
+// Laws of edit sessions, of the least deadlines of labelled networks, of outputs and of evidence. The calls do nothing: their
+// contracts are the laws.
+ghost use Rattle.std.specs.Prelude.{ℕ, ◌≡◌, ◌<◌, ◌≤◌, ◌↔◌, ◌+◌, ◌^◌, ◌++◌, List, [], ◌∷◌, length, None, Some, codes, false};
+ghost use Rattle.std.specs.List.{All};
+ghost use Rattle.cstn_net.specs.Limits.{most_constraints, most_load};
+ghost use Rattle.cstn_net.specs.Networks.{Network, Constraint, IsWellFormed, Observes, count};
+ghost use Rattle.cstn_lines.specs.Pieces.{is_past};
+ghost use Rattle.cstn_check.specs.declared.verdicts.Verdict.TheVariants.{No};
+ghost use Rattle.cstn_save.specs.Names.{AreNamesOf};
+ghost use Rattle.cstn_follow.specs.Following.{Following, begun, verdict_now};
+ghost use Rattle.cstn_edit.specs.Editing.{Editing, begun_editing, edit_turn, last_checked};
+ghost use Rattle.cstn_reply.specs.Sessions.{more};
+ghost use Rattle.cstn_reply.specs.Reached.{state_after};
+ghost use Rattle.cstn_request.specs.Limits.{most_document};
+ghost use Rattle.cstn_top.specs.Accepted.{HasIds, IsAccepted};
+ghost use Rattle.cstn_top.specs.Plans.{Plan, IsOutput};
+ghost use Rattle.cstn_top.specs.Lines.{AreAnswered};
+ghost use Rattle.cstn_top.specs.Dispatch.{command_of, plan_at};
+ghost use Rattle.cstn_request.specs.Requests.{Asked, Request, check, run, closed, replay, closedcheck};
+ghost use Rattle.cstn_reply.specs.Texts.{Said, line};
+ghost use Rattle.cstn_reply.specs.declared.output.Outcome.TheVariants.{Good, Bad};
+ghost use Rattle.cstn_lift.specs.Labelled.{Labelled};
+ghost use Rattle.cstn_lift.specs.Lowered.{lowered};
+ghost use Rattle.cstn_lift.specs.WellFormed.{IsLabelled};
+ghost use Rattle.cstn_history.specs.Continuations.{Can};
+ghost use Rattle.cstn_tight.specs.Deadlines.{at_deadline, IsLeastDeadline};
+ghost use Rattle.cstn_headline.specs.LabelledDeadlines.{labelled_at, IsLabelledLeastDeadline};
+ghost use Rattle.cstn_change.specs.ChangeLines.{network_after};
+ghost use Rattle.cstn_headline.specs.EditSessions.{AnswersCheck, IsAtLastCheck};
+ghost use Rattle.cstn_top.specs.commands.Follow.{follow_turn};
+
+use crate::evidence_laws::evidence_is_accepted;
+use cstn_closed::{closed_lists_are_accepted, closed_texts_are_read_back};
+use cstn_graphml::documents_have_one_answer;
+use cstn_refute::texts_are_read_back;
+use cstn_save::documents_are_read_back;
+use cstn_tree::{made_trees_are_good, networks_have_one_tree, tree_texts_are_read_back};
+
+/// After any edit lines that are answered, the session's network is the network as edited by them, which is well-formed. The
+/// answer to `check` after them is true of that network: yes is said only where it is consistent, no only where it isn't, with
+/// steps that refute it, and that the log is full only where its log has more than `cap` entries. The network of the last check
+/// is the network as edited by the lines before that check.
+pub fn edit_sessions_are_true()
+    ensures edited { (cap : ℕ) (names : List (List ℕ)) (net : Network) (lines : List (List ℕ)) (e : Editing)
+        → state_after edit_turn (begun_editing cap names net) 0 lines ≡ Some e → e.session.net ≡ network_after names net lines }
+    ensures well_formed { (cap : ℕ) (names : List (List ℕ)) (net : Network) (lines : List (List ℕ)) → IsWellFormed net → length names ≡ count net
+        → AreAnswered edit_turn (begun_editing cap names net) lines → IsWellFormed (network_after names net lines) }
+    ensures ids { (cap : ℕ) (names : List (List ℕ)) (net : Network) (lines : List (List ℕ)) → IsWellFormed net → length names ≡ count net
+        → All (λ (c : Constraint). c.id < 2 ^ 31) net.constraints → AreAnswered edit_turn (begun_editing cap names net) lines
+        → HasIds (network_after names net lines) }
+    ensures checked { (cap : ℕ) (names : List (List ℕ)) (net : Network) (before : List (List ℕ)) → IsWellFormed net → length names ≡ count net
+        → AreAnswered edit_turn (begun_editing cap names net) before → is_past (length before + 1) (codes "check") ≡ false → AnswersCheck cap names net before }
+    ensures last { (cap : ℕ) (names : List (List ℕ)) (net : Network) (lines : List (List ℕ))
+        → AreAnswered edit_turn (begun_editing cap names net) lines → IsAtLastCheck names net lines (last_checked (begun_editing cap names net) None lines) }
+{
+    texts_are_read_back();
+}
+
+/// A labelled network with another deadline is lowered to its lowered network with that deadline. So the least deadline of a
+/// labelled network is that of the network it is lowered to.
+pub fn least_deadlines_are_lowered()
+    ensures lowered { (m : Labelled) (h : ℕ) → lowered (labelled_at m h) ≡ at_deadline (lowered m) h }
+    ensures least { (m : Labelled) (h : ℕ) → IsLabelled m → h ≤ m.base.deadline → (IsLabelledLeastDeadline m h ↔ IsLeastDeadline (lowered m) h) }
+{}
+
+/// What a request says is determined by the contents of its files and the bytes of the live source: the outputs of a plan are one.
+/// And it can't be that a request has none, where values of the program can hold what its documents say, and its cap is in range.
+pub fn outputs_are_one()
+    ensures one { (plan : Plan) (live : List ℕ) (one other : Said) → IsOutput plan live one → IsOutput plan live other → one ≡ other }
+    ensures some { (request : Request) (contents : List (List ℕ)) (live : List ℕ) → (command_of request).ranged → (command_of request).held contents
+        → ((said : Said) → IsOutput (plan_at request contents) live said → ⊥) → ⊥ }
+{
+    documents_have_one_answer();
+    closed_lists_are_accepted();
+    closed_texts_are_read_back();
+    texts_are_read_back();
+    networks_have_one_tree();
+    made_trees_are_good();
+    tree_texts_are_read_back();
+}
+
+/// What `check`, `run` and `closed` write after no passes: `replay` of the same document with that text says `accepted`, and
+/// nothing else. So does `closedcheck` with what `closed` writes after yes.
+pub fn evidence_passes()
+    ensures no_of_check { (asked : Asked) (cap : ℕ) (file bytes live : List ℕ) (said : Said) → cap ≤ most_load
+        → IsOutput (plan_at (check asked cap) (bytes ∷ [])) live said → said.outcome ≡ Bad
+        → IsAccepted (plan_at (replay asked file) (bytes ∷ said.text ∷ [])) }
+    ensures no_of_run { (asked : Asked) (cap : ℕ) (file bytes live : List ℕ) (said : Said) → cap ≤ most_load
+        → IsOutput (plan_at (run asked cap) (bytes ∷ [])) live said → said.outcome ≡ Bad
+        → IsAccepted (plan_at (replay asked file) (bytes ∷ said.text ∷ [])) }
+    ensures no_of_closed { (asked : Asked) (cap : ℕ) (file bytes live : List ℕ) (said : Said) → cap ≤ most_load
+        → IsOutput (plan_at (closed asked cap) (bytes ∷ [])) live said → said.outcome ≡ Bad
+        → IsAccepted (plan_at (replay asked file) (bytes ∷ said.text ∷ [])) }
+    ensures yes_of_closed { (asked : Asked) (cap : ℕ) (file bytes live : List ℕ) (said : Said) → cap ≤ most_load
+        → IsOutput (plan_at (closed asked cap) (bytes ∷ [])) live said → said.outcome ≡ Good
+        → IsAccepted (plan_at (closedcheck asked file) (bytes ∷ said.text ∷ [])) }
+{
+    documents_have_one_answer();
+    evidence_is_accepted();
+}
+
+/// After no, the refutation that `check` answers, less its line `end`, passes: `replay` accepts it on the document that `rest` answers
+/// in the same state, where that has at most 8,388,608 bytes. What nothing observes has a reaction of 1 tick, as in each document.
+pub fn followed_refutations_pass()
+    ensures { (cap : ℕ) (names : List (List ℕ)) (m : Labelled) (lines : List (List ℕ)) (s t u : Following) (load : ℕ) (text bytes file : List ℕ) (asked : Asked)
+        → IsLabelled m → length (lowered m).constraints ≤ most_constraints → AreNamesOf m.base names
+        → ((p : ℕ) → ((x : ℕ) → Observes m.base x p → ⊥) → m.base.reaction p ≡ 1) → cap ≤ most_load
+        → state_after follow_turn (begun cap names m) 0 lines ≡ Some s → verdict_now s ≡ No load
+        → follow_turn s (codes "check") ≡ more (text ++ line (codes "end")) t → follow_turn s (codes "rest") ≡ more bytes u
+        → length bytes ≤ most_document → asked.deadline ≡ None → IsAccepted (plan_at (replay asked file) (bytes ∷ text ∷ [])) }
+{
+    documents_have_one_answer();
+    evidence_is_accepted();
+    documents_are_read_back();
+}
+
+/// `check` of the document that `rest` answers says yes only where some table continues what has happened, and no only where none
+/// does. What nothing observes has a reaction of 1 tick, as in each document.
+pub fn followed_rests_decide()
+    ensures yes { (cap checks : ℕ) (names : List (List ℕ)) (m : Labelled) (lines : List (List ℕ)) (s u : Following) (bytes live : List ℕ) (asked : Asked)
+        (said : Said) → IsLabelled m → length (lowered m).constraints ≤ most_constraints → AreNamesOf m.base names
+        → ((p : ℕ) → ((x : ℕ) → Observes m.base x p → ⊥) → m.base.reaction p ≡ 1) → state_after follow_turn (begun cap names m) 0 lines ≡ Some s
+        → follow_turn s (codes "rest") ≡ more bytes u → asked.deadline ≡ None → IsOutput (plan_at (check asked checks) (bytes ∷ [])) live said
+        → said.outcome ≡ Good → Can s.network s.history }
+    ensures no { (cap checks : ℕ) (names : List (List ℕ)) (m : Labelled) (lines : List (List ℕ)) (s u : Following) (bytes live : List ℕ) (asked : Asked)
+        (said : Said) → IsLabelled m → length (lowered m).constraints ≤ most_constraints → AreNamesOf m.base names
+        → ((p : ℕ) → ((x : ℕ) → Observes m.base x p → ⊥) → m.base.reaction p ≡ 1) → state_after follow_turn (begun cap names m) 0 lines ≡ Some s
+        → follow_turn s (codes "rest") ≡ more bytes u → asked.deadline ≡ None → IsOutput (plan_at (check asked checks) (bytes ∷ [])) live said
+        → said.outcome ≡ Bad → Can s.network s.history → ⊥ }
+{
+    documents_are_read_back();
+}

@@ -1,0 +1,270 @@
+"""All that the page of one plan shows, as data of JSON: reckoned in trials, so that looking changes nothing."""
+from __future__ import annotations
+
+import time
+from collections.abc import Mapping, Sequence
+from dataclasses import dataclass
+from typing import Any
+
+from cstn.answers import Can, Done, Next
+from cstn.child import Child
+from cstn.errors import CstnError
+from cstn.events import Change, Did, Event, Expect, Now, Saw
+from cstn.follower import Follower, Trial
+from cstn.outlook import Late, Outlook, WayOut
+from cstn.plan import Limit, Plan, Step
+from cstn.session import Telling
+
+from cstn.board.ahead import Ahead, overdue, play
+from cstn.board.words import Part, is_least, limit_parts, named, number_of, shown, told
+
+Data = dict[str, Any]
+SECONDS = 1.5
+"""How long a look may take to find until when steps can wait: what it does not come to stands without."""
+ROUNDS = 20
+"""How many sets of blamed limits are let go, one after another, to see what would be next."""
+
+
+@dataclass(frozen=True)
+class Look:
+    """What a trial answered of a plan at one moment."""
+
+    plan: Plan
+    outlook: Outlook
+    tellings: Sequence[Telling]
+    ahead: Ahead
+    latest: Mapping[str, int]
+    due: Mapping[str, int]
+    lates: Mapping[str, Late]
+    ways: Sequence[WayOut]
+    meanwhile: Next | None
+    let_go: Sequence[int]
+
+
+def look(follower: Follower, now: int | None, chosen: Mapping[str, bool], *, whole: bool) -> Look:
+    """Looks at a plan, at `now` or as late as it was told. Not `whole`: what a list shows, and no more."""
+    tellings = follower.history()
+    with follower.what_if() as trial:
+        if now is not None:
+            trial.tell(Now(now))
+        outlook = trial.outlook(latest=False)
+        due = due_before(trial, outlook.now)
+        if not whole:
+            return Look(follower.plan, outlook, tellings, Ahead(), {}, due, {}, (), None, [])
+        is_no = outlook.verdict.can is Can.NO
+        ways = trial.ways_out() if is_no else ()
+        lates = {} if is_no else {it.letter: trial.late(it.letter) for it in outlook.awaited}
+        meanwhile, let_go = let_all_go(trial) if is_no else (None, [])
+        ahead = way_ahead(trial, chosen)
+        latest = {} if is_no else latest_of(trial, outlook, ahead)
+    return Look(follower.plan, outlook, tellings, ahead, latest, due, lates, ways, meanwhile, let_go)
+
+
+def latest_of(trial: Trial, outlook: Outlook, ahead: Ahead) -> dict[str, int]:
+    """Until when each step can wait: the next ones first, and as many as there is time for."""
+    end, found = time.monotonic() + SECONDS, {}
+    left = [it.name for it in trial.plan.steps if it.name not in outlook.done and it.name not in outlook.left_out]
+    for step in sorted(left, key=lambda it: ahead.steps.get(it, outlook.deadline)):
+        if time.monotonic() > end:
+            break
+        if (at := trial.by(step)) is not None:
+            found[step] = at
+    return found
+
+
+def let_all_go(trial: Trial) -> tuple[Next | None, list[int]]:
+    """What would be next if all blamed limits were let go, and which those are."""
+    gone: list[int] = []
+    for _ in range(ROUNDS):
+        if trial.verdict().can is not Can.NO:
+            break
+        blamed = trial.blame()
+        if not blamed:
+            return None, []
+        for number in blamed:
+            trial.tell(Change(number, None))
+        gone += blamed
+    answer = trial.next()
+    return (answer, gone) if isinstance(answer, Next) else (None, [])
+
+
+def way_ahead(trial: Trial, chosen: Mapping[str, bool]) -> Ahead:
+    """How the plan goes on, after a "no" without what was let go; nothing where that takes too long."""
+    try:
+        with trial.copied() as (child, _):
+            return play(child, chosen, 2 * len(trial.plan.steps))
+    except CstnError:
+        return Ahead()
+
+
+def due_before(trial: Trial, now: int) -> dict[str, int]:
+    """Which steps were wanted before now, by what was told but the time that has passed."""
+    plan, allowed = trial.plan, trial.allowed
+    try:
+        lines = trial.asked(lambda session: [it for it in session.state.lines if not it.startswith("now ")])
+        child = Child(plan.document, plan.asked_deadline, cap=allowed.cap, seconds=allowed.seconds,
+                      program=plan.program)
+    except CstnError:
+        return {}
+    try:
+        for line in lines:
+            child.ask(line)
+        return overdue(child, now, 2 * len(plan.steps))
+    except CstnError:
+        return {}
+    finally:
+        child.close()
+
+
+# ---- the parts of the page ----
+
+def places(plan: Plan) -> dict[str, int]:
+    """For each step its place in the document, by which a page names it."""
+    return {step.name: index for index, step in enumerate(plan.steps)}
+
+
+def next_data(found: Next | None, plan: Plan) -> Data | None:
+    if found is None:
+        return None
+    place = places(plan)
+    return {"at": found.at, "do": [place[step] for step in found.do], "wait": list(found.wait),
+            "names": [shown(step) for step in found.do]}
+
+
+def lateness(it: Look) -> list[Data]:
+    """What is late: steps that were wanted before now, and results that were expected before now."""
+    now, place = it.outlook.now, places(it.plan)
+    steps = [{"step": place[step], "name": shown(step), "due": at, "by": now - at}
+             for step, at in it.due.items() if step not in it.outlook.done]
+    results = [{"letter": each.letter, "name": f"result {each.letter}", "due": each.expected, "by": now - each.expected}
+               for each in it.outlook.awaited if each.expected < now]
+    return steps + results
+
+
+def standing(step: Step, it: Look) -> str:
+    """Whether a step is done, left out, open, or not known to be needed yet."""
+    if step.name in it.outlook.done:
+        return "done"
+    if step.name in it.outlook.left_out:
+        return "out"
+    return "open" if all(letter in it.outlook.seen for letter in it.plan.letters_of(step.name)) else "unknown"
+
+
+def still_open(step: Step, it: Look) -> str:
+    """What of a step's label is not known yet, in words."""
+    return named({letter: value for letter, value in step.label.items() if letter not in it.outlook.seen})
+
+
+def step_data(index: int, step: Step, it: Look) -> Data:
+    return {"index": index, "shown": shown(step.name), "start": step.name == "Z", "observes": step.observes,
+            "reaction": step.reaction, "label": still_open(step, it), "state": standing(step, it),
+            "at": it.outlook.done.get(step.name), "planned": it.ahead.steps.get(step.name),
+            "by": it.latest.get(step.name)}
+
+
+def result_data(letter: str, it: Look) -> Data:
+    observer = it.plan.observers[letter]
+    data: Data = {"letter": letter, "step": places(it.plan)[observer.name], "shown": shown(observer.name),
+                  "state": "unasked", "at": None, "expected": it.ahead.results.get(letter), "until": None}
+    if (seen := it.outlook.seen.get(letter)) is not None:
+        return data | {"state": "seen", "at": seen.at, "value": seen.value}
+    for each in it.outlook.awaited:
+        if each.letter == letter:
+            late = it.lates.get(letter)
+            until = None if late is None else "ever" if late.ever else late.until
+            return data | {"state": "awaited", "expected": each.expected, "until": until}
+    return data
+
+
+def limit_data(limit: Limit, it: Look) -> Data:
+    original = {each.id: each for each in it.plan.limits}.get(limit.id)
+    now = it.outlook.limits.get(limit.id)
+    least = is_least(original or limit)
+    most = limit.most if now is None else now.most
+    state = ("removed" if now is None else "added" if original is None
+             else "changed" if most != original.most else "")
+    return {"id": limit.id, "parts": limit_parts(limit, least, most), "value": number_of(limit, most, least),
+            "original": number_of(limit, (original or limit).most, least), "state": state, "says": shown(limit.says)}
+
+
+def all_limits(it: Look) -> list[Limit]:
+    """The limits of the document, also those that were removed, and those that were put in."""
+    own = {limit.id for limit in it.plan.limits}
+    return [*it.plan.limits, *(limit for number, limit in it.outlook.limits.items() if number not in own)]
+
+
+def blame_data(it: Look) -> Data | None:
+    """What a "no" blames, and how far each must give way: those of the document first, for what was put in is known."""
+    if it.outlook.verdict.can is not Can.NO:
+        return None
+    originals = {limit.id: limit for limit in it.plan.limits}
+    limits, deadline = [], None
+    for way in it.ways:
+        if way.is_deadline:
+            deadline = way.would_do
+        elif way.limit is not None:
+            least = is_least(originals.get(way.limit.id, way.limit))
+            needed = None if way.would_do is None else number_of(way.limit, way.would_do, least)
+            limits.append({"id": way.limit.id, "needed": needed})
+    limits.sort(key=lambda each: each["id"] not in originals)
+    return {"limits": limits, "deadline": deadline, "let_go": list(it.let_go)}
+
+
+def again(event: Event, plan: Plan) -> Data | None:
+    """A fact as a page sends it, to be corrected. What was decided is not corrected, but decided anew."""
+    match event:
+        case Did(step, at):
+            return {"kind": "did", "step": places(plan)[step], "at": at}
+        case Saw(letter, value, at):
+            return {"kind": "saw", "letter": letter, "value": value, "at": at}
+        case Expect(letter, at):
+            return {"kind": "await", "letter": letter, "at": at}
+        case Now(at):
+            return {"kind": "now", "at": at}
+    return None
+
+
+def entry_data(number: int, telling: Telling, it: Look) -> Data:
+    """A line of the history."""
+    fact = again(telling.event, it.plan)
+    words: list[Part] = told(telling.event, {limit.id: limit for limit in all_limits(it)})
+    at = fact["at"] if fact and fact["kind"] in ("did", "saw") else None
+    return {"n": number, "key": telling.event.key, "at": at, "parts": words, "event": fact,
+            "standing": telling.standing.value, "why": shown(telling.why), "verdict": verdict_of(telling)}
+
+
+def verdict_of(telling: Telling) -> str | None:
+    word = telling.answer.split(" ", 1)[0]
+    return word if word in ("yes", "no", "full") else None
+
+
+def is_over(outlook: Outlook) -> bool:
+    return isinstance(outlook.next, Done)
+
+
+def brief(it: Look) -> Data:
+    """What a list shows of a plan."""
+    found = it.outlook.next if isinstance(it.outlook.next, Next) else it.meanwhile
+    return {"verdict": it.outlook.verdict.can.value, "next": next_data(found, it.plan), "late": lateness(it),
+            "over": is_over(it.outlook), "version": it.outlook.version}
+
+
+def outcome(plan: Plan, outlook: Outlook, blame: Sequence[int]) -> Data:
+    """What stands in the dialog behind "what if"."""
+    found = outlook.next if isinstance(outlook.next, Next) else None
+    limits = [outlook.limits[number] for number in blame if number in outlook.limits]
+    return {"verdict": outlook.verdict.can.value, "over": is_over(outlook), "next": next_data(found, plan),
+            "blame": [limit_parts(limit, is_least(limit), limit.most) for limit in limits]}
+
+
+def page(it: Look) -> Data:
+    """What the page of a plan shows."""
+    return brief(it) | {
+        "deadline": it.outlook.deadline,
+        "steps": [step_data(index, step, it) for index, step in enumerate(it.plan.steps)],
+        "results": [result_data(letter, it) for letter in it.plan.observers],
+        "limits": [limit_data(limit, it) for limit in all_limits(it)],
+        "blame": blame_data(it),
+        "ahead": [{"letter": letter, "value": value} for letter, value in it.ahead.supposed.items()],
+        "history": [entry_data(number, telling, it) for number, telling in enumerate(it.tellings, 1)],
+    }

@@ -1,0 +1,81 @@
+"""What a page shows of names, labels, limits and events. A page gets texts and names, and never markup."""
+from __future__ import annotations
+
+import re
+from collections.abc import Mapping
+from typing import Any
+
+from cstn.events import Add, Change, Deadline, Did, Event, Expect, Now, Saw
+from cstn.names import Label
+from cstn.plan import Limit
+
+OBEYED = re.compile("[\x00-\x1f\x7f-\x9f\u061c\u200e\u200f\u2028-\u202e\u2066-\u2069]")
+"""What a screen obeys, at which it ends a line, or by which it turns writing round."""
+
+Part = dict[str, Any]
+"""A part of a sentence: a text, a name, or a number that is a moment or a length."""
+
+
+def shown(text: str) -> str:
+    """A text of others as a screen may have it."""
+    return OBEYED.sub(lambda found: "".join(f"%{byte:02X}" for byte in found[0].encode()), text)
+
+
+def named(label: Label) -> str:
+    """A label in words: `i and not o`; nothing where it is the empty one."""
+    return " and ".join(letter if value else f"not {letter}" for letter, value in label.items())
+
+
+def is_least(limit: Limit) -> bool:
+    """Whether a limit is an "at least": its number is then shown without its sign."""
+    return limit.most < 0 or limit.most == 0 and limit.source != "Z"
+
+
+def number_of(limit: Limit, most: int, least: bool) -> int:
+    """The number that a person reads in a limit."""
+    return -most if least else most
+
+
+def limit_parts(limit: Limit, least: bool, most: int) -> list[Part]:
+    """A limit as a sentence, whose number is `most`."""
+    number = number_of(limit, most, least)
+    later, earlier = (limit.source, limit.target) if least else (limit.target, limit.source)
+    if earlier == "Z":
+        parts: list[Part] = [{"name": shown(later)}, {"text": " at "}, {"moment": number},
+                             {"text": " or later" if least else " or earlier"}]
+    elif least and number == 0:
+        parts = [{"name": shown(later)}, {"text": " not before "}, {"name": shown(earlier)}]
+    else:
+        parts = [{"name": shown(later)}, {"text": " at least " if least else " at most "}, {"length": number},
+                 {"text": " after "}, {"name": shown(earlier)}]
+    return [*parts, {"text": f", where {named(limit.label)}"}] if limit.label else parts
+
+
+def told(event: Event, limits: Mapping[int, Limit]) -> list[Part]:
+    """An event as a sentence without its moment."""
+    match event:
+        case Did(step):
+            return [{"name": shown(step)}, {"text": " done"}]
+        case Saw(letter, value):
+            return [{"name": letter}, {"text": f" is {'true' if value else 'false'}"}]
+        case Expect(letter, int(at)):
+            return [{"name": letter}, {"text": " expected at "}, {"moment": at}]
+        case Now(int(at)):
+            return [{"text": "it is "}, {"moment": at}]
+        case Deadline(int(at)):
+            return [{"text": "deadline "}, {"moment": at}]
+        case Add(source, target, most, label):
+            limit = Limit(0, source, target, most, label)
+            return [{"text": "put in: "}, *limit_parts(limit, is_least(limit), most)]
+        case Change(number, most):
+            return changed(limits.get(number), number, most)
+    return [{"text": shown(str(event))}]
+
+
+def changed(limit: Limit | None, number: int, most: int | None) -> list[Part]:
+    if limit is None:
+        return [{"text": f"limit {number} {'removed' if most is None else f'changed to {most}'}"}]
+    least = is_least(limit)
+    if most is None:
+        return [{"text": "removed: "}, *limit_parts(limit, least, limit.most)]
+    return [{"text": "changed: "}, *limit_parts(limit, least, most)]

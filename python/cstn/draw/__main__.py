@@ -1,0 +1,6 @@
+"""`./cstn draw ..`"""
+import sys
+
+from .command import run
+
+sys.exit(run(sys.argv[1:]))

@@ -1,0 +1,143 @@
+"""Draws a plan: what waits for what, and when each step comes in each case.
+
+    ./cstn draw network FILE
+    ./cstn draw cases FILE [--case CASE]
+    ./cstn draw now FILE SESSION [--case CASE]
+    ./cstn draw --csv FILE [--case CASE]
+    ./cstn draw --html FILE [SESSION]
+
+with the options --deadline N, --start HH:MM, --tick SECONDS and --tasks TASKS. docs/draw.md says what each form draws.
+"""
+import io
+import os
+import re
+import sys
+from dataclasses import dataclass, field
+
+from ..explain.asking import Asked, Stopped, read_once
+from ..explain.looks import looks
+from ..explain.names import harmless
+from .clock import Clock, read_clock
+from .gantt import draw_cases
+from .network import draw_network
+from .now import draw_now
+from .page import write_page
+from .plans import Plan, add_case, add_latest, chosen, read_network, read_plan
+from .sessions import read_session
+from .table import write_table
+from .tasks import Task, read_tasks
+
+# Of each form how many files it takes, at least and at most.
+FORMS = {"network": (1, 1), "cases": (1, 1), "now": (2, 2), "--csv": (1, 1), "--html": (1, 2)}
+VALUES = ("--case", "--deadline", "--start", "--tick", "--tasks")
+
+
+@dataclass
+class Request:
+    """What is asked for: the form, its files, and the options with their values."""
+
+    form: str
+    files: list[str]
+    options: dict[str, str] = field(default_factory=dict)
+
+
+def parsed(words: list[str]) -> Request:
+    """The request that words make."""
+    if not words or words[0] not in FORMS:
+        raise Stopped(2, (__doc__ or "").strip())
+    request, left = Request(words[0], []), words[1:]
+    while left:
+        word = left.pop(0)
+        if word in VALUES and left:
+            request.options[word] = left.pop(0)
+        elif word.startswith("-") and word != "-" or word in VALUES:
+            raise Stopped(2, (__doc__ or "").strip())
+        else:
+            request.files.append(word)
+    least, most = FORMS[request.form]
+    if not least <= len(request.files) <= most:
+        raise Stopped(2, (__doc__ or "").strip())
+    if not re.fullmatch(r"\d{1,7}", request.options.get("--deadline", "0")):
+        raise Stopped(2, "N is a number from 0 to 1000000, in ticks")
+    return request
+
+
+def tasks_named(asked: Asked, path: str | None) -> list[Task] | None:
+    """The tasks of a file, or none where none is named."""
+    if path is None:
+        return None
+    return read_tasks(asked.net, text_of(path, "TASKS"))
+
+
+def title_of(path: str) -> str:
+    """The name of a document without its ending and its folder."""
+    name = os.path.basename(path)
+    return re.sub(r"[-_]", " ", name.removesuffix(".graphml")).capitalize() if "." in name else name
+
+
+def text_of(path: str, called: str) -> str:
+    """The text of a file, or of the standard input for `-`."""
+    try:
+        with open(0 if path == "-" else path, "rb") as file:
+            return file.read().decode()
+    except (OSError, ValueError) as error:
+        raise Stopped(2, f"{called} cannot be read: {error}") from error
+
+
+def drawn_now(request: Request, asked: Asked, plan: Plan) -> str:
+    """The picture of a session, in the case that is wanted, else in the latest one."""
+    session = read_session(asked, text_of(request.files[1], "SESSION"))
+    return draw_now(plan, session, chosen(session.cases, request.options.get("--case", "latest")))
+
+
+def page_of(request: Request, asked: Asked, plan: Plan) -> str:
+    """The page, with the session where one is named."""
+    add_latest(asked, plan, list(range(len(plan.cases))))
+    told = [line for _, _, lines in looks(asked, plan.verdict) for line in lines]
+    return write_page(plan, told, drawn_now(request, asked, plan) if len(request.files) > 1 else "")
+
+
+def drawn(request: Request, asked: Asked, plan: Plan) -> str:
+    """The picture, table or page that is asked for."""
+    if request.form == "network":
+        return draw_network(plan)
+    if request.form == "now":
+        return drawn_now(request, asked, plan)
+    if request.form == "--html":
+        return page_of(request, asked, plan)
+    add_case(asked, plan, request.options.get("--case"))
+    if not plan.cases:
+        raise Stopped(1, plan.why)
+    places = chosen(plan.cases, request.options.get("--case"))
+    add_latest(asked, plan, places)
+    return write_table(plan, places) if request.form == "--csv" else draw_cases(plan, places)
+
+
+def main(words: list[str]) -> str:
+    """What is written for the words."""
+    request = parsed(words)
+    clock: Clock = read_clock(request.options.get("--start"), request.options.get("--tick"))
+    deadline = request.options.get("--deadline")
+    with read_once(request.files[0]) as (source, path):
+        asked = Asked(path, ["--deadline", deadline] if deadline else [])
+        asked.source = source
+        read_network(asked)
+        tasks = tasks_named(asked, request.options.get("--tasks"))
+        plan = read_plan(asked, title_of(request.files[0]), clock, tasks, request.form not in ("network", "now"))
+        return drawn(request, asked, plan)
+
+
+def run(words: list[str]) -> int:
+    """Calls the command by its words, and answers the status with which it ends."""
+    try:
+        text = main(words)
+        if isinstance(sys.stdout, io.TextIOWrapper):
+            sys.stdout.reconfigure(encoding="utf-8", newline="\n")
+        print(text, end="", flush=True)
+        return 0
+    except Stopped as stopped:
+        print("\n".join(map(harmless, str(stopped).split("\n"))), file=sys.stderr)
+        return stopped.status
+    except BrokenPipeError:
+        os.dup2(os.open(os.devnull, os.O_WRONLY), 1)
+        return 1

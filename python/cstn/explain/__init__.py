@@ -1,0 +1,1 @@
+"""Documents, refusals, refutations, trees and sessions in words."""

@@ -1,0 +1,6 @@
+"""`./cstn explain ..`"""
+import sys
+
+from .command import run
+
+sys.exit(run(sys.argv[1:]))

@@ -1,0 +1,278 @@
+"""Answers of `follow` in words, with the lines of the document: what is next, until when a step can wait, what is to
+blame."""
+import bisect
+import functools
+import re
+from collections.abc import Callable, Iterator
+
+from .names import printed, shown
+from .networks import Network, constraint, counts_where, ticks
+from .shapes import Data, Marks
+
+# The answers that are put into words.
+ANSWER = re.compile(r"next (?P<next>[0-9]{1,10})(?: do (?P<do>[^ ]+(?: [^ ]+)*?))?(?: wait (?P<wait>[A-Za-z]+))?|"
+                    r"by (?P<by>[0-9]{1,10}) (?P<name>[^ ]+)|blame(?P<blame>(?: [0-9]{1,10})*)")
+
+# Lines that are typed, alone or behind `> `, those that an answer may be too, and answers of one line.
+TYPED = re.compile(r"> .*|(did|saw|now|await|add|remove|change) .*|by (?!\d+ [^ ]).*|next|check|rest")
+EITHER = re.compile(r"blame|deadline \d+")
+ANSWERED = re.compile(r"(yes|no|full|added|removed|changed|deadline) [0-9]{1,10}|refused .*|(next|by) [0-9]{1,10} .*|"
+                      r"blame( [0-9]{1,10})*|done")
+FACT = re.compile(r"(?P<kind>did|saw|now|await) (?P<moment>[0-9]{1,10})(?: (?P<rest>[^ ]+(?: [^ ]+)*))?")
+EDIT = re.compile(r"change (?P<number>[0-9]{1,10}) (?P<value>-?[0-9]{1,10})|deadline (?P<deadline>[0-9]{1,10})|"
+                  r"add [^ ]+ [^ ]+ (?P<added>-?[0-9]{1,10}) .*")
+UNPAIRED = "The typed lines do not stand each before its answer, and are not used."
+
+# What `check` writes after a no, and how what `rest` writes begins and ends.
+STEPS = re.compile(r"^no [0-9]{1,10}\n(?:\d+ (?:base|chain|wait) .*\n)+", re.M)
+REST, LAST = re.compile(r"^<\?xml ", re.M), "\n</graphml>\n"
+
+
+def is_answer(text: str) -> bool:
+    """Whether a word is an answer that is put into words."""
+    return bool(ANSWER.fullmatch(text))
+
+
+def is_followed(text: str) -> bool:
+    """Whether a text is what `follow` wrote, from its start or from such an answer on."""
+    return bool(re.match(r"follow \d+\n", text) or is_answer(text.split("\n")[0]))
+
+
+def is_typed(text: str) -> bool:
+    """Whether a text begins with a line that is typed into a session, or with the call behind `$ `."""
+    line = text.split("\n")[0]
+    return bool(re.match(r"\$ |(?:> )?(?:(?:did|saw|now|await) \d+\b|(?:add|remove|change|deadline|by) [^ ]|"
+                         r"(?:next|check|rest)$)", line))
+
+
+def rests(text: str) -> list[tuple[int, int]]:
+    """Where the documents stand that `rest` wrote, each with its first place and its last."""
+    found, at = [], 0
+    while begun := REST.search(text, at):
+        end = text.find(LAST, begun.end())
+        if end < 0:
+            break
+        at = end + len(LAST)
+        found.append((begun.start(), at))
+    return found
+
+
+def lacking(net: Network, answer: re.Match[str]) -> list[str]:
+    """What an answer names that the document lacks, in words."""
+    names = [printed(name) for name in (answer["do"] or answer["name"] or "").split(" ") if name]
+    lacks = [f"no time-point {shown(name)}" for name in names if name not in net.places]
+    return lacks + [f"nobody who observes {letter}" for letter in answer["wait"] or "" if letter not in net.observers]
+
+
+def placed(net: Network, name: str) -> tuple[Data, str]:
+    """A time-point with its line in the document, as data and in words."""
+    line = net.lines.get((name, "id"))
+    return {"name": name, "line": line}, f"{shown(name)} (line {line})" if line else shown(name)
+
+
+class Heard:
+    """What typed lines tell so far: what was done when, at what moment each outcome was last awaited, what is known,
+    how late it is, and the edits. Refused lines tell nothing."""
+
+    def __init__(self) -> None:
+        self.typed, self.now = False, 0
+        self.done: dict[str, int] = {}
+        self.awaited: dict[str, int] = {}
+        self.known: Marks = {}
+        self.values: dict[int, int] = {}
+        self.changed: set[int] = set()
+        self.deadline: int | None = None
+        self.journal: list[str] = []
+
+    def take(self, line: str, answer: str) -> None:
+        """Hears a typed line, or none, with its answer."""
+        fact, edit, to = FACT.fullmatch(line), EDIT.fullmatch(line), re.fullmatch(r"(?:added|(changed)) (\d+)", answer)
+        self.typed = self.typed or bool(line)
+        if to and to[1]:
+            self.changed.add(int(to[2]))
+        if answer.startswith("refused"):
+            return
+        if re.match("(did|saw|now|await|add|remove|change|deadline) ", line):
+            self.journal.append(line)
+        if fact:
+            self.take_fact(fact["kind"], int(fact["moment"]), (fact["rest"] or "").split(" "))
+        if edit and edit["deadline"]:
+            self.deadline = int(edit["deadline"])
+        elif edit and to:
+            self.values[int(to[2])] = int(edit["value"] or edit["added"])
+
+    def take_fact(self, kind: str, moment: int, words: list[str]) -> None:
+        if kind == "await":
+            self.awaited.update(dict.fromkeys(filter(None, words), moment))
+            return
+        self.now = max(self.now, moment)
+        if kind == "did":
+            self.done.update({"Z": 0, **dict.fromkeys(map(printed, words), moment)})
+        elif kind == "saw" and len(words) == 2:
+            self.known[words[0]] = words[1] == "true"
+
+
+def told_of(net: Network, name: str, heard: Heard) -> str:
+    """Since when the outcome that a time-point observes is awaited, in words, and what to do if it should be here."""
+    letter, reaction = net.observed[name], net.reaction(name)
+    moment = heard.awaited.get(letter, heard.done[name] + reaction if name in heard.done else None)
+    says = f", and its reaction is {ticks(reaction)}"
+    if letter in heard.awaited:
+        says = f"; it was last awaited at {moment} (`await {moment} {letter}`)"
+    if not heard.typed:
+        return says + ", unless `await` told another moment"
+    is_late = moment is not None and heard.now >= moment
+    return says + (", so it should be here now: say `saw`, or `await` a later moment" if is_late else "")
+
+
+def tell_next(net: Network, answer: re.Match[str], heard: Heard) -> Data:
+    """What is to be executed at the next moment and what is awaited at it, as data and in words."""
+    moment, says, awaited = answer["next"], [], []
+    points = [placed(net, printed(name)) for name in (answer["do"] or "").split(" ") if name]
+    if points:
+        names = " and ".join(words for _, words in points)
+        says.append(f"At {moment} {names} {'is' if len(points) == 1 else 'are'} to be executed.")
+    for letter in answer["wait"] or "":
+        point, words = placed(net, net.observers[letter])
+        told = told_of(net, point["name"], heard)
+        says.append(f"At {moment} the outcome of {letter} is awaited: {words} observes it{told}.")
+        awaited.append({"letter": letter, "observer": point["name"], "line": point["line"]})
+    do = [point for point, _ in points]
+    return {"answer": "next", "moment": int(moment), "do": do, "wait": awaited, "says": says}
+
+
+def tell_by(net: Network, answer: re.Match[str]) -> Data:
+    """Until when a time-point can wait, as data and in words."""
+    point, words = placed(net, printed(answer["name"]))
+    says = [f"{words} can wait until {int(answer['by'])}, and no longer."]
+    return {"answer": "by", "moment": int(answer["by"]), **point, "says": says}
+
+
+def blamed(net: Network, number: int, heard: Heard) -> str:
+    """A constraint that is to blame, in words."""
+    if number >= len(net.constraints):
+        return f"{number}: a constraint that FILE lacks, so an edit has added it"
+    now = f"it is {heard.values[number]} now" if number in heard.values else "an edit has changed it"
+    edited = f", as FILE has it; {now}" if number in heard.changed else ""
+    return f"{net.called(number)}: {constraint(*net.constraints[number])}{counts_where(net, number)}{edited}"
+
+
+def untold(net: Network, numbers: list[int], heard: Heard) -> list[str]:
+    """The steps of constraints of which nothing was told, and whose labels hold by what was told, in words; where it
+    is known what was done."""
+    ends = {name for number in numbers if number < len(net.constraints) for name in net.constraints[number][:2]}
+    left = sorted(ends - heard.done.keys(), key=net.places.__getitem__) if heard.done else []
+    names = ", ".join(shown(name) for name in left if net.is_executed(name, heard.known))
+    says = f"Of their steps nothing was told of {names}: where one was done, tell it, with its moment, by `did`."
+    return [says] if names else []
+
+
+Tried = Callable[[Heard, list[int]], tuple[Data, list[str]]]
+
+
+def tell_blame(net: Network, answer: re.Match[str], heard: Heard, tried: Tried) -> Data:
+    """The constraints that are to blame, by the lines of the document, as data and in words; some were changed by
+    edits.
+
+    `tried` says how far a limit would have to give way, as data and in words.
+    """
+    numbers, known = [int(number) for number in answer["blame"].split()], net.data["constraints"]
+    head = "After what has happened these cannot be met together; with any one of them less the others can:"
+    if not numbers:
+        head = ("No constraint is to blame: what has happened leaves nothing even without them, as after the "
+                "deadline, or where a label cannot be known by then.")
+    elif len(numbers) == 1:
+        head = "After what has happened this cannot be met:"
+    limits, more = tried(heard, numbers)
+    says = [head, *(blamed(net, number, heard) for number in numbers), *more, *untold(net, numbers, heard)]
+    named = [known[it] if it < len(known) else {"id": it, "line": None} for it in numbers]
+    return {"answer": "blame", "constraints": named, **limits, "says": says}
+
+
+def tell_answer(net: Network, answer: re.Match[str], heard: Heard, tried: Tried) -> Data:
+    """An answer as data and in words."""
+    if answer["next"]:
+        return tell_next(net, answer, heard)
+    return tell_by(net, answer) if answer["by"] else tell_blame(net, answer, heard, tried)
+
+
+def stuck(text: str) -> Iterator[tuple[str, str, set[str]]]:
+    """Each refutation that `check` wrote, the document that `rest` wrote behind it, or none, and what was done."""
+    documents, (turns, _), heard = rests(text), turns_of(text), Heard()
+    breaks, begun = [it.start() for it in re.finditer("\n", text)], [it for it, _ in documents]
+    left = iter([*turns, (len(breaks) + 1, "", "")])
+    at, line, answer = next(left)
+    for found in STEPS.finditer(text):
+        while at < bisect.bisect_left(breaks, found.start()):
+            heard.take(line, answer)
+            at, line, answer = next(left)
+        place = bisect.bisect_left(begun, found.end())
+        rest = text[slice(*documents[place])] if place < len(documents) else ""
+        yield found[0], rest, set(heard.done)
+
+
+def awaited(net: Network, own: Network, done: set[str]) -> dict[str, int]:
+    """For each observer that was done before `rest` wrote a document, the moment until which it has the outcome
+    awaited.
+
+    Where the lines that were typed are not at hand, an observer was done where `rest` gave it another reaction, or its
+    moment.
+    """
+    found = {}
+    for name in net.observed:
+        moment, is_other = net.pins.get(name), net.reaction(name) != own.reaction(name) or name not in own.pins
+        if moment is not None and (name in done or is_other):
+            found[name] = moment + net.reaction(name)
+    return found
+
+
+def answers_alone(text: str) -> list[str]:
+    """A session without the steps and the documents in it, which leave as many empty lines, by its lines."""
+    parts, at = [], 0
+    for first, last in rests(text):
+        parts += [text[at:first], "\n" * text.count("\n", first, last)]
+        at = last
+    bare = "".join([*parts, text[at:]])
+    bare = STEPS.sub(lambda it: it[0].split("\n")[0] + "\n" * it[0].count("\n"), bare)
+    return [line.rstrip(" \t\r") for line in bare.split("\n")]
+
+
+def turns_of(text: str) -> tuple[list[tuple[int, str, str]], bool]:
+    """Each answer of a session with its place and the typed line before it, or none, and whether all typed lines stand
+    so; where not, none of them is taken."""
+    lines, has_rest = answers_alone(text), bool(rests(text))
+    if not any(TYPED.fullmatch(line) for line in lines):
+        return [(at, "", line) for at, line in enumerate(lines) if ANSWERED.fullmatch(line)], True
+    turns, asked, paired = [], None, True
+    begun = 1 + bool(re.match(r"follow \d", text))
+    for at, line in enumerate(lines):
+        either = EITHER.fullmatch(line)
+        if TYPED.fullmatch(line) or either and asked is None and at >= begun:
+            paired, asked = paired and asked is None, line.removeprefix("> ")
+        elif ANSWERED.fullmatch(line):
+            paired = paired and (asked is not None or at < begun or line == "done")
+            turns.append((at, asked or "", line))
+            asked = None
+        elif asked == "rest" and line == "" and has_rest:
+            asked = None
+    return turns if paired else [(at, "", line) for at, _, line in turns if line != "blame"], paired
+
+
+def tell_followed(net: Network, text: str,
+                  tried: Callable[[int, Heard, list[int]], tuple[Data, list[str]]]) -> tuple[int, Data, list[str]]:
+    """The answers of a text that `follow` wrote: the status, data and lines."""
+    told, says, lacks, heard = [], [], [], Heard()
+    turns, paired = turns_of(text)
+    for at, typed, line in turns:
+        answer = ANSWER.fullmatch(line)
+        if answer:
+            lacks += lacking(net, answer)
+        if answer and not lacks:
+            told.append(tell_answer(net, answer, heard, functools.partial(tried, at)))
+            says += [f"{line}: {told[-1]['says'][0]}", *told[-1]["says"][1:]]
+        heard.take(typed, line)
+    if lacks:
+        says = [f"These answers are of another document: FILE has {' and '.join(sorted(set(lacks)))}."]
+        return 1, {"answer": "rejected", "says": says}, says
+    unpaired = {} if paired else {"says": [UNPAIRED]}
+    return 0, {"answer": "follow", "answers": told, **unpaired}, [*unpaired.get("says", []), *says]

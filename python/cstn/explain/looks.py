@@ -1,0 +1,129 @@
+"""What is worth a second look in a document that is accepted."""
+from collections.abc import Iterator
+from typing import Any
+
+from .asking import Asked
+from .cases import Case, cases_of
+from .limits import ranges, tell_disagreeing, tell_never, tell_repeating, tell_shortest, tell_unlimited
+from .names import shown
+from .networks import Network, constraint, literals, tell_unlabelled, where
+from .shapes import Data, Marks, Tree
+from .trees import MOST_OF_A_LOOK, size
+
+# Where the upper limits times the constraints are more, it is not looked at what may come before what.
+MOST_LOOKED_AT = 1000000
+
+
+def looks(asked: Asked, verdict: str) -> Iterator[tuple[str, Any, list[str]]]:
+    """What is found, by the name that it has as data: as data and in words; after that verdict."""
+    net, tree = asked.net, None
+    is_small = size(net) <= MOST_OF_A_LOOK
+    if is_small and (verdict.startswith("yes") or ranges(net) and not verdict.startswith("no")):
+        tree = asked.tree()
+    yield "tied_to_one_case", *tell_unlabelled(net)
+    yield "no_upper_limit", *tell_unlimited(net, asked.beyond)
+    yield "shortest", *look_at_shortest(net, is_small, tree)
+    yield "disagreeing_reactions", *tell_disagreeing(net)
+    yield "never_in_force", *tell_never(net)
+    yield "repeating_a_label", *tell_repeating(net)
+    yield "nothing_waits", *tell_nothing_waits(net, cases_of(net, tree) if tree is not None else [])
+    yield "may_come_before", *tell_may_come_before(net)
+
+
+def look_at_shortest(net: Network, is_small: bool, tree: Tree | None) -> tuple[list[Data] | None, list[str]]:
+    """The ranges that the plan takes at their shortest, as data and in words; or why they are not told."""
+    if not ranges(net):
+        return [], []
+    if not is_small:
+        return None, ["Which ranges the plan takes at their shortest is not told, since it has up to "
+                      f"{1 << len(net.observers)} ways."]
+    return tell_shortest(net, tree) if tree is not None else (None, [])
+
+
+def waited_for(net: Network, case: Case) -> set[str]:
+    """The steps for which another one waits in a case."""
+    found = {target for number, (source, target, most, _) in enumerate(net.constraints)
+             if most <= 0 and source != target and source in case.moments and target in case.moments
+             and case.holds(net.forces[number])}
+    letters = {letter for name in case.moments for letter in net.executed[name]}
+    return found | {net.observers[letter] for letter in letters}
+
+
+def nothing_waits(net: Network, cases: list[Case]) -> list[tuple[str, list[Case], int]]:
+    """Each step with the cases in which no other one waits for it, and in how many it is executed. The end of the plan
+    is left out, the one of them that comes after the most others; and so is one of whose outcome something hangs in
+    another case."""
+    asked_for = {letter for marks in [*net.executed.values(), *net.forces] for letter in marks}
+    found: dict[str, list[Case]] = {}
+    for case in cases:
+        for name in case.moments.keys() - waited_for(net, case) - {"Z"}:
+            if net.observed.get(name) not in asked_for:
+                found.setdefault(name, []).append(case)
+    counts = {name: sum(name in case.moments for case in cases) for name in found}
+    ends = [name for name in net.names if name in found and len(found[name]) == counts[name]]
+    waits = waits_of(net)
+    end = max(ends, key=lambda it: (counts[it], len(reached(waits, it, net.executed[it]))), default="")
+    return [(name, found[name], counts[name]) for name in net.names if name in found and name != end]
+
+
+def tell_nothing_waits(net: Network, cases: list[Case]) -> tuple[list[Data], list[str]]:
+    """The steps for which nothing waits, as data and in words."""
+    found, lines = nothing_waits(net, cases), []
+    for name, each, count in found:
+        which = f"in {len(each)} of its {count} cases, as{where(each[0].label)[1:]}"
+        if len(each) == count:
+            which = "in every case" if count == len(cases) else "wherever it is executed"
+        lines.append(f"{shown(name)}: {which}")
+    if lines:
+        lines.insert(0, "Steps for which nothing waits, so the plan may end before them. Where that is not meant, a "
+                        "constraint is missing:")
+    data = [{"time_point": name, "cases": len(each), "of": count, "as": each[0].label} for name, each, count in found]
+    return data, lines
+
+
+def waits_of(net: Network) -> dict[str, list[tuple[str, Marks]]]:
+    """For each step those that it does not come before, with where that is so."""
+    found: dict[str, list[tuple[str, Marks]]] = {name: [] for name in net.names}
+    for _, source, target, most, label in net.lowered:
+        if most <= 0 and source != target:
+            found[source].append((target, literals(label)))
+    return found
+
+
+def reached(waits: dict[str, list[tuple[str, Marks]]], begin: str, force: Marks) -> set[str]:
+    """What a step comes after, or at the same moment, wherever these letters are so."""
+    found, left = {begin}, [begin]
+    while left:
+        for target, marks in waits[left.pop()]:
+            if target not in found and marks.items() <= force.items():
+                found.add(target)
+                left.append(target)
+    return found
+
+
+def may_come_before(net: Network) -> list[tuple[int, bool]]:
+    """The ids of constraints that say `at most N after` of a step that may come before, each with whether it always
+    does."""
+    numbers = [number for number, (source, target, most, _) in enumerate(net.constraints)
+               if most > 0 and source not in ("Z", target) and number not in net.never]
+    if len(numbers) * len(net.lowered) > MOST_LOOKED_AT:
+        return []
+    found, waits = [], waits_of(net)
+    for number in numbers:
+        (source, target, *_), force = net.constraints[number], net.forces[number]
+        if source not in reached(waits, target, force):
+            found.append((number, target in reached(waits, source, force)))
+    return found
+
+
+def tell_may_come_before(net: Network) -> tuple[list[Data], list[str]]:
+    """The constraints `at most N after` that let the step come before, as data and in words."""
+    found, lines = may_come_before(net), []
+    for number, always in found:
+        source, target, *_ = net.constraints[number]
+        says = f"{shown(target)} comes before {shown(source)} anyhow, so this limits nothing" if always else \
+            f"nothing keeps {shown(target)} from coming before {shown(source)}"
+        lines.append(f"{net.called(number)}: {constraint(*net.constraints[number])}: {says}")
+    if lines:
+        lines.insert(0, "Steps at most some ticks after others that may as well come before these:")
+    return [{"constraint": number, "always": always} for number, always in found], lines

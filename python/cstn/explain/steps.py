@@ -1,0 +1,124 @@
+"""A plan by its steps: what each waits for, what waits for it, when it comes, and how long it can wait."""
+from .asking import Asked, Stopped
+from .cases import Case, ask_latest, cases_of
+from .names import printed, shown
+from .networks import Network, constraint, counts_where, literals, ticks, where
+from .shapes import Data
+from .trees import MOST_IN_WORDS, size
+
+MOST_GROUPS = 12
+NO_MOMENTS = "When it comes is not told, since {}."
+
+
+def told_cases(asked: Asked) -> tuple[list[Case], str]:
+    """The cases with how long each step can wait in each, or why they are not told."""
+    if size(asked.net) > MOST_IN_WORDS:
+        return [], f"the plan has up to {1 << len(asked.net.observers)} cases"
+    tree = asked.tree()
+    if tree is None:
+        return [], "there is no plan: it is a no, or too much to check"
+    cases = cases_of(asked.net, tree)
+    ask_latest(asked, cases)
+    return cases, ""
+
+
+def moments_of(cases: list[Case], name: str) -> list[Data]:
+    """When a step comes and until when it can wait, each with the cases that have it so, in the order of moments."""
+    found: dict[tuple[int, int | None], list[Case]] = {}
+    for case in cases:
+        if name in case.moments:
+            found.setdefault((case.moments[name], case.latest.get(name)), []).append(case)
+    return [{"at": at, "until": until, "cases": [case.label for case in each]}
+            for (at, until), each in sorted(found.items(), key=lambda it: (it[0][0], it[0][1] or 0))]
+
+
+def when(groups: list[Data]) -> list[str]:
+    """When a step comes, in words."""
+    lines = []
+    for it in groups[:MOST_GROUPS]:
+        says = f"at {it['at']}"
+        if it["until"] is not None:
+            left = it["until"] - it["at"]
+            says += f", and it can wait until {it['until']}, {ticks(left)} more" if left else ", and it cannot wait"
+        if len(groups) > 1:
+            count = len(it["cases"])
+            says += f" ({count} cases, as{where(it['cases'][0])[1:]})" if count > 1 else \
+                f" (where{where(it['cases'][0])[7:]})"
+        lines.append(says)
+    more = len(groups) - MOST_GROUPS
+    return [*lines, f"and {more} more"] if more > 0 else lines
+
+
+def tied(net: Network, numbers: list[int]) -> list[str]:
+    """Some constraints in words."""
+    return [f"{net.called(it)}: {constraint(*net.constraints[it])}{counts_where(net, it)}" for it in numbers]
+
+
+def waits_of(net: Network, name: str) -> list[str]:
+    """The outcomes that the label of a step asks for."""
+    found = [(letter, net.observers[letter], value) for letter, value in literals(net.labels.get(name, "")).items()]
+    return [f"its label: {letter} is to be {str(value).lower()}, and is known {ticks(net.reaction(observer))} after "
+            f"{shown(observer)}" for letter, observer, value in found]
+
+
+def waiting_for(net: Network, name: str) -> list[str]:
+    """The steps whose labels ask for what a step observes."""
+    letter = net.observed.get(name)
+    names = [shown(other) for other in net.names if letter and letter in net.executed[other]]
+    if len(names) < 2:
+        return [f"the label of {it}, which asks for {letter}" for it in names]
+    return [f"the labels of {', '.join(names)}, which ask for {letter}"]
+
+
+def tell_step(asked: Asked, called: str) -> tuple[int, Data, list[str]]:
+    """What a step waits for, what waits for it, what limits it, when it comes, and how long it can wait."""
+    net, name = asked.net, called if called in asked.net.places else printed(called)
+    if name not in net.places:
+        raise Stopped(1, f"FILE has no time-point {shown(name)}")
+    sides: dict[str, list[int]] = {"waits": [], "waited_for": [], "limits": []}
+    for number in net.ties[name]:
+        source, target, most, _ = net.constraints[number]
+        side = "limits" if most > 0 or source == target else "waits" if source == name else "waited_for"
+        sides[side].append(number)
+    cases, why = told_cases(asked)
+    groups, label = moments_of(cases, name), net.labels.get(name, "")
+    letter = net.observed.get(name)
+    told = f" It tells {letter}, which is known {ticks(net.reaction(name))} later." if letter else ""
+    lines = [f"{net.told_at(name, 'id')} is executed {'only' + where(label)[1:] if label else 'in every case'}.{told}",
+             *(f"It comes {it}." for it in when(groups))]
+    lines += [NO_MOMENTS.format(why)] if why else []
+    for head, words in (("It waits for:", tied(net, sides["waits"]) + waits_of(net, name)),
+                        ("What waits for it:", tied(net, sides["waited_for"]) + waiting_for(net, name)),
+                        ("What is to come some ticks after at most:", tied(net, sides["limits"]))):
+        lines += [head, *(f"  {it}" for it in words or ["nothing"])]
+    return 0, {"answer": "step", "name": name, "moments": groups if cases else None, **sides}, lines
+
+
+def tell_float(asked: Asked) -> tuple[int, Data, list[str]]:
+    """When each step comes, and how long it can wait where all before it came as planned."""
+    cases, why = told_cases(asked)
+    if not cases:
+        return 1, {"answer": "float", "steps": None}, [f"How long each step can wait is not told, since {why}."]
+    lines = ["How long each step can wait, where all before it comes as planned, and what comes after makes up for it:"]
+    steps = []
+    first = {name: min((it.moments[name] for it in cases if name in it.moments), default=0) for name in asked.net.names}
+    for name in sorted(asked.net.names, key=first.__getitem__):
+        groups = moments_of(cases, name)
+        if name != "Z" and groups:
+            lines.append(f"{shown(name)}: {spread(groups)}")
+            steps.append({"name": name, "moments": groups})
+    return 0, {"answer": "float", "steps": steps}, lines
+
+
+def spread(groups: list[Data]) -> str:
+    """The moments of a step and how long it can wait, from the least to the most."""
+    moments = sorted({it["at"] for it in groups})
+    lefts = sorted({it["until"] - it["at"] for it in groups if it["until"] is not None})
+    says = f"at {moments[0]}" + (f" to {moments[-1]}" if len(moments) > 1 else "")
+    if not lefts:
+        return says
+    tightest = min((it for it in groups if it["until"] is not None), key=lambda it: int(it["until"] - it["at"]))
+    left = f"{ticks(lefts[0])}, until {tightest['until']}"
+    if len(lefts) == 1:
+        return f"{says}; {left}" if len(groups) == 1 else f"{says}; {ticks(lefts[0])} in each case"
+    return f"{says}; {left}{where(tightest['cases'][0])}; up to {ticks(lefts[-1])} in others"

@@ -1,0 +1,526 @@
+"""A plan that is carried out: what happens is told, and what is next is answered.
+
+The journal decides. An event counts once its entry is kept, and a process is but a memory of the journal: one that dies
+or hangs is replaced, and another client on another machine sees the same plan.
+"""
+from __future__ import annotations
+
+import threading
+import time
+from collections.abc import Callable, Iterable, Iterator
+from contextlib import contextmanager, nullcontext
+from dataclasses import dataclass, replace
+from datetime import datetime, timezone
+from typing import Self, TypeVar
+
+from cstn import program as programs
+from cstn import search
+from cstn.answers import Answer, Blame, Can, Done, Next, Refusal, Until, Verdict
+from cstn.child import Child
+from cstn.clock import Clock
+from cstn.errors import (Changed, Contradicts, Moved, NotKept, NotYet, OutOfRange, OutOfTime, Refused, Unavailable,
+                         Unknown, WaitsFor)
+from cstn.events import Add, Change, Did, Event, Moment, Now, Saw, with_key
+from cstn.journal import Forgotten, Head, Journal, KeepsDocuments, MemoryJournal, Told, holding, parsed
+from cstn.names import printed
+from cstn.outlook import Late, Outlook, WayOut, outlook
+from cstn.plan import Plan
+from cstn.session import Limits, Session, Standing, Telling
+from cstn.state import State
+
+Found = TypeVar("Found")
+MOST_GROWN = 8 * programs.CAP
+"""Up to which cap a follower grows by itself where a verdict is unknown."""
+TRIES = 5
+"""How often an event is told anew where other clients were first."""
+
+
+@dataclass(frozen=True)
+class Receipt:
+    """What became of an event that was told.
+
+    - `again`: it was told before, and nothing has changed;
+    - `waits_for`: it came too soon, is kept, and is told again by itself when that has come;
+    - `added`: the id of the limit that it added;
+    - `taken`: the keys of events that had waited for it;
+    - `fallen`: the keys of events that it made impossible; of one that was told before and fell since, its own.
+    """
+
+    key: str
+    version: int
+    verdict: Verdict
+    again: bool = False
+    waits_for: WaitsFor = WaitsFor()
+    added: int | None = None
+    taken: tuple[str, ...] = ()
+    fallen: tuple[str, ...] = ()
+
+
+class Follower:
+    """A plan with its journal. For several threads: calls queue.
+
+    `seconds` is the time limit of each answer. `clock` turns datetimes into ticks (without one, that of the journal);
+    with it, a fact that is more than `ahead` ticks in the future is refused (None: any is taken).
+    """
+
+    def __init__(self, plan: Plan, journal: Journal, *, clock: Clock | None = None, cap: int = programs.CAP,
+                 most_cap: int = MOST_GROWN, seconds: float = programs.SECONDS, ahead: int | None = 1) -> None:
+        self.plan, self.journal, self.clock, self.ahead = plan, journal, clock, ahead
+        self.allowed, self.most_cap = Limits(cap, seconds), most_cap
+        self.lock = threading.RLock()
+        self.restarts = 0
+        self.session: Session | None = None
+        self.version = 0
+        self.head: Head | None = None
+        self.entries: list[Told | Forgotten] = []
+        self.keys: dict[str, Told] = {}
+        self.last: tuple[int, Next | Done | Verdict] | None = None
+        """What was next at a version."""
+
+    # ---- what happens ----
+
+    def tell(self, event: Event, *, wait: bool = True, expect: int | None = None) -> Receipt:
+        """Tells an event, and answers once its entry is kept.
+
+        With `expect` raises `Moved` where the version is another one. What comes too soon is kept and waits, or with
+        `wait=False` raises `NotYet`. Raises `Refused` and its kinds, `NotKept`, `Busy`, `OutOfTime`, `Unavailable`.
+        """
+        for _ in range(TRIES):
+            try:
+                return self.tell_once(event, wait, expect)
+            except Moved as error:
+                moved = error
+                if expect is not None:
+                    break
+        raise moved
+
+    def tell_all(self, events: Iterable[Event]) -> list[Receipt | Refused]:
+        """Tells events one after another; what is refused stands in its place, and the others are told."""
+        found: list[Receipt | Refused] = []
+        for event in events:
+            try:
+                found.append(self.tell(event))
+            except Refused as error:
+                found.append(error)
+        return found
+
+    def did(self, step: str, at: Moment, key: str | None = None) -> Receipt:
+        """A step was done."""
+        return self.tell(Did(step, at, key))
+
+    def saw(self, letter: str, value: bool, at: Moment, key: str | None = None) -> Receipt:
+        """An outcome came."""
+        return self.tell(Saw(letter, value, at, key))
+
+    def now(self, at: Moment) -> Receipt:
+        """It is this moment, and nothing else has happened."""
+        return self.tell(Now(at))
+
+    def correct(self, key: str, instead: Event | None = None, *, expect: int | None = None) -> Receipt:
+        """The event of a key was wrong: it is left out, or another one stands in its place. The journal is told anew.
+
+        Facts that can't be after that are in `fallen`. An added limit is never left out, since later ids would be
+        others: say `Change(id, None)`.
+        """
+        with self.guarded():
+            with self.turn(holds=True):
+                self.expects(expect)
+                self.can_be_corrected(key, instead)
+                entry = Forgotten(key, instead and with_key(self.placed(instead), key), moment_of_writing())
+                before = self.asked(Session.standings)
+                self.mend(entry)
+            return self.receipt(key, before)
+
+    def can_be_corrected(self, key: str, instead: Event | None) -> None:
+        if key not in self.keys:
+            raise Unknown("key", f"no event has the key {key!r}", key)
+        if isinstance(self.keys[key].event, Add) or isinstance(instead, Add):
+            raise Refused("key", "a limit that was added is taken out by Change(id, None), and one is added by Add")
+
+    def mend(self, entry: Forgotten) -> None:
+        """Tells the journal anew with a correction, and keeps that if what stands instead can be."""
+        mended = Session(self.plan, self.allowed, [*self.entries, entry])
+        try:
+            if entry.instead is not None and mended.tellings[entry.forget].standing is Standing.FELL:
+                raise Refused("key", mended.tellings[entry.forget].why)
+            self.append(entry)
+        except BaseException:
+            mended.close()
+            raise
+        self.release()
+        self.session = mended
+
+    # ---- what is asked ----
+
+    def verdict(self) -> Verdict:
+        """Whether what is left can be carried out."""
+        with self.turn():
+            return self.known_verdict()
+
+    def next(self) -> Next | Done | Verdict:
+        """What is next; the verdict after a "no", and where it is unknown."""
+        with self.turn():
+            return self.following()
+
+    def by(self, step: str) -> int | None:
+        """Until when a step can wait; None after a "no", and where the verdict is unknown. Up to 20 checks.
+
+        Raises `Unknown`, `Contradicts` where it was done or is ruled out.
+        """
+        with self.turn():
+            answer = self.known(by_line(step))
+            state = self.asked(lambda session: session.state)
+        if isinstance(answer, Refusal):
+            if answer.code == "F3":
+                raise Unknown("F3", f"no step is named {step}", step)
+            says = f"{step} was done" if step in state.done else f"{step} cannot wait: {answer.code}"
+            raise Contradicts(answer.code, says, state.done.get(step))
+        return answer.at if isinstance(answer, Until) else None
+
+    def outlook(self, *, latest: bool = True) -> Outlook:
+        """All of it in one answer. With `latest` up to 20 checks for each step that is left."""
+        with self.turn():
+            following = self.following()
+            verdict = following if isinstance(following, Verdict) else self.known_verdict()
+            state = self.asked(lambda session: session.state)
+            until: dict[str, int] = {}
+            if latest and isinstance(following, Next):
+                for step in state.left():
+                    answer = self.known(by_line(step))
+                    if isinstance(answer, Until):
+                        until[step] = answer.at
+            session = self.asked(lambda session: session)
+            return outlook(self.version, session, verdict, following, until)
+
+    def blame(self) -> tuple[int, ...] | None:
+        """After a "no" the ids of limits that can't be met together, without any where the facts alone are to blame;
+        None else. In a process of its own: a check for each limit on which the "no" stands."""
+        with self.copied() as (child, _):
+            answer = child.ask("blame")
+        return answer.ids if isinstance(answer, Blame) else None
+
+    def ways_out(self, *, seconds: float = 60.0) -> tuple[WayOut, ...]:
+        """After a "no", for each blamed limit, the deadline and each outcome that is awaited later than now, the
+        number that would do if all else stays. In a process of its own: up to 22 checks for each, beside `blame`.
+
+        After `seconds` no further number is looked for, and what was not looked for is not in the answer.
+        """
+        until, found = time.monotonic() + seconds, list[WayOut]()
+        with self.copied() as (child, state):
+            for way in search.ways_out(child, state) if child.verdict().can is Can.NO else ():
+                found.append(way)
+                if time.monotonic() > until:
+                    break
+        return tuple(found)
+
+    def late(self, letter: str) -> Late:
+        """Until when an awaited outcome may be late. In a process of its own: up to 22 checks.
+
+        After a "no" it is the moment that would still do. Raises `Refused` where the outcome is not awaited.
+        """
+        with self.copied() as (child, state):
+            if letter not in state.awaited():
+                raise Refused("F6", f"{letter} is not awaited")
+            return search.late(child, state, letter)
+
+    def rest(self) -> bytes:
+        """The document of what is left. It makes no check."""
+        with self.turn():
+            return self.asked(lambda session: session.child.rest())
+
+    def lines(self) -> tuple[str, ...]:
+        """The lines that were taken, in order: told to `follow` over the same document they bring the plan back."""
+        with self.turn():
+            return self.asked(lambda session: tuple(session.state.lines))
+
+    def history(self) -> tuple[Telling, ...]:
+        """What was told, in order, with corrections applied, and what became of it; of times in a row the last."""
+        with self.turn():
+            return self.asked(Session.history)
+
+    def what_if(self) -> Trial:
+        """A copy with a process of its own: `with follower.what_if() as trial: trial.did("Sample", 9)`. It keeps
+        nothing."""
+        with self.turn():
+            texts = [entry.text() for entry in [self.head, *self.entries] if entry is not None]
+            return Trial(self.plan, MemoryJournal(texts), clock=self.clock, cap=self.allowed.cap,
+                         most_cap=self.most_cap, seconds=self.allowed.seconds, ahead=None)
+
+    def release(self) -> None:
+        """Lets the process go; the next call starts another one. What is known is in the journal."""
+        with self.lock:
+            if self.session is not None:
+                self.session.close()
+                self.session = None
+
+    close = release
+
+    def __enter__(self) -> Self:
+        return self
+
+    def __exit__(self, *_: object) -> None:
+        self.close()
+
+    # ---- the journal ----
+
+    @contextmanager
+    def guarded(self) -> Iterator[None]:
+        """One call at a time on the plan. Where anything goes wrong but a refusal, nothing in memory is relied on."""
+        with self.lock:
+            try:
+                yield
+            except Refused:
+                raise
+            except BaseException:
+                self.start_over()
+                raise
+
+    @contextmanager
+    def turn(self, holds: bool = False) -> Iterator[None]:
+        """One call with all entries read; one that writes holds the journal against other clients."""
+        with self.guarded(), holding(self.journal) if holds else nullcontext():
+            self.read_on()
+            yield
+
+    def start_over(self) -> None:
+        self.release()
+        self.version, self.head, self.entries, self.keys, self.last = 0, None, [], {}, None
+
+    def read_on(self) -> None:
+        """Reads what others have kept since. Raises `Changed` where the journal is of another plan."""
+        try:
+            found = list(self.journal.read(self.version))
+        except Exception as error:
+            raise NotKept(f"the journal cannot be read: {error}") from error
+        for version, text in found:
+            if version != self.version + 1:
+                raise Changed(f"the journal has no entry {self.version + 1}")
+            entry = parsed(version, text)
+            if isinstance(entry, Head):
+                self.begin_with(entry)
+            elif self.head is None:
+                raise Changed("the journal does not begin with what it belongs to")
+            else:
+                self.note(entry)
+            self.version = version
+
+    def begin_with(self, head: Head) -> None:
+        if head.plan != self.plan.digest:
+            raise Changed("the journal is of another document or another deadline")
+        self.head = head
+        self.clock = self.clock or head.clock
+
+    def note(self, entry: Told | Forgotten) -> None:
+        self.entries.append(entry)
+        if isinstance(entry, Told):
+            self.keys[str(entry.event.key)] = entry
+
+    def append(self, entry: Told | Forgotten) -> None:
+        """Keeps an entry, and before the first one to what the journal belongs. Raises `Moved`, `NotKept`."""
+        try:
+            if self.head is None:
+                head = Head.of(self.plan, self.clock)
+                if isinstance(self.journal, KeepsDocuments):
+                    self.journal.keep_document(self.plan.document)
+                self.journal.append(1, head.text())
+                self.head, self.version = head, 1
+            self.journal.append(self.version + 1, entry.text())
+        except Moved:
+            raise
+        except Exception as error:
+            raise NotKept(f"the journal cannot take it: {error}") from error
+        self.version += 1
+        self.note(entry)
+
+    # ---- the process ----
+
+    def caught_up(self) -> Session:
+        """The process that was told all entries."""
+        session = self.session
+        if session is not None:
+            new = self.entries[session.covers:]
+            if not session.child.is_alive or any(isinstance(entry, Forgotten) for entry in new):
+                self.release()
+                session = None
+        if session is None:
+            session = self.session = Session(self.plan, self.allowed, self.entries)
+            return session
+        for entry in new:
+            assert isinstance(entry, Told)
+            session.add(entry.event, entry.when)
+            session.covers += 1
+        return session
+
+    def asked(self, question: Callable[[Session], Found]) -> Found:
+        """What a process answers. One that is gone, or hangs, is replaced, once."""
+        was_there = self.session is not None
+        try:
+            return question(self.caught_up())
+        except (OutOfTime, Unavailable) as error:
+            self.release()
+            self.restarts += 1
+            if not was_there and isinstance(error, OutOfTime):
+                raise
+        try:
+            return question(self.caught_up())
+        except (OutOfTime, Unavailable):
+            self.release()
+            raise
+
+    def known(self, question: Callable[[Session], Answer]) -> Answer:
+        """What a process answers; where the cap leaves that unknown, one with a larger cap, as long as time allows."""
+        answer = self.asked(question)
+        while isinstance(answer, Verdict) and answer.can is Can.UNKNOWN and self.allowed.cap < self.most_cap:
+            before = self.allowed
+            self.allowed = replace(before, cap=min(2 * before.cap, self.most_cap))
+            self.release()
+            try:
+                answer = self.asked(question)
+            except (OutOfTime, Unavailable):
+                self.allowed, self.most_cap = before, before.cap
+        return answer
+
+    def known_verdict(self) -> Verdict:
+        answer = self.known(Session.now_verdict)
+        assert isinstance(answer, Verdict)
+        return answer
+
+    def following(self) -> Next | Done | Verdict:
+        if self.last is not None and self.last[0] == self.version:
+            return self.last[1]
+        answer = self.known(Session.next)
+        if not isinstance(answer, Next | Done | Verdict):
+            raise Unavailable(f"next was answered {answer}")
+        self.last = self.version, answer
+        return answer
+
+    @contextmanager
+    def copied(self) -> Iterator[tuple[Child, State]]:
+        """A process of its own that was told the same lines, and what is known; nobody else waits for it."""
+        with self.turn():
+            state = self.asked(lambda session: session.state.copy())
+            allowed = self.allowed
+        child = Child(self.plan.document, self.plan.asked_deadline, cap=allowed.cap, seconds=allowed.seconds,
+                      program=self.plan.program)
+        try:
+            for line in state.lines:
+                child.ask(line)
+            yield child, state
+        finally:
+            child.close()
+
+    # ---- an event ----
+
+    def expects(self, expect: int | None) -> None:
+        if expect is not None and expect != self.version:
+            raise Moved(self.version)
+
+    def tick(self, at: Moment) -> int:
+        """A moment as a tick."""
+        if isinstance(at, datetime):
+            if self.clock is None:
+                raise TypeError("a moment of the wall clock needs a Clock")
+            at = self.clock.tick_of(at)
+        if at < 0:
+            raise OutOfRange("clock", f"{at} is before the plan's start")
+        return at
+
+    def placed(self, event: Event) -> Event:
+        """The event with its moment as a tick, and a key. Raises `OutOfRange` for what the clock excludes."""
+        if not isinstance(event, Add | Change):
+            at = self.tick(event.at)
+            if isinstance(event, Did | Saw | Now) and self.clock is not None and self.ahead is not None:
+                if at > (now := self.clock.now()) + self.ahead:
+                    raise OutOfRange("clock", f"{at} is in the future: it is {now}, or a clock is wrong")
+            event = replace(event, at=at)
+        if isinstance(event, Add) and not is_text(event.says):
+            raise Refused("line", f"no sentence: {event.says!r}")
+        if event.key is None:
+            return with_key(event, f"#{max(self.version, 1) + 1}")
+        if event.key.startswith("#") or not is_text(event.key):
+            raise Refused("key", f"a key is a text that does not begin with #: {event.key!r}")
+        return event
+
+    def tell_once(self, event: Event, wait: bool, expect: int | None) -> Receipt:
+        with self.guarded():
+            with self.turn(holds=True):
+                self.expects(expect)
+                event = self.placed(event)
+                key = str(event.key)
+                before = self.told(key, event, wait)
+            return self.receipt(key, before)
+
+    def told(self, key: str, event: Event, wait: bool) -> dict[str, Standing] | None:
+        """Tells an event and keeps it: what had become of each other event before, or nothing where it was told."""
+        if (known := self.keys.get(key)) is not None:
+            if known.event != event:
+                raise Contradicts("key", f"another event was told with the key {key!r}", with_key=key)
+            return None
+        telling = self.asked(lambda session: first_told(session, event, wait))
+        if telling.standing is Standing.KNOWN:
+            return None
+        teller = self.session
+        assert teller is not None
+        before = teller.standings()
+        entry = Told(event, telling.answer, moment_of_writing())
+        self.append(entry)
+        try:
+            teller.keep(telling, entry.when)
+            teller.covers += 1
+        except (OutOfTime, Unavailable):
+            self.release()
+        return before
+
+    def receipt(self, key: str, before: dict[str, Standing] | None) -> Receipt:
+        """What became of an event, and of those that had waited or held before it. A verdict that is not had in time is
+        unknown: the event is kept."""
+        try:
+            verdict = self.known_verdict()
+        except (OutOfTime, Unavailable):
+            verdict = Verdict(Can.UNKNOWN)
+        tellings = self.asked(lambda session: session.tellings)
+        own = tellings.get(key)
+        changed = dict[str, Standing]()
+        if before is not None:
+            changed = {other: it.standing for other, it in tellings.items()
+                       if other != key and before.get(other) is not it.standing}
+        elif own is not None and own.standing is Standing.FELL:
+            changed = {key: own.standing}
+        return Receipt(key, self.version, verdict, before is None, own.waits_for if own else WaitsFor(), added_by(own),
+                       tuple(other for other, standing in changed.items() if standing is Standing.TAKEN),
+                       tuple(other for other, standing in changed.items() if standing is Standing.FELL))
+
+
+class Trial(Follower):
+    """A copy of a plan for questions of "what if"."""
+
+
+def first_told(session: Session, event: Event, wait: bool) -> Telling:
+    """Tells an event; one that comes too soon waits, if it may."""
+    try:
+        return session.tell(event)
+    except NotYet as error:
+        if not wait:
+            raise
+        return Telling(event, Standing.WAITS, f"refused {error.code}", waits_for=error.waits_for, why=error.says)
+
+
+def by_line(step: str) -> Callable[[Session], Answer]:
+    """The question until when a step can wait."""
+    return lambda session: session.child.ask(f"by {printed(step)}")
+
+
+def added_by(telling: Telling | None) -> int | None:
+    """The id of the limit that an event added."""
+    if telling is not None and isinstance(telling.event, Add) and telling.standing is Standing.TAKEN:
+        return int(telling.answer.split(" ")[1])
+    return None
+
+
+def is_text(value: str) -> bool:
+    """Whether a text can be written: it has no half of a character."""
+    return not any("\ud800" <= c <= "\udfff" for c in value)
+
+
+def moment_of_writing() -> str:
+    return datetime.now(timezone.utc).isoformat(timespec="seconds")

@@ -1,0 +1,183 @@
+"""A document that was read: its steps, its limits, and what they say."""
+from __future__ import annotations
+
+import hashlib
+import re
+from collections.abc import Iterable, Sequence
+from dataclasses import dataclass
+from functools import cached_property
+from pathlib import Path
+from typing import Self
+
+from cstn import program as programs
+from cstn.answers import Verdict
+from cstn.errors import Unavailable
+from cstn.names import Label, literals
+from cstn.sentences import sentences
+
+ENTITY = re.compile(r"&(amp|lt|gt|quot|#\d+);")
+ENTITIES = {"amp": "&", "lt": "<", "gt": ">", "quot": '"'}
+NODE = re.compile(r'<node id="([^"]*)"')
+EDGE = re.compile(r'<edge source="([^"]*)" target="([^"]*)">.*\{\((-?\d+), ([^)]*)\)\}')
+DATA = re.compile(r'<data key="(\w+)">([^<]*)</data>')
+
+
+@dataclass(frozen=True)
+class Step:
+    """A time-point: its name as in the document, what it observes and after how many ticks that is known, and where it
+    is executed."""
+
+    name: str
+    observes: str | None
+    reaction: int
+    label: Label
+    says: str = ""
+
+
+@dataclass(frozen=True)
+class Limit:
+    """`target` comes at most `most` ticks after `source`, where `label` holds: below 0, `source` comes at least that
+    many after `target`. `says` is the sentence beside it in the document."""
+
+    id: int
+    source: str
+    target: str
+    most: int
+    label: Label
+    says: str = ""
+
+    def in_words(self) -> str:
+        """What the limit says: its sentence, or one made of its parts."""
+        if self.says:
+            return self.says
+        if self.target == "Z" and self.most <= 0:
+            return f"{self.source} at {-self.most} or later"
+        if self.source == "Z" and self.most >= 0:
+            return f"{self.target} at {self.most} or earlier"
+        if self.most < 0:
+            return f"{self.source} at least {-self.most} after {self.target}"
+        return f"{self.target} at most {self.most} after {self.source}"
+
+
+@dataclass(frozen=True)
+class Plan:
+    """A document whose form was accepted. The bytes are kept; no file is opened twice."""
+
+    document: bytes
+    asked_deadline: int | None
+    steps: tuple[Step, ...]
+    limits: tuple[Limit, ...]
+    deadline: int
+    digest: str
+    """The SHA-256 of what was understood: of the canonical document, deadline included."""
+    program: str | None = None
+
+    @classmethod
+    def read(cls, document: bytes, *, deadline: int | None = None, program: str | None = None) -> Self:
+        """Reads a document. Raises `BadDocument`, `NoProgram`, `Unavailable`."""
+        _, text = programs.ask("save", document, programs.options(deadline, None), program=program)
+        steps, limits, found = understood(text, document)
+        return cls(document, deadline, steps, limits, found, hashlib.sha256(text.encode()).hexdigest(), program)
+
+    @classmethod
+    def load(cls, path: str | Path, *, deadline: int | None = None, program: str | None = None) -> Self:
+        """Reads the document of a file."""
+        return cls.read(Path(path).read_bytes(), deadline=deadline, program=program)
+
+    def check(self, *, cap: int = programs.CAP, seconds: float | None = programs.SECONDS) -> Verdict:
+        """Whether the plan can be carried out, whatever is observed. Raises `OutOfTime`."""
+        return programs.check(self.document, self.asked_deadline, cap, seconds=seconds, program=self.program)
+
+    def saved(self, changed: Iterable[Limit] = (), deadline: int | None = None) -> bytes:
+        """The canonical document, as `save` writes it: with some limits in place of those of their ids, and a deadline
+        of its own."""
+        instead = {limit.id: limit for limit in changed}
+        limits = [instead.get(limit.id, limit) for limit in self.limits]
+        return canonical(self.steps, limits, self.deadline if deadline is None else deadline)
+
+    @cached_property
+    def by_name(self) -> dict[str, Step]:
+        return {step.name: step for step in self.steps}
+
+    @cached_property
+    def observers(self) -> dict[str, Step]:
+        """For each letter the step that observes it."""
+        return {step.observes: step for step in self.steps if step.observes}
+
+    @cached_property
+    def document_digest(self) -> str:
+        """The SHA-256 of the document's bytes."""
+        return hashlib.sha256(self.document).hexdigest()
+
+    def letters_of(self, step: str) -> tuple[str, ...]:
+        """The letters that have to be known before a step with a label is executed, those of its observers too."""
+        found: dict[str, None] = {}
+        left = list(self.by_name[step].label)
+        while left:
+            letter = left.pop(0)
+            if letter not in found:
+                found[letter] = None
+                left += self.observers[letter].label
+        return tuple(found)
+
+
+def understood(text: str, document: bytes) -> tuple[tuple[Step, ...], tuple[Limit, ...], int]:
+    """The steps, limits and deadline of a canonical document, with the sentences of the one that was read."""
+    steps: list[Step] = []
+    limits: list[Limit] = []
+    deadline = None
+    for line in text.split("\n"):
+        if (node := NODE.match(line)) is not None:
+            data = dict(DATA.findall(line))
+            steps.append(Step(plain(node[1]), data.get("Obs"), int(data.get("Reaction", 1)),
+                              literals(data.get("Label", ""))))
+        elif (edge := EDGE.match(line)) is not None:
+            limits.append(Limit(len(limits), plain(edge[1]), plain(edge[2]), int(edge[3]), literals(edge[4])))
+        elif (data_line := DATA.match(line)) is not None:
+            deadline = int(data_line[2])
+    if deadline is None:
+        raise Unavailable("what `save` wrote has no deadline")
+    return tuple(steps), with_sentences(limits, sentences(document)), deadline
+
+
+def with_sentences(limits: Sequence[Limit], said: Sequence[tuple[str, str, int, str]]) -> tuple[Limit, ...]:
+    """The limits with their sentences, if these are of the same limits, one by one; else without."""
+    if [(it.source, it.target, it.most) for it in limits] != [it[:3] for it in said]:
+        return tuple(limits)
+    return tuple(Limit(it.id, it.source, it.target, it.most, it.label, says[3]) for it, says in zip(limits, said))
+
+
+def plain(name: str) -> str:
+    """A name without the references of a canonical document."""
+    return ENTITY.sub(lambda found: ENTITIES.get(found[1]) or chr(int(found[1][1:])), name)
+
+
+def canonical(steps: Iterable[Step], limits: Iterable[Limit], deadline: int) -> bytes:
+    """A document in the one form that `save` writes."""
+    lines = ['<?xml version="1.0" encoding="UTF-8"?>', "<graphml>", '<graph edgedefault="directed">',
+             data_of("Deadline", str(deadline))]
+    for step in steps:
+        data = data_of("Obs", step.observes or "")
+        data += data_of("Reaction", str(step.reaction) if step.observes and step.reaction > 1 else "")
+        data += data_of("Label", spelled(step.label))
+        lines.append(f'<node id="{quoted(step.name)}"' + (f">{data}</node>" if data else "/>"))
+    for limit in limits:
+        values = f"{{({limit.most}, {spelled(limit.label) or '⊡'})}}"
+        data = data_of("Type", "requirement") + data_of("LabeledValues", values)
+        lines.append(f'<edge source="{quoted(limit.source)}" target="{quoted(limit.target)}">{data}</edge>')
+    return "".join(line + "\n" for line in [*lines, "</graph>", "</graphml>"]).encode()
+
+
+def data_of(key: str, value: str) -> str:
+    return f'<data key="{key}">{value}</data>' if value else ""
+
+
+def spelled(label: Label) -> str:
+    """A label as documents have it."""
+    return "".join(letter if label[letter] else "¬" + letter for letter in sorted(label))
+
+
+def quoted(name: str) -> str:
+    """A name as a canonical document has it."""
+    references = {character: f"&{entity};" for entity, character in ENTITIES.items()}
+    return "".join(references.get(c) or (f"&#{ord(c)};" if ord(c) < 32 or ord(c) == 127 else c) for c in name)

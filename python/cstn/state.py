@@ -1,0 +1,82 @@
+"""What is known of a plan that is carried out, as far as lines and answers tell it."""
+from __future__ import annotations
+
+from dataclasses import dataclass, field, replace
+
+from cstn.answers import Answer, Edited
+from cstn.events import Add, Change, Deadline, Did, Event, Expect, Now, Saw
+from cstn.plan import Limit, Plan
+
+
+@dataclass(frozen=True)
+class Seen:
+    """An outcome that was told, and when it came."""
+
+    value: bool
+    at: int
+
+
+@dataclass
+class State:
+    """What was done and seen, what is expected, and the limits as they are now. Moments are ticks."""
+
+    plan: Plan
+    now: int = 0
+    deadline: int = 0
+    done: dict[str, int] = field(default_factory=dict)
+    seen: dict[str, Seen] = field(default_factory=dict)
+    expected: dict[str, int] = field(default_factory=dict)
+    limits: dict[int, Limit] = field(default_factory=dict)
+    lines: list[str] = field(default_factory=list)
+    """The lines that were taken, in the order in which they were."""
+
+    @classmethod
+    def of(cls, plan: Plan) -> State:
+        state = cls(plan, deadline=plan.deadline, limits={limit.id: limit for limit in plan.limits})
+        state.done["Z"] = 0
+        return state
+
+    def copy(self) -> State:
+        """The same, for who goes on from here."""
+        return replace(self, done=dict(self.done), seen=dict(self.seen), expected=dict(self.expected),
+                       limits=dict(self.limits), lines=list(self.lines))
+
+    def take(self, event: Event, line: str, answer: Answer) -> None:
+        """Records an event whose moment is a tick, which the program has taken."""
+        self.lines.append(line)
+        match event:
+            case Did(step, int(at)):
+                self.done[step], self.now = at, max(self.now, at)
+            case Saw(letter, value, int(at)):
+                self.seen[letter], self.now = Seen(value, at), max(self.now, at)
+            case Expect(letter, int(at)):
+                self.expected[letter] = at
+            case Now(int(at)):
+                self.now = max(self.now, at)
+            case Deadline(int(at)):
+                self.deadline = at
+            case Add(source, target, most, label, says) if isinstance(answer, Edited):
+                self.limits[answer.number] = Limit(answer.number, source, target, most, label, says)
+            case Change(number, None):
+                self.limits.pop(number, None)
+            case Change(number, int(most)):
+                self.limits[number] = replace(self.limits[number], most=most)
+
+    def is_left_out(self, step: str) -> bool:
+        """Whether what was seen rules a step out."""
+        labels = [self.plan.by_name[step].label,
+                  *(self.plan.observers[letter].label for letter in self.plan.letters_of(step))]
+        return any(letter in self.seen and self.seen[letter].value != value
+                   for label in labels for letter, value in label.items())
+
+    def left(self) -> list[str]:
+        """The steps that were neither done nor ruled out, in the order of the document."""
+        return [step.name for step in self.plan.steps
+                if step.name not in self.done and not self.is_left_out(step.name)]
+
+    def awaited(self) -> dict[str, int]:
+        """The letters whose observer was done and whose outcome was not told, each with the moment at which it is
+        expected."""
+        return {letter: self.expected.get(letter, self.done[step.name] + step.reaction)
+                for letter, step in self.plan.observers.items()
+                if step.name in self.done and letter not in self.seen}

@@ -1,0 +1,164 @@
+"""The board without a browser: who is heard, what is read, and what a page is given."""
+import tempfile
+import unittest
+from datetime import datetime, timedelta, timezone
+from pathlib import Path
+from typing import Any
+
+from cstn import Add, Change, Deadline, Did, Event, Expect, Moved, Now, OutOfRange, Saw, SqliteStore
+from cstn.board.guard import Asked, Guard
+from cstn.board.news import MOST, News
+from cstn.board.plans import Board, Document, Timing
+from cstn.board.reading import Wrong, event_of, key_of
+from cstn.board.words import is_least, limit_parts, shown
+from cstn.plan import Limit
+from tests.support import CLINIC
+
+HOST = "127.0.0.1:8322"
+OWN = f"http://{HOST}"
+
+HEARD = [
+    ("its own page", Asked(HOST, OWN, "same-origin", True, True), True),
+    ("a page that is opened", Asked(HOST, None, "none", False, False), True),
+    ("a program that asks", Asked(HOST, None, None, False, False), True),
+    ("a link to it", Asked(HOST, None, "cross-site", False, False, True), True),
+    ("a form of another site", Asked(HOST, None, "cross-site", True, True, True), False),
+    ("another host", Asked("evil.example", OWN, None, False, False), False),
+    ("a host with another port", Asked("127.0.0.1:1", None, None, False, False), False),
+    ("another origin", Asked(HOST, "http://evil.example", None, False, False), False),
+    ("no origin, but it tells", Asked(HOST, None, None, True, True), False),
+    ("an origin that is hidden", Asked(HOST, "null", None, True, True), False),
+    ("another site, by the browser", Asked(HOST, None, "cross-site", False, False), False),
+    ("a form", Asked(HOST, OWN, "same-origin", True, False), False),
+]
+
+READ: list[tuple[dict[str, Any], Event | None]] = [
+    ({"kind": "did", "step": 1, "at": 5}, Did("Sample", 5)),
+    ({"kind": "saw", "letter": "i", "value": False, "at": 5}, Saw("i", False, 5)),
+    ({"kind": "await", "letter": "i", "at": 90}, Expect("i", 90)),
+    ({"kind": "now", "at": 0}, Now(0)),
+    ({"kind": "deadline", "at": 400}, Deadline(400)),
+    ({"kind": "change", "limit": 2, "value": 107}, Change(2, 107)),
+    ({"kind": "change", "limit": 1, "value": 60}, Change(1, -60)),
+    ({"kind": "remove", "limit": 2}, Change(2, None)),
+    ({"kind": "add", "step": 2, "from": 1, "bound": "least", "value": 70}, Add("Antibiotic", "Sample", -70)),
+    ({"kind": "add", "step": 2, "from": 1, "bound": "most", "value": 70}, Add("Sample", "Antibiotic", 70)),
+    ({}, None), ({"kind": None}, None), ({"kind": "did", "step": 5, "at": 5}, None),
+    ({"kind": "did", "step": 1, "at": True}, None), ({"kind": "did", "step": 1, "at": 1000001}, None),
+    ({"kind": "saw", "letter": "q", "value": True, "at": 5}, None),
+    ({"kind": "saw", "letter": ["i"], "value": True, "at": 5}, None),
+    ({"kind": "saw", "letter": "i", "value": 1, "at": 5}, None), ({"kind": "change", "limit": 99, "value": 1}, None),
+    ({"kind": "add", "step": 2, "from": 1, "bound": "", "value": 70}, None),
+]
+
+SAID = [
+    (Limit(0, "Sample", "Antibiotic", 90, {"i": True}), "Antibiotic at most 90 after Sample, where i"),
+    (Limit(0, "Antibiotic", "Sample", -65, {}), "Antibiotic at least 65 after Sample"),
+    (Limit(0, "B", "A", 0, {}), "B not before A"),
+    (Limit(0, "Z", "Sample", 15, {}), "Sample at 15 or earlier"),
+    (Limit(0, "Sample", "Z", -10, {"i": False, "s": True}), "Sample at 10 or later, where not i and s"),
+]
+
+
+class Boards(unittest.TestCase):
+    def setUp(self) -> None:
+        self.folder = tempfile.TemporaryDirectory()
+        self.addCleanup(self.folder.cleanup)
+
+    def board(self, timing: Timing = Timing()) -> Board:
+        store = SqliteStore(Path(self.folder.name) / "journals")
+        self.addCleanup(store.close)
+        board = Board(store, {CLINIC.digest: Document("ward", CLINIC)}, timing)
+        self.addCleanup(board.close)
+        return board
+
+    def test_who_is_heard(self) -> None:
+        guard = Guard("token", frozenset({HOST}))
+        for name, asked, heard in HEARD:
+            self.assertEqual(guard.why_not(asked) is None, heard, name)
+        for token in ("", "tokem", "tokenn", "tökén"):
+            self.assertFalse(guard.is_token(token))
+        self.assertTrue(guard.is_token("token"))
+
+    def test_what_is_read(self) -> None:
+        limits = {limit.id: limit for limit in CLINIC.limits}
+        for data, wanted in READ:
+            try:
+                found = event_of(data, CLINIC, limits)
+            except Wrong:
+                found = None
+            self.assertEqual(found, wanted, data)
+        for key in ("", "short", "x" * 65, "#2345678", "abcdefg\n", None, 12345678):
+            self.assertRaises(Wrong, key_of, {"key": key})
+
+    def test_words(self) -> None:
+        for limit, words in SAID:
+            parts = limit_parts(limit, is_least(limit), limit.most)
+            self.assertEqual("".join(str(value) for part in parts for value in part.values()), words)
+        self.assertEqual(shown("a\n\u202eb\x85é"), "a%0A%E2%80%AEb%C2%85é")
+
+    def test_news(self) -> None:
+        news = News()
+        readers = [news.listen() for _ in range(MOST)]
+        self.assertIsNone(news.listen())
+        news.say("plan")
+        self.assertTrue(readers[0] is not None and readers[0].get(timeout=1) == "plan")
+        assert readers[0] is not None
+        stream = news.stream(readers[0], lambda: False)
+        self.assertEqual(next(stream), b"retry: 1000\n\n")
+        news.say("next")
+        self.assertEqual(next(stream), b"event: changed\ndata: next\n\n")
+        stream.close()  # type: ignore[attr-defined]
+        self.assertIsNotNone(news.listen())
+
+    def test_a_late_result(self) -> None:
+        board = self.board()
+        plan = next(iter(board.titles()))
+        for at, event in enumerate(({"kind": "did", "step": 1, "at": 5}, {"kind": "now", "at": 65})):
+            board.tell(plan, event | {"key": f"abcdefg{at}"})
+        late = {"kind": "await", "letter": "i", "at": 120}
+        self.assertEqual(board.what_if(plan, late)["verdict"], "no")
+        self.assertEqual(board.page(plan, {})["results"][0]["until"], 95)
+        board.tell(plan, late | {"key": "abcdefgh"})
+        self.assertTrue(board.tell(plan, late | {"key": "abcdefgh"})["again"])
+        page = board.page(plan, {})
+        self.assertEqual((page["verdict"], page["blame"]["limits"]), ("no", [{"id": 2, "needed": 115}]))
+        board.tell(plan, {"kind": "change", "limit": 2, "value": 115, "key": "abcdefgi"})
+        moments = [it["planned"] for it in board.page(plan, {"i": True})["steps"]]
+        self.assertEqual(moments, [None, None, 120, 240, 250])
+        self.assertEqual(board.page(plan, {"i": False})["steps"][2]["planned"], None)
+        self.assertEqual(board.journal(plan), "did 5 Sample\nnow 65\nawait 120 i\nchange 2 115\n")
+
+    def test_a_correction_of_what_was_seen_before(self) -> None:
+        board = self.board()
+        plan = next(iter(board.titles()))
+        board.tell(plan, {"kind": "did", "step": 1, "at": 5, "key": "abcdefgh"})
+        page = board.page(plan, {})
+        seen = {"of": "abcdefgh", "version": page["version"]}
+        board.correct(plan, seen | {"instead": {"kind": "did", "step": 1, "at": 7}})
+        self.assertEqual(board.page(plan, {})["steps"][1]["at"], 7)
+        self.assertRaises(Moved, board.correct, plan, seen | {"instead": None})
+
+    def test_clocks(self) -> None:
+        begun = datetime.now(timezone.utc) - timedelta(seconds=630)
+        board = self.board(Timing(60, begun, by_hand=False))
+        plan = next(iter(board.titles()))
+        page = board.page(plan, {})
+        self.assertEqual((page["now"], page["clock"]["running"]), (10, True))
+        self.assertEqual([(it["name"], it["by"]) for it in page["late"]], [("Sample", 10)])
+        self.assertEqual(page["history"], [])
+        self.assertRaises(OutOfRange, board.tell, plan, {"kind": "did", "step": 1, "at": 90, "key": "abcdefgh"})
+
+    def test_plans_are_found_again(self) -> None:
+        board = self.board()
+        made = board.begin(CLINIC.digest, "bed 7")
+        board.tell(made, {"kind": "did", "step": 1, "at": 5, "key": "abcdefgh"})
+        for title in ("bed 7", "", " ", "x" * 81, "a\nb"):
+            self.assertRaises(Wrong, board.begin, CLINIC.digest, title)
+        again = self.board()
+        self.assertEqual(sorted(again.titles().values()), ["bed 7", "ward"])
+        self.assertEqual(again.page(made, {})["steps"][1]["at"], 5)
+
+
+if __name__ == "__main__":
+    unittest.main()

@@ -1,0 +1,326 @@
+"""Facts in any order and twice, refusals as types, corrections, what-if, and how far something has to give way."""
+import unittest
+from datetime import datetime, timedelta, timezone
+
+from cstn import (Add, Can, Change, Changed, Clock, Contradicts, Deadline, Did, Done, Event, Expect, Follower, Late,
+                  MemoryJournal, Moved, Next, NotYet, Now, OutOfRange, Plan, Refused, Saw, Seen, TooMany, Unknown,
+                  WaitsFor)
+from tests.support import CLINIC, EMERGENCY, answers, answers_to, drawn
+
+REFUSED: list[tuple[Event, type[Refused], str]] = [
+    (Did("Nobody", 3), Unknown, "F3"),
+    (Did("Sample\nnow 90", 3), Unknown, "F3"),
+    (Did("Sam\udc80ple", 3), Refused, "line"),
+    (Did("", 3), Refused, "line"),
+    (Did("X" * 5000, 3), Refused, "line"),
+    (Did("Sample", 1000001), OutOfRange, "F2"),
+    (Did("Sample", -1), OutOfRange, "clock"),
+    (Did("Sample", 6), Contradicts, "F4"),
+    (Did("Antibiotic", 40), Contradicts, "F5"),
+    (Saw("q", True, 5), Unknown, "F6"),
+    (Saw("i true\nnow 9", True, 5), Refused, "line"),
+    (Saw("ii", True, 5), Refused, "line"),
+    (Saw("i", True, 30), Contradicts, "F7"),
+    (Saw("i", False, 31), Contradicts, "F7"),
+    (Saw("i", False, 1000001), OutOfRange, "F2"),
+    (Add("Z", "Nobody", 5), Unknown, "S7"),
+    (Add("Z", "Sample", 5, {"q": True}), Unknown, "S5"),
+    (Add("Z", "Sample", 10**9 + 1), OutOfRange, "S3"),
+    (Add("Z", "Sample", 10**12), Refused, "line"),
+    (Change(99, 5), Unknown, "S2"),
+    (Change(99, None), Unknown, "S2"),
+    (Change(-1, 5), Refused, "line"),
+    (Deadline(1000001), Refused, "line"),
+    (Did("Review", 90, "#9"), Refused, "key"),
+    (Did("Review", 90, "\udc80"), Refused, "key"),
+    (Add("Z", "Sample", 9, {}, "\udc80"), Refused, "line"),
+    (Did("Review", 90, "sample"), Contradicts, "key"),
+]
+
+
+class Followers(unittest.TestCase):
+    def follower(self, plan: Plan = CLINIC, **words: object) -> Follower:
+        follower = Follower(plan, MemoryJournal(), **words)  # type: ignore[arg-type]
+        self.addCleanup(follower.close)
+        return follower
+
+    def test_a_plan_to_its_end(self) -> None:
+        follower = self.follower()
+        self.assertEqual(follower.next(), Next(0, ("Sample",)))
+        follower.did("Sample", 5)
+        self.assertEqual(follower.saw("i", True, 45).verdict.can, Can.YES)
+        self.assertEqual(follower.by("Antibiotic"), 95)
+        for step, at in (("Antibiotic", 91), ("Review", 211), ("Discharge", 221)):
+            follower.did(step, at)
+        self.assertEqual((follower.next(), follower.version), (Done(), 6))
+        outlook = follower.outlook()
+        self.assertEqual((outlook.now, outlook.seen, outlook.latest), (221, {"i": Seen(True, 45)}, {}))
+
+    def test_what_comes_too_soon_waits(self) -> None:
+        follower = self.follower()
+        receipt = follower.did("Antibiotic", 91, "a")
+        self.assertEqual(receipt.waits_for, WaitsFor(letters=("i",)))
+        self.assertEqual(follower.saw("i", True, 45, "r").waits_for, WaitsFor(steps=("Sample",)))
+        self.assertEqual([it.event.key for it in follower.outlook().waiting], ["a", "r"])
+        receipt = follower.did("Sample", 5, "s")
+        self.assertEqual((receipt.waits_for, receipt.taken), (WaitsFor(), ("a", "r")))
+        self.assertEqual(follower.next(), Next(211, ("Review",)))
+        self.assertEqual(follower.outlook().waiting, ())
+
+    def test_what_may_not_wait_is_refused(self) -> None:
+        follower = self.follower()
+        with self.assertRaises(NotYet) as caught:
+            follower.tell(Saw("i", True, 45), wait=False)
+        self.assertEqual((caught.exception.waits_for.steps, follower.version), (("Sample",), 0))
+
+    def test_what_waited_may_fall(self) -> None:
+        follower = self.follower()
+        follower.did("Antibiotic", 91, "a")
+        follower.did("Sample", 5)
+        self.assertEqual(follower.saw("i", False, 45).fallen, ("a",))
+        again = follower.did("Antibiotic", 91, "a")
+        self.assertEqual((again.again, again.fallen, again.waits_for), (True, ("a",), WaitsFor()))
+        self.assertIn("rules Antibiotic out", follower.outlook().fallen[0].why)
+        self.assertEqual(follower.outlook().left_out, ("Antibiotic",))
+
+    def test_what_is_told_twice_counts_once(self) -> None:
+        follower = self.follower()
+        follower.tell(Add("Z", "Discharge", 300, key="limit"))
+        self.assertTrue(follower.tell(Add("Z", "Discharge", 300, key="limit")).again)
+        follower.did("Sample", 5, "one")
+        self.assertTrue(follower.did("Sample", 5, "one").again)
+        self.assertTrue(follower.did("Sample", 5, "another sender").again)
+        follower.now(9)
+        self.assertTrue(follower.now(7).again)
+        follower.saw("i", True, 45)
+        self.assertTrue(follower.saw("i", True, 45).again)
+        self.assertTrue(follower.tell(Expect("i", 50)).again)
+        self.assertEqual((follower.version, len(follower.outlook().limits)), (5, 9))
+
+    def test_what_is_refused_changes_nothing(self) -> None:
+        follower = self.follower()
+        follower.did("Sample", 5, "sample")
+        follower.saw("i", False, 30)
+        before = follower.outlook()
+        for event, error, code in REFUSED:
+            with self.subTest(event=event):
+                with self.assertRaises(error) as caught:
+                    follower.tell(event)
+                self.assertEqual((type(caught.exception), caught.exception.code), (error, code))
+                self.assertEqual(follower.outlook(), before)
+        self.assertEqual((follower.restarts, follower.version), (0, 3))
+
+    def test_what_stands_against_it_is_told(self) -> None:
+        follower = self.follower()
+        follower.did("Sample", 5)
+        facts: list[tuple[Event, int]] = [(Did("Sample", 6), 5), (Saw("i", True, 4), 5)]
+        for event, recorded in facts:
+            with self.assertRaises(Contradicts) as caught:
+                follower.tell(event)
+            self.assertEqual(caught.exception.recorded, recorded)
+
+    def test_there_is_no_room(self) -> None:
+        plan = Plan.read(CLINIC.saved([]).replace(b"{(15, ", b"{" + b"(15, \xe2\x8a\xa1)," * 16375 + b"(15, "))
+        follower = self.follower(plan)
+        self.assertRaises(TooMany, follower.tell, Add("Z", "Sample", 9))
+
+    def test_many_at_once(self) -> None:
+        found = self.follower().tell_all([Did("Sample", 5), Did("Sample", 6), Saw("i", True, 45)])
+        self.assertEqual([isinstance(it, Refused) for it in found], [False, True, False])
+
+    def test_versions(self) -> None:
+        follower = self.follower()
+        follower.did("Sample", 5)
+        self.assertRaises(Moved, follower.tell, Now(9), expect=1)
+        self.assertEqual(follower.tell(Now(9), expect=2).version, 3)
+
+    def test_an_edit(self) -> None:
+        follower = self.follower()
+        receipt = follower.tell(Add("Discharge", "Z", -300, {"i": True}, "not before the bus"))
+        self.assertEqual(receipt.added, 8)
+        follower.tell(Change(8, -310))
+        self.assertEqual(follower.outlook().limits[8].most, -310)
+        self.assertEqual(follower.outlook().limits[8].says, "not before the bus")
+        follower.tell(Change(8, None))
+        follower.tell(Deadline(190))
+        outlook = follower.outlook()
+        self.assertEqual((8 in outlook.limits, outlook.deadline, outlook.verdict.can), (False, 190, Can.NO))
+
+    def test_how_far_something_has_to_give_way(self) -> None:
+        follower = self.follower()
+        follower.did("Sample", 5)
+        self.assertEqual((follower.blame(), follower.ways_out()), (None, ()))
+        self.assertEqual(follower.late("i"), Late("i", 95, False))
+        follower.tell(Expect("i", 97))
+        self.assertEqual(follower.blame(), (2,))
+        self.assertEqual(len(follower.ways_out(seconds=0)), 1)
+        ways = follower.ways_out()
+        self.assertEqual([(way.is_now, way.would_do) for way in ways], [(90, 92), (360, None), (97, 95)])
+        self.assertEqual((ways[0].limit and ways[0].limit.id, ways[1].is_deadline, ways[2].letter), (2, True, "i"))
+        follower.now(96)
+        self.assertEqual(follower.late("i"), Late("i", None, False))
+        self.assertRaises(Refused, follower.late, "q")
+        follower.tell(Deadline(50))
+        self.assertEqual(follower.verdict().can, Can.NO)
+
+    def test_a_deadline_that_would_do(self) -> None:
+        follower = self.follower(Plan.read(CLINIC.document, deadline=190))
+        follower.tell(Change(7, None))
+        self.assertEqual([(way.is_deadline, way.would_do) for way in follower.ways_out()][-1], (True, 195))
+
+    def test_what_if(self) -> None:
+        follower = self.follower()
+        follower.did("Sample", 5)
+        with follower.what_if() as trial:
+            trial.saw("i", True, 45)
+            with trial.what_if() as deeper:
+                deeper.did("Antibiotic", 112)
+                self.assertEqual(deeper.verdict().can, Can.NO)
+            self.assertEqual(trial.next(), Next(70, ("Antibiotic",)))
+        self.assertEqual((follower.next(), follower.version), (Next(65, (), ("i",)), 2))
+
+    def test_a_step_that_is_named_wait(self) -> None:
+        plan = Plan.read(b'<graphml><graph><data key="Deadline">9</data><node id="A"><data key="Obs">i</data></node>'
+                         b'<node id="wait"/><node id="i"/></graph></graphml>')
+        follower = self.follower(plan)
+        self.assertEqual(follower.next(), Next(0, ("A", "wait", "i")))
+        follower.tell_all([Did("wait", 0), Did("i", 0), Did("A", 0)])
+        self.assertEqual(follower.next(), Next(1, (), ("i",)))
+
+    def test_the_lines_that_bring_it_back(self) -> None:
+        follower = self.follower()
+        follower.tell_all([Saw("i", True, 45), Did("Sample", 5), Now(50)])
+        self.assertEqual(follower.lines(), ("did 5 Sample", "saw 45 i true", "now 50"))
+
+    def test_what_is_left(self) -> None:
+        follower = self.follower()
+        follower.did("Sample", 5)
+        self.assertNotIn("Sample", Plan.read(follower.rest()).limits)
+
+    def test_the_clock(self) -> None:
+        origin = datetime.now(timezone.utc) - timedelta(minutes=50)
+        follower = self.follower(clock=Clock(origin))
+        self.assertRaises(OutOfRange, follower.did, "Sample", 300)
+        self.assertRaises(OutOfRange, follower.now, origin + timedelta(hours=9))
+        self.assertRaises(OutOfRange, follower.did, "Sample", origin - timedelta(seconds=1))
+        self.assertRaises(TypeError, follower.did, "Sample", datetime(2026, 11, 30))
+        follower.did("Sample", origin + timedelta(minutes=5, seconds=59))
+        self.assertEqual(follower.outlook().done["Sample"], 5)
+        again = Follower(CLINIC, follower.journal)
+        self.addCleanup(again.close)
+        again.did("Sample", origin + timedelta(minutes=5))
+        self.assertEqual(again.clock, follower.clock)
+        self.assertRaises(TypeError, self.follower().did, "Sample", origin)
+
+
+class Corrections(unittest.TestCase):
+    def setUp(self) -> None:
+        self.follower = Follower(CLINIC, MemoryJournal())
+        self.addCleanup(self.follower.close)
+        self.follower.tell_all([Did("Sample", 5, "s"), Saw("i", True, 45, "r"), Add("Z", "Discharge", 350, key="l"),
+                                Did("Antibiotic", 70, "a")])
+
+    def same_when_told_anew(self) -> None:
+        again = Follower(CLINIC, MemoryJournal(getattr(self.follower.journal, "entries")))
+        self.addCleanup(again.close)
+        self.assertEqual(again.outlook(), self.follower.outlook())
+        self.assertEqual(again.history(), self.follower.history())
+
+    def test_another_moment(self) -> None:
+        receipt = self.follower.correct("s", Did("Sample", 7))
+        self.assertEqual((receipt.fallen, self.follower.outlook().done["Sample"]), ((), 7))
+        self.same_when_told_anew()
+
+    def test_a_moment_that_later_facts_exclude(self) -> None:
+        receipt = self.follower.correct("s", Did("Sample", 50))
+        self.assertEqual(receipt.fallen, ("r",))
+        self.assertEqual([it.event.key for it in self.follower.outlook().waiting], ["a"])
+        self.same_when_told_anew()
+        self.assertEqual(self.follower.saw("i", True, 60, "r2").taken, ("a",))
+        self.same_when_told_anew()
+        self.assertEqual(self.follower.correct("s", Did("Sample", 5)).fallen, ("r2",))
+        self.same_when_told_anew()
+
+    def test_left_out(self) -> None:
+        self.follower.correct("a")
+        self.assertEqual(self.follower.next(), Next(70, ("Antibiotic",)))
+        self.assertTrue(self.follower.did("Antibiotic", 70, "a").again)
+        self.same_when_told_anew()
+
+    def test_what_is_no_correction(self) -> None:
+        before = self.follower.outlook()
+        for key, instead, error in (("x", None, Unknown), ("l", None, Refused), ("a", Add("Z", "Review", 9), Refused),
+                                    ("a", Did("Nobody", 9), Refused), ("a", Did("Sample", 70), Refused)):
+            with self.subTest(key=key, instead=instead):
+                self.assertRaises(error, self.follower.correct, key, instead)
+                self.assertEqual(self.follower.outlook(), before)
+
+    def test_of_a_fact_that_waits(self) -> None:
+        follower = Follower(CLINIC, MemoryJournal())
+        self.addCleanup(follower.close)
+        follower.saw("i", True, 4, "r")
+        follower.correct("r", Saw("i", True, 45))
+        follower.did("Sample", 5)
+        self.assertEqual(follower.outlook().seen["i"].at, 45)
+
+    def test_history(self) -> None:
+        self.follower.correct("a", Did("Antibiotic", 72))
+        self.assertEqual([(it.event.key, it.standing.value) for it in self.follower.history()],
+                         [(key, "taken") for key in "srla"])
+
+
+class Journals(unittest.TestCase):
+    def test_of_another_document(self) -> None:
+        journal = MemoryJournal()
+        with Follower(CLINIC, journal) as follower:
+            follower.did("Sample", 5)
+        for plan in (EMERGENCY, Plan.read(CLINIC.document, deadline=350),
+                     Plan.read(CLINIC.document.replace(b"(90, i)", b"(70, i)"))):
+            self.assertRaises(Changed, Follower(plan, journal).next)
+        with Follower(Plan.read(CLINIC.document.replace(b"<!-- Nobody", b"<!-- No one")), journal) as same:
+            self.assertEqual(same.next(), Next(65, (), ("i",)))
+
+    def test_that_are_none(self) -> None:
+        for entries in (["garbage"], ["{}"], ["[]"], ['{"head":{"lines":"follow 2"}}'], ['{"tell":{},"answer":""}'],
+                        ['{"tell":{"is":"did","step":"Sample","at":5,"key":"s"},"answer":"yes 1","when":""}']):
+            with self.subTest(entries=entries):
+                self.assertRaises(Changed, Follower(CLINIC, MemoryJournal(entries)).next)
+
+    def test_times_in_a_row_are_told_once(self) -> None:
+        journal = MemoryJournal()
+        with Follower(CLINIC, journal) as follower:
+            for at in range(60):
+                follower.now(at)
+            outlook = follower.outlook()
+        with Follower(CLINIC, journal) as again:
+            self.assertEqual(again.outlook(), outlook)
+            assert again.session is not None
+            self.assertEqual(again.session.state.lines, ["now 59"])
+
+
+class Drawn(unittest.TestCase):
+    """Facts late, twice and out of order give what they give in the order of time."""
+
+    def test_patients(self) -> None:
+        for number in range(24):
+            patient = drawn(number)
+            journal = MemoryJournal()
+            with self.subTest(number=number), Follower(patient.plan, journal, most_cap=0) as follower:
+                for event in patient.messages:
+                    follower.tell(event)
+                self.assertEqual({it.event for it in follower.history()}, set(patient.truth))
+                self.assertEqual(follower.outlook(latest=False).waiting, ())
+                with follower.copied() as (child, state):
+                    told = answers(child, patient.plan)
+                truth = Follower(patient.plan, MemoryJournal())
+                truth.tell_all(patient.truth)
+                with truth.copied() as (child, _):
+                    self.assertEqual(told, answers(child, patient.plan))
+                truth.close()
+                follower.release()
+                self.assertEqual(follower.outlook(latest=False).done, state.done)
+                self.assertEqual(answers_to(patient.plan, state.lines), told)
+
+
+if __name__ == "__main__":
+    unittest.main()
