@@ -1,24 +1,14 @@
 -- Words as sets of their bits.
-use Rattle.std.proofs.Common.{ℕ, ◌≡◌, inl, inr, ◌-◌, ◌*◌, ◌%◌, ◌^◌, ◌<◌, true, false, ◌&&◌, not, eqb, ltb, arith, refl, sym, ap, ◌∙◌, bit_and, bit_or, w64}
+use Rattle.std.proofs.Common.{ℕ, ◌≡◌, inl, inr, ◌-◌, ◌*◌, ◌%◌, ◌^◌, ◌<◌, true, false, ◌&&◌, not, eqb, ltb, arith, refl, sym, ap, ◌∙◌, bit_and, w64}
 use Rattle.std.specs.Int.{bit_at, bit_not}
 use Rattle.std.proofs.Math.Pow.{pow-lt}
 use Rattle.std.proofs.lemmas.Bool.{cases_lt, lt-ltb, le-ltb}
 use Rattle.std.proofs.lemmas.Bool.Decides.{nat_tests}
-use Rattle.std.proofs.lemmas.Nat.Bits.{bit_at-lt, bit_at_not, bit_at_set_same, bit_at_set_other, bit_at_clear_same, bit_at_clear_other, bit_at_ones, bit_at_ones_above}
+use Rattle.std.proofs.lemmas.Nat.Bits.{bit_at-lt, bit_at_not, bit_at_clear_other, bit_at_ones, bit_at_ones_above}
 use Rattle.cstn_label.specs.Words.{has_bit}
 use Rattle.cstn_label.proofs.WordLemmas.{has_bit_and, has_bit_above}
 
--- `word | 1 << i` has bit i, and the other bits of the word
-pub set_here : (word i : ℕ) → i < 64 → has_bit (bit_or word (1 * 2 ^ i % 2 ^ 64)) i ≡ true
-set_here word i small = ap (λ b. eqb b 1) (bit_at_set_same w64 word i small)
-
-pub set_others : (word i k : ℕ) → i < 64 → (k ≡ i → ⊥) → has_bit (bit_or word (1 * 2 ^ i % 2 ^ 64)) k ≡ has_bit word k
-set_others word i k small other = ap (λ b. eqb b 1) (bit_at_set_other w64 word i small k other)
-
--- `word & !(1 << i)` has no bit i, and the other bits of the word
-pub clear_here : (word i : ℕ) → i < 64 → has_bit (bit_and word (bit_not w64 (1 * 2 ^ i % 2 ^ 64))) i ≡ false
-clear_here word i small = ap (λ b. eqb b 1) (bit_at_clear_same w64 word i small)
-
+-- `word & !(1 << i)` has the other bits of the word
 pub clear_others : (word i k : ℕ) → word < 2 ^ 64 → i < 64 → (k ≡ i → ⊥) →
     has_bit (bit_and word (bit_not w64 (1 * 2 ^ i % 2 ^ 64))) k ≡ has_bit word k
 clear_others word i k fits small other = elim (cases_lt k 64) [

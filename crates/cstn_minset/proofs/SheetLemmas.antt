@@ -41,9 +41,6 @@ inside_from m n e = grind arith
 pub not_within : (m n : Mark) → is_mark_within m n ≡ false → IsMarkWithin m n → ⊥
 not_within m n e h = grind arith
 
-pub within_from : (m n : Mark) → is_mark_within m n ≡ true → IsMarkWithin m n
-within_from m n e = grind arith
-
 -- the marks of label i on the propositions below `index` are those of b, and its others those of a
 pub record IsReplacedUpto (start sheet : Marks) (a b : Label) (i index : ℕ) : Type 0 where
   pub done : (q : ℕ) → q < 52 → q < index → mark_in sheet q i ≡ b q
@@ -139,7 +136,7 @@ above_more sheet label index word more p m was small none mark bits = record {
   within = λ i q q_small below set.
       let both = and_true (has_bit word i) (has_bit more i) (sym (has_bit_and word more i) ∙ set) in
       elim (cases_eq q p) [
-        | inl same ↦ subst (λ (x : ℕ). IsMarkWithin (label x) (mark_in sheet x i)) (sym same) (within_from (label p) (mark_in sheet p i) (sym (bit i) ∙ both.1))
+        | inl same ↦ subst (λ (x : ℕ). IsMarkWithin (label x) (mark_in sheet x i)) (sym same) (inside_from (label p) (mark_in sheet p i) (ap not (sym (bit i) ∙ both.1)))
         | inr other ↦ elim (cases_lt q index) [
           | inl before ↦ was.within i q q_small before both.0
           | inr behind ↦ absent_within (label q) (mark_in sheet q i) (none q behind (omega (arith, below, other)))
@@ -167,14 +164,14 @@ above_end sheet label index word was none i i_small = (
   λ outside. true_from_ne_false (has_bit word i) (λ clear. was.out i i_small clear outside),
 )
 
-zero_at : (n k : ℕ) → get_or (replicate n zero) k zero ≡ zero
-zero_at n k = elim (cases_lt k n) [
-  | inl low ↦ get_or-replicate n k 0 0 low
-  | inr past ↦ get_or_past (replicate n 0) k 0 (omega (arith, past, length-replicate n zero))
+zero_word : (p : ℕ) → get_or (replicate 52 zero) p zero ≡ zero
+zero_word p = elim (cases_lt p 52) [
+  | inl low ↦ get_or-replicate 52 p 0 0 low
+  | inr past ↦ get_or_past (replicate 52 0) p 0 (omega (arith, past, length-replicate 52 zero))
 ]
 
 pub nothing_marked : (p i : ℕ) → mark_in (sheet_of (replicate 52 0) (replicate 52 0)) p i ≡ Absent
-nothing_marked p i = rw (zero_at 52 p, has_bit-zero i) refl
+nothing_marked p i = rw (zero_word p, has_bit-zero i) refl
 
 -- what two bits say of the mark that they make
 pub outside_bits : (a b v w : Bool) → ((a && not v) || (b && not w)) ≡ not (is_mark_within (mark_of a b) (mark_of v w))
