@@ -1,9 +1,12 @@
 // Empties the list and the minimal set of a log, and fills the set with the bounds of the entries that are left.
-ghost use Rattle.std.specs.Prelude.{ℕ, ◌≡◌, ◌<◌, [], List, Option, Some, length, slice_get, slice_index_or, None};
+ghost use Rattle.std.specs.Prelude.{ℕ, ◌≡◌, ◌⊎◌, ◌<◌, ◌≤◌, ◌*◌, true, [], List, Option, Some, length, slice_get, slice_index_or, None};
 ghost use Rattle.cstn_rules.specs.declared.entries.Entry.{Entry as TheEntry};
 ghost use Rattle.cstn_log.specs.Entries.{AllNew};
 ghost use Rattle.cstn_log.specs.Kept.{IsKept, IsPooled, IsTabled};
+ghost use Rattle.cstn_log.specs.Agendas.{has_place};
+ghost use Rattle.cstn_net.specs.Limits.{most_load};
 
+use crate::agenda::Agenda;
 use crate::list::EntryList;
 use cstn_label::domination_is_an_order;
 use cstn_minset::MinSet;
@@ -33,5 +36,19 @@ pub fn place_all(minimal: &mut MinSet, list: &EntryList)
     domination_is_an_order();
     for k in 0..list.len() {
         minimal.place(&list.bound(k), list.id(k));
+    }
+}
+
+// Puts each place up to `upto` on the agenda.
+pub fn put_all_down(upto: u32, agenda: &mut Agenda)
+    requires room { upto < 4096 * length agenda.old }
+    requires few { upto < most_load }
+    ensures kept { (k : ℕ) → has_place agenda.old k ≡ true → has_place agenda.new k ≡ true }
+    ensures added { (k : ℕ) → k ≤ upto → has_place agenda.new k ≡ true }
+    ensures upto { (k : ℕ) → has_place agenda.new k ≡ true → (has_place agenda.old k ≡ true) ⊎ (k ≤ upto) }
+    ensures size { length agenda.new ≡ length agenda.old }
+{
+    for k in 0..upto + 1 {
+        agenda.insert(k);
     }
 }
