@@ -1,8 +1,7 @@
 -- Lists of entries.
-use Rattle.std.specs.Prelude.{◌≡◌, ℕ, ℤ, zero, suc, ◌<◌, ◌≤◌, ◌<ℤ◌, Option, IfSome, List, [], ◌∷◌, ◌++◌, map, Some, nat_lt, slice_get, if◌then◌else◌}
+use Rattle.std.specs.Prelude.{◌≡◌, ℕ, ℤ, zero, suc, ◌<◌, ◌≤◌, List, [], ◌∷◌, ◌++◌, map, Some, nat_lt, slice_get, if◌then◌else◌}
 use Rattle.cstn_label.specs.declared.bounds.Bound.{Bound}
-use Rattle.cstn_label.specs.Labels.{Label, IsMarked, IsWithin}
-use Rattle.cstn_label.specs.declared.props.Prop.{Prop}
+use Rattle.cstn_label.specs.Labels.{Label, IsWithin}
 use Rattle.cstn_label.specs.Read.{marks}
 use Rattle.cstn_net.specs.Networks.{Network, count}
 use Rattle.cstn_rules.specs.declared.entries.Entry.{Entry}
@@ -53,10 +52,6 @@ IsCoveredBy entries b = (k : ℕ) × (e : Entry) × (slice_get entries k ≡ Som
 abbrev pub HasLeast : List Entry → ℕ → Label → ℤ → Type 0
 HasLeast entries x label least = (k : ℕ) × (e : Entry) × (slice_get entries k ≡ Some e) × (e.bound.node.0 ≡ x) × IsWithin (marks e.bound.label) label
     × (e.bound.least ≡ least)
-
--- the bound is at the time-point, its least value is above the floor, and its label marks the proposition, if one is given
-abbrev pub IsSoughtAbove : ℕ → ℤ → Option Prop → Bound → Type 0
-IsSoughtAbove node floor marking b = (b.node.0 ≡ node) × (floor <ℤ b.least) × IfSome marking (λ p. IsMarked (marks b.label) p.index)
 
 -- an entry is live while no later one dominates it
 pub record IsLive (entries : List Entry) (k : ℕ) : Type 0 where

@@ -9,8 +9,8 @@ ghost use Rattle.cstn_net.specs.Bounds.{HoldsIn};
 ghost use Rattle.cstn_net.specs.Read.{the_network};
 ghost use Rattle.cstn_rules.specs.Rules.{base};
 ghost use Rattle.cstn_rules.specs.Derivations.{Follows, IsDerivation, IsRefutation};
-ghost use Rattle.cstn_minset.specs.Sets.{IsPlaced};
-ghost use Rattle.cstn_log.specs.Entries.{State, HasId, AreBornFrom, the_entries, IsBoundAt, IsDominator, IsCoveredBy, IsLive, HasLeast, IsSoughtAbove, AllNew, bases, first_entries};
+ghost use Rattle.cstn_minset.specs.Sets.{IsPlaced, IsSoughtAbove};
+ghost use Rattle.cstn_log.specs.Entries.{State, HasId, AreBornFrom, the_entries, IsBoundAt, IsDominator, IsCoveredBy, IsLive, HasLeast, AllNew, bases, first_entries};
 ghost use Rattle.cstn_log.specs.Cuts.{PremisesBelow, is_marked as is_marked_at, chosen, marked_staying, with_ancestors, last_marked, cut, part, dropped};
 ghost use Rattle.cstn_log.specs.Kept.{IsIdAt, AreStored};
 ghost use Rattle.cstn_log.specs.Agendas.{has_place};
@@ -20,7 +20,7 @@ use crate::agenda::Agenda;
 use crate::caps::Cap;
 use crate::cutting::{count_marked, cut, mark_ancestors, mark_staying};
 use crate::list::EntryList;
-use crate::putting::{clear, place_all, put_all_down};
+use crate::putting::{clear, place_all, put_down};
 use cstn_label::{Bound, Label, NodeId, Prop, domination_is_an_order};
 use cstn_minset::MinSet;
 use cstn_net::Network;
@@ -309,7 +309,7 @@ impl Log {
     pub fn floor(&self, x: NodeId, label: Label) -> i32
         ensures floor { (result ≡ pos 0) ⊎ HasLeast self.now.entries x.0 (marks label) result }
     {
-        0
+        self.minimal.floor(x, label)
     }
 
     /// Whether a live entry at the time-point may mark the proposition.
@@ -317,7 +317,7 @@ impl Log {
         ensures none { result ≡ false → (k : ℕ) (e : Entry) → slice_get self.now.entries k ≡ Some e → IsLive self.now.entries k
             → e.bound.node.0 ≡ x.0 → ¬ IsMarked (marks e.bound.label) p.index }
     {
-        true
+        self.minimal.may_mark(x, p)
     }
 
     /// Puts on the agenda the places up to `upto` of the live entries at the time-point with a least value above the floor, and
@@ -330,7 +330,8 @@ impl Log {
             → IsSoughtAbove x.0 floor marking e.bound → has_place self.new.agenda k ≡ true }
         ensures upto { (k : ℕ) → has_place self.new.agenda k ≡ true → (has_place self.old.agenda k ≡ true) ⊎ (k ≤ upto) }
     {
-        put_all_down(upto, &mut self.agenda);
+        self.minimal.slots_above(x, floor, marking, &mut self.found);
+        put_down(&self.list, &self.found, upto, &mut self.agenda);
     }
 
     /// Takes the least place off the agenda, and answers it; None exactly where it has none.
