@@ -14,7 +14,8 @@ use Rattle.cstn_net.specs.Networks.{Network, Observes, count}
 use Rattle.cstn_rules.specs.declared.entries.Entry.{Entry}
 use Rattle.cstn_rules.specs.Read.{the_entry}
 use Rattle.cstn_log.specs.Agendas.{has_place}
-use Rattle.cstn_log.specs.Entries.{State, the_entries, IsBoundAt, IsLive, IsSoughtAbove}
+use Rattle.cstn_minset.specs.Sets.{IsSoughtAbove}
+use Rattle.cstn_log.specs.Entries.{State, the_entries, IsBoundAt, IsLive}
 use Rattle.cstn_check.specs.Growth.{is_live, tried, waits_below}
 use Rattle.cstn_check.specs.Growth.Instance.{wait_at}
 use Rattle.cstn_check.specs.Floors.{IsFloor}

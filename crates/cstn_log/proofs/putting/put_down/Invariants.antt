@@ -7,7 +7,7 @@ use Rattle.cstn_log.proofs.putting.put_down.Given as goal
 abbrev pub invariant-loop-at : goal.invariant-loop-at
 invariant-loop-at l = record {
   kept : (m : ℕ) → has_place l.fn.agenda m ≡ true → has_place l.agenda m ≡ true;
-  added : (i s birth k : ℕ) → i < l.at → slice_index_or l.slots i s ≡ s → IsIdAt l.list.ids s birth k → k ≤ l.upto → has_place l.agenda k ≡ true;
+  added : (i birth k : ℕ) → i < l.at → IsIdAt l.list.ids (slice_index_or l.slots i 0) birth k → k ≤ l.upto → has_place l.agenda k ≡ true;
   upto : (m : ℕ) → has_place l.agenda m ≡ true → (has_place l.fn.agenda m ≡ true) ⊎ (m ≤ l.upto);
   size : length l.agenda ≡ length l.fn.agenda;
 }
