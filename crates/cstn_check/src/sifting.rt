@@ -52,10 +52,12 @@ fn sift_at_observer(net: &Network, log: &mut Log, own: &Bound, p: Prop, j: u32)
     ensures seen { AreSeenOf (the_network net.now) log.new j p.index }
 {
     network_is_well_formed(net);
-    if let Some(x) = net.observer(p) {
-        let floor = log.floor(own.node, own.label.without(p));
-        log.put_down(x, floor - reaction(net, p), None, j);
-    }
+    let Some(x) = net.observer(p) else {
+        return;
+    };
+    let floor = log.floor(own.node, own.label.without(p));
+    let low = floor - reaction(net, p);
+    log.put_down(x, low, None, j);
 }
 
 // How many ticks after its observer p is known.
@@ -75,10 +77,11 @@ fn sift_marking(net: &Network, log: &mut Log, own: &Bound, j: u32)
     ensures marking { AreMarking (the_network net.now) log.new j }
 {
     network_is_well_formed(net);
-    if let Some(p) = net.observes(own.node) {
-        for x in 0..net.count() {
-            sift_marking_at(net, log, own, p, NodeId(x), j);
-        }
+    let Some(p) = net.observes(own.node) else {
+        return;
+    };
+    for x in 0..net.count() {
+        sift_marking_at(net, log, own, p, NodeId(x), j);
     }
 }
 
@@ -97,7 +100,8 @@ fn sift_marking_at(net: &Network, log: &mut Log, own: &Bound, p: Prop, x: NodeId
         return;
     }
     let floor = log.floor(x, own.label);
-    if own.least + reaction(net, p) <= floor {
+    let most = own.least + reaction(net, p);
+    if most <= floor {
         return;
     }
     log.put_down(x, floor, Some(p), j);

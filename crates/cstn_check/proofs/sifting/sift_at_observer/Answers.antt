@@ -9,8 +9,8 @@ use Rattle.cstn_check.proofs.FloorLemmas.{floor_ranged}
 use Rattle.cstn_check.proofs.SiftLemmas.{sifted_itself, observer_sifted}
 use Rattle.cstn_check.proofs.sifting.sift_at_observer.Goals as goal
 
-pub overflow_sub : goal.overflow_sub
-overflow_sub c =
+pub overflow_sub-low : goal.overflow_sub-low
+overflow_sub-low c =
     let r = floor_ranged (the_network c.args.net.now) c.args.log.now c.args.own.now.node.0 (marks c.without.result) c.floor-floor.result c.network_is_well_formed.ensures c.requires.ready
     c.floor-floor.ensures.floor in
     omega (arith, ints, r.0, r.1, c.reaction.ensures.reaction, c.reaction.ensures.range)
@@ -21,11 +21,11 @@ returns-in_default-clause-sifted c = sifted_itself c.args.log.now c.args.j
 pub returns-in_default-clause-seen : goal.returns-in_default-clause-seen
 returns-in_default-clause-seen c = λ k e there upto observes. absurd (c.in_default.ensures.observer e.bound.node.0 observes)
 
-pub returns-in-Some-clause-sifted : goal.returns-in-Some-clause-sifted
-returns-in-Some-clause-sifted c = record { stays = c.put_down.ensures.stays; kept = c.put_down.ensures.kept; upto = c.put_down.ensures.upto }
+pub returns-clause-sifted : goal.returns-clause-sifted
+returns-clause-sifted c = record { stays = c.put_down.ensures.stays; kept = c.put_down.ensures.kept; upto = c.put_down.ensures.upto }
 
-pub returns-in-Some-clause-seen : goal.returns-in-Some-clause-seen
-returns-in-Some-clause-seen c =
+pub returns-clause-seen : goal.returns-clause-seen
+returns-clause-seen c =
     let net = the_network c.args.net.now in
     let own = c.args.own.now in
     let floor = c.floor-floor.result in

@@ -9,6 +9,19 @@ use Rattle.cstn_check.proofs.sifting.sift_marking.Goals as goal
 pub observes-requires : goal.observes-requires
 observes-requires c = (bound_in (the_network c.args.net.now) c.args.log.now c.args.j c.args.own.now c.requires.ready c.requires.bound).node
 
+pub returns-in_default-clause-sifted : goal.returns-in_default-clause-sifted
+returns-in_default-clause-sifted c = sifted_itself c.args.log.now c.args.j
+
+pub returns-in_default-clause-marking : goal.returns-in_default-clause-marking
+returns-in_default-clause-marking c =
+    nothing_marking (the_network c.args.net.now) c.args.log.now c.args.j c.args.own.now c.requires.place c.requires.bound (sym c.in_default.ensures.observes)
+
+pub sift_marking_at-requires-clause-observes : goal.sift_marking_at-requires-clause-observes
+sift_marking_at-requires-clause-observes c = record { what = sym c.in-Some.ensures.observes }
+
+pub sift_marking_at-requires-clause-node : goal.sift_marking_at-requires-clause-node
+sift_marking_at-requires-clause-node c = omega (arith, c.loop-x.invariant.end, c.loop-x-test.true)
+
 pub loop-x-init : goal.loop-x-init
 loop-x-init c = record {
   end = c.count-x-end.ensures.count;

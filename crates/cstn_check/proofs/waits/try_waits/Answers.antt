@@ -39,9 +39,6 @@ try_both-requires-clause-first c = omega (arith, c.requires.place, c.loop-i.inva
 pub try_both-requires-clause-place : goal.try_both-requires-clause-place
 try_both-requires-clause-place c = omega (arith, c.requires.place, c.loop-i.invariant.taken.longer.longer)
 
-pub overflow_add-i : goal.overflow_add-i
-overflow_add-i c = omega (arith, c.requires.place, c.loop-i-test.true, c.log_is_well_formed.ensures.at_most, c.log_is_well_formed.ensures.largest)
-
 pub loop-i-preserved : goal.loop-i-preserved
 loop-i-preserved c =
     let net = the_network c.args.net.now in
