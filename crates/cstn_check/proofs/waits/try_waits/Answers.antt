@@ -1,4 +1,4 @@
-use Rattle.std.proofs.Common.{rules, ℕ, suc, ◌≡◌, ◌+◌, [], ◌∷◌, false, arith, refl, sym, ap, subst}
+use Rattle.std.proofs.Common.{rules, ℕ, suc, ◌≡◌, ◌<◌, ◌+◌, [], ◌∷◌, length, false, arith, refl, sym, ap, subst}
 use Rattle.cstn_net.specs.Read.{the_network}
 use Rattle.cstn_check.specs.Growth.{tried, waits_below}
 use Rattle.cstn_check.specs.Turns.{IsTaken}
@@ -11,7 +11,7 @@ use Rattle.cstn_log.specs.Entries.{the_entries}
 use Rattle.cstn_check.specs.Tries.{concludes_with}
 use Rattle.cstn_check.proofs.TryLemmas.{total_upto, pairs_step, taken_on, size_is}
 use Rattle.cstn_label.specs.Read.{the_bound}
-use Rattle.cstn_check.proofs.SiftLemmas.{open_on, past, had_on, ahead_on}
+use Rattle.cstn_check.proofs.SiftLemmas.{open_on, inside_past, past, had_on, ahead_on}
 use Rattle.cstn_check.proofs.waits.try_waits.Goals as goal
 
 pub loop-i-init : goal.loop-i-init
@@ -33,6 +33,25 @@ loop-i-init c =
       ahead = next.ahead;
     }
 
+pub next_place-i-requires : goal.next_place-i-requires
+next_place-i-requires c = record { place = inside_past c.args.log.now c.sift.new.log c.args.j c.sift.ensures.stays c.requires.place }
+
+pub next_place-i-in-Open-requires : goal.next_place-i-in-Open-requires
+next_place-i-in-Open-requires c = record {
+  place = omega (arith, c.requires.place, c.loop-i.invariant.taken.longer.longer, c.in_ok-try_both.ensures.outcome.taken.longer.longer);
+}
+
+pub loop-i-smaller : goal.loop-i-smaller
+loop-i-smaller c =
+    let net = the_network c.args.net.now in
+    let was = c.loop-i.invariant in
+    let both = wait_at c.loop-i.i c.args.j ∷ (wait_at c.args.j c.loop-i.i ∷ []) in
+    let more = taken_on net c.loop-i.log c.try_both.new.log both _ c.in_ok-try_both.ensures.outcome.taken in
+    let inside : c.args.j < length c.loop-i.log.entries = omega (arith, c.requires.place, was.taken.longer.longer) in
+    let ahead = ahead_on net c.loop-i.log c.try_both.new.log c.args.j (c.loop-i.i + 1) more c.in_ok-try_both.ensures.agenda inside (was.ahead c.loop-i-test.true) in
+    let next = c.next_place-i-in-Open.ensures.next net (c.loop-i.i + 1) (omega (arith, c.loop-i-test.true)) ahead in
+    omega (arith, next.low, c.loop-i-test.true)
+
 pub try_both-requires-clause-first : goal.try_both-requires-clause-first
 try_both-requires-clause-first c = omega (arith, c.requires.place, c.loop-i.invariant.taken.longer.longer, c.loop-i-test.true)
 
@@ -45,7 +64,7 @@ loop-i-preserved c =
     let was = c.loop-i.invariant in
     let both = wait_at c.loop-i.i c.args.j ∷ (wait_at c.args.j c.loop-i.i ∷ []) in
     let more = taken_on net c.loop-i.log c.try_both.new.log both _ c.in_ok-try_both.ensures.outcome.taken in
-    let inside = omega (arith, c.requires.place, was.taken.longer.longer) in
+    let inside : c.args.j < length c.loop-i.log.entries = omega (arith, c.requires.place, was.taken.longer.longer) in
     let ahead = ahead_on net c.loop-i.log c.try_both.new.log c.args.j (c.loop-i.i + 1) more c.in_ok-try_both.ensures.agenda inside (was.ahead c.loop-i-test.true) in
     let next = c.next_place-i-in-Open.ensures.next net (c.loop-i.i + 1) (omega (arith, c.loop-i-test.true)) ahead in
     record {

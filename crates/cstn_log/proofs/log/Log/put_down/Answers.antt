@@ -11,7 +11,7 @@ use Rattle.cstn_log.proofs.KeptLemmas.{few, placed_live}
 use Rattle.cstn_log.proofs.log.Log.put_down.Goals as goal
 
 pub slots_above-requires : goal.slots_above-requires
-slots_above-requires c = omega (arith, c.self.invariant.kept.room, c.self.invariant.room.size, c.self.invariant.room.for_slots)
+slots_above-requires c = record { room = omega (arith, c.self.invariant.kept.room, c.self.invariant.room.size, c.self.invariant.room.for_slots) }
 
 pub put_down-requires-clause-held : goal.put_down-requires-clause-held
 put_down-requires-clause-held c =
