@@ -18,7 +18,7 @@ use Rattle.cstn_exec.specs.Sound.{IsPlanned, IsGuided}
 use Rattle.cstn_run.specs.Least.{IsDueMoment}
 use Rattle.cstn_run.specs.Meanings.{IsUnfinished, AwaitsNothing, IsAcceptable, IsRefusedFor}
 
-neither_below : (a b : ℕ) → (a < b → ⊥) → (b < a → ⊥) → a ≡ b
+pub neither_below : (a b : ℕ) → (a < b → ⊥) → (b < a → ⊥) → a ≡ b
 neither_below a b one other = elim (cases_lt a b) [
   | inl below ↦ absurd (one below)
   | inr upto ↦ elim (cases_lt b a) [ inl below ↦ absurd (other below) | inr above ↦ omega arith ]

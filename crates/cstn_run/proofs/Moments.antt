@@ -16,13 +16,7 @@ use Rattle.cstn_exec.specs.Sound.{IsPlanned, IsGuided}
 use Rattle.cstn_exec.proofs.GuideNaming.{moved_kept, moved_was, called_waits, called_executed, named_holding, named_when, left_parts, left_from}
 use Rattle.cstn_exec.proofs.Denying.{all_executed, left_kept, left_in, left_not}
 use Rattle.cstn_exec.proofs.Advancing.{advanced_guided}
-
--- a time-point that was named was executed and not left out
-pub named_parts : (g : Guided) (x t : ℕ) → named_at g x ≡ Some t → (is_left g x ≡ false) × (executed_at g.run x ≡ Some t)
-named_parts g x t e = elim (cases_Bool (is_left g x)) [
-  | inl left ↦ absurd (some_or_none (named_at g x) t e (cond-true (is_left g x) None (executed_at g.run x) left))
-  | inr kept ↦ (kept, sym (cond-false (is_left g x) None (executed_at g.run x) kept) ∙ e)
-]
+use Rattle.cstn_exec.proofs.Timely.{named_parts}
 
 named_from : (g : Guided) (x t : ℕ) → is_left g x ≡ false → executed_at g.run x ≡ Some t → named_at g x ≡ Some t
 named_from g x t kept e = cond-false (is_left g x) None (executed_at g.run x) kept ∙ e

@@ -8,6 +8,7 @@ use Rattle.cstn_lift.specs.Lowered.{lowered}
 use Rattle.cstn_exec.specs.Runs.{executed_at, outcome_of, observed_at}
 use Rattle.cstn_exec.specs.Moves.{NotExecuted, Known, outcome_refusal, unless_unseen, unless_known}
 use Rattle.cstn_exec.specs.Guides.{Guided, is_left, is_among, is_denied, see_refusal}
+use Rattle.cstn_exec.proofs.GuideRefusing.{known_already}
 use Rattle.cstn_exec.proofs.Knowing.{observer_at, observed_where, observed_from}
 use Rattle.cstn_run.specs.Meanings.{IsObserved}
 
@@ -18,10 +19,6 @@ none_kept p (Some v) is = absurd (let f : ⊥ = cc in f)
 one_kept : (p : ℕ) (v : Bool) (o : Option Bool) → unless_known p o ≡ Some (Known p v) → o ≡ Some v
 one_kept p v None is = absurd (let f : ⊥ = cc in f)
 one_kept p v (Some w) is = cc
-
-never_unseen : (p : ℕ) (o : Option Bool) → unless_known p o ≡ Some (NotExecuted p) → ⊥
-never_unseen p None is = let f : ⊥ = cc in f
-never_unseen p (Some v) is = let f : ⊥ = cc in f
 
 module _ (m : Labelled) (net : IsNetwork (lowered m)) (g : Guided) (p : ℕ) where
   marked_so : (x : ℕ) → Observes (lowered m) x p → is_denied (lowered m) g p ≡ is_left g x
@@ -82,7 +79,7 @@ module _ (m : Labelled) (net : IsNetwork (lowered m)) (g : Guided) (p : ℕ) whe
 
   pub seen_unnamed : see_refusal m g p ≡ Some (NotExecuted p) ↔ (IsObserved m g p → ⊥)
   seen_unnamed = (
-    λ is seen. never_unseen p (outcome_of g.run p) (sym (where_observed seen) ∙ is),
+    λ is seen. known_already p (outcome_of g.run p) (sym (where_observed seen) ∙ is),
     λ never. elim observed_or_not [
       | inl seen ↦ absurd (never seen)
       | inr not ↦ not

@@ -5,6 +5,7 @@ use Rattle.cstn_net.specs.Networks.{Network, IsWellFormed}
 use Rattle.cstn_net.specs.Strategies.{IsConsistent}
 use Rattle.cstn_check.specs.Growth.{load_of}
 use Rattle.cstn_top.proofs.ReadBack.{listed_faultless, refuted_by_log}
+use Rattle.cstn_top.proofs.Standing.{at_well}
 use Rattle.cstn_check.specs.Givers.{is_of, with_ids}
 use Rattle.cstn_check.proofs.Fewer.{some_well_formed}
 use Rattle.cstn_conflict.specs.Conflicts.{conflict_set}
@@ -22,12 +23,6 @@ listed_well = listed_faultless
 -- the log of a network that isn't consistent has a refutation
 pub refuted_well : (net : Network) → IsWellFormed net → (IsConsistent net → ⊥) → IsRefutedByLog net
 refuted_well = refuted_by_log
-
--- a network with a deadline up to its own is well-formed
-at_well : (net : Network) (h : ℕ) → IsWellFormed net → h ≤ net.deadline → IsWellFormed (at_deadline net h)
-at_well net h good below =
-    let soon = good.in_time in
-    good_at_deadline net good h (omega (arith, soon, below))
 
 -- the least deadline that `tight` tells is right
 pub tight_well : (net : Network) → IsWellFormed net → IsConsistent net → IsTight net (least_deadline net)

@@ -20,10 +20,8 @@ use Rattle.cstn_replay.specs.Texts.{IsReplay}
 use Rattle.cstn_closed.specs.Certificates.{IsCertificate}
 use Rattle.cstn_tree.specs.Unfolded.{IsTreeText}
 use Rattle.cstn_reply.specs.declared.output.Outcome.TheVariants.{Good, Bad, Document}
+use Rattle.cstn_run.proofs.Accepting.{neither_below}
 use Rattle.cstn_top.proofs.ReadBack.{no_refutation}
-
-same_number : (k j : ℕ) → (k < j → ⊥) → (j < k → ⊥) → k ≡ j
-same_number k j above below = omega (arith, above, below)
 
 -- ---- a replay
 
@@ -35,7 +33,7 @@ one_replay net steps a b (inl x) (inl y) = x.1 ∙ sym y.1
 one_replay net steps a b (inl x) (inr y) = absurd (no_refutation net steps y.0 y.1 x.0)
 one_replay net steps a b (inr x) (inl y) = absurd (no_refutation net steps x.0 x.1 y.0)
 one_replay net steps a b (inr (k, inl x, is)) (inr (j, inl y, also)) =
-    let same : k ≡ j = same_number k j (λ below. x.wrong (y.before k below)) (λ below. y.wrong (x.before j below)) in
+    let same : k ≡ j = neither_below k j (λ below. x.wrong (y.before k below)) (λ below. y.wrong (x.before j below)) in
     is ∙ ap rejected same ∙ sym also
 one_replay net steps a b (inr (k, inl x, is)) (inr (j, inr y, also)) = absurd (x.wrong (λ e there. y.derivation k e there))
 one_replay net steps a b (inr (k, inr x, is)) (inr (j, inl y, also)) = absurd (y.wrong (λ e there. x.derivation j e there))

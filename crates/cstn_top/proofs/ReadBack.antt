@@ -45,7 +45,7 @@ use Rattle.cstn_top.specs.commands.Closedcheck.{certified_bounds, certified}
 use Rattle.cstn_top.specs.Accepted.{IsAccepted, IsYesText, IsNoText, HasIds}
 use Rattle.cstn_reply.specs.declared.output.Outcome.TheVariants.{Good, Script}
 use Rattle.cstn_tight.proofs.ClosedLemmas.{live_short, some_live}
-use Rattle.cstn_top.proofs.Listing.{limit_in_time}
+use Rattle.cstn_net.proofs.Kept.{limit_in_time}
 use Rattle.cstn_top.proofs.Lengths.{bounds_text_short, steps_text_short}
 
 -- the ids of the constraints of a document are numbers of 32 bits
@@ -62,7 +62,7 @@ absent No never = absurd (never (λ e. cc))
 absent Unknown never = absurd (never (λ e. cc))
 
 -- a label that marks observed propositions alone marks none above the letters
-letters_alone : (net : Network) (a : Label) → IsWellFormed net → IsOnObserved net a → (p : ℕ) → 52 ≤ p → a p ≡ Absent
+pub letters_alone : (net : Network) (a : Label) → IsWellFormed net → IsOnObserved net a → (p : ℕ) → 52 ≤ p → a p ≡ Absent
 letters_alone net a good on p above = absent (a p) (λ named. let seen = on p named in let below = good.letters seen.0 p seen.1 in omega (arith, above, below))
 
 some_load : (net : Network) → IsWellFormed net → 1 ≤ load_of net
@@ -157,7 +157,7 @@ no_refutation net steps k (inl first) refutation = first.wrong (λ e there. refu
 no_refutation net steps k (inr vain) refutation = vain.vain refutation
 
 -- a text that is short enough isn't refused for its length
-short_text : (speaks : List ℕ → Answer) (text : List ℕ) (names : List (List ℕ)) (net : Network) → length text ≤ most_text → by_text speaks text names net ≡ speaks text names net
+pub short_text : (speaks : List ℕ → Answer) (text : List ℕ) (names : List (List ℕ)) (net : Network) → length text ≤ most_text → by_text speaks text names net ≡ speaks text names net
 short_text speaks text names net short = within most_text (length text) (says (say Script (codes "script long"))) (speaks text names net) short
   where
     within : (n m : ℕ) (one other : Plan) → m ≤ n → (if nat_lt n m then one else other) ≡ other
@@ -170,7 +170,7 @@ certificate_accepted names net bounds faultless closed live said = (only, λ sam
     only (inl found) = found.2
     only (inr found) = absurd (faultless found.0 found.1.fault)
 
-replay_accepted : (net : Network) (steps : List Entry) → IsRefutation net steps → IsAccepted (replays steps net)
+pub replay_accepted : (net : Network) (steps : List Entry) → IsRefutation net steps → IsAccepted (replays steps net)
 replay_accepted net steps refutation live said = (only, λ same. inl (refutation, same))
   where
     only : IsOutput (replays steps net) live said → said ≡ say Good (codes "accepted")

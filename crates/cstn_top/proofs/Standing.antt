@@ -35,7 +35,7 @@ use Rattle.cstn_conflict.specs.Texts.{blamed_after_no, blamed_by}
 use Rattle.cstn_tight.specs.Texts.{refuted_text, tight_text}
 
 -- a network with a deadline up to its own is well-formed
-at_well : (net : Network) (h : ℕ) → IsWellFormed net → h ≤ net.deadline → IsWellFormed (at_deadline net h)
+pub at_well : (net : Network) (h : ℕ) → IsWellFormed net → h ≤ net.deadline → IsWellFormed (at_deadline net h)
 at_well net h good below =
     let soon = good.in_time in
     good_at_deadline net good h (omega (arith, soon, below))

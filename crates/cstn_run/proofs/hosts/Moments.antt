@@ -17,7 +17,7 @@ use Rattle.cstn_exec.specs.Running.{spaced, seen_text, due_text}
 use Rattle.cstn_run.specs.hosted.Sessions.{File, Case, HostSession, case_of, case_next, with_id, done_lines, told_text, names_in, due_in, said, session_after}
 use Rattle.cstn_run.specs.hosted.SessionRead.{HostSessionParts, the_files, the_case, the_host_session}
 use Rattle.cstn_run.proofs.hosts.PutLines.{nothing_after}
-use Rattle.cstn_run.proofs.hosts.Same.{case_same, file_same, said_told}
+use Rattle.cstn_run.proofs.hosts.Same.{case_same, file_same, files, said_told}
 
 never_named : (e : HostError) (xs : List ℕ) → the_denial e ≡ Told (Names xs) → ⊥
 never_named (IdInUse id) xs is = cc
@@ -120,9 +120,6 @@ module _ (host : HostParts) (id t : ℕ) (m : Moved host id t) where
       ∙ ap (λ (r : Option Refusal). unless_refused m.before.named named_then r) m.accepted
 
 module _ (w : HostSessionParts) (as_many : length w.names ≡ length w.host.plans) where
-  abbrev files : List File
-  files = the_files w.host.plans w.names
-
   module _ (id t : ℕ) (m : Moved w.host id t) where
     abbrev pub names_then : List (List ℕ)
     names_then = slice_index_or w.names m.before.file []
@@ -133,12 +130,12 @@ module _ (w : HostSessionParts) (as_many : length w.names ≡ length w.host.plan
     case_is : case_of (the_host_session w) id ≡ Some (the_case m.before)
     case_is = case_same w as_many id ∙ ap (λ (o : Option Opened). option_map the_case o) m.was
 
-    names_are : names_in files (case_of (the_host_session w) id) ≡ names_then
-    names_are = ap (λ (o : Option Case). names_in files o) case_is ∙ ap (λ (f : File). f.names) (file_same w.host.plans w.names m.before.file as_many)
+    names_are : names_in (files w as_many) (case_of (the_host_session w) id) ≡ names_then
+    names_are = ap (λ (o : Option Case). names_in (files w as_many) o) case_is ∙ ap (λ (f : File). f.names) (file_same w.host.plans w.names m.before.file as_many)
 
-    due_is : due_in files (case_next files (case_of (the_host_session w) id) (put_on id (moment_at t))) ≡ due_then
+    due_is : due_in (files w as_many) (case_next (files w as_many) (case_of (the_host_session w) id) (put_on id (moment_at t))) ≡ due_then
     due_is =
-        ap (λ (o : Option Case). due_in files (case_next files o (put_on id (moment_at t)))) case_is
+        ap (λ (o : Option Case). due_in (files w as_many) (case_next (files w as_many) o (put_on id (moment_at t)))) case_is
         ∙ ap (λ (f : File). due f.net f.bounds (run_unless m.before.run (moved f.net f.bounds m.before.run t) (moment_refusal f.net f.bounds m.before.run t))) (file_same w.host.plans w.names m.before.file as_many)
         ∙ ap (λ (r : Option Refusal). due (net_at w.host.plans m.before.file) (bounds_at w.host.plans m.before.file) (run_unless m.before.run (run_then w.host id t m) r)) m.accepted
 
@@ -146,7 +143,7 @@ module _ (w : HostSessionParts) (as_many : length w.names ≡ length w.host.plan
     moment_said : Told (Names (named_at (after_moment w.host id t) id)) ≡ answer_on w.host id (Pass (Moment t)) → said (the_host_session w) (put_on id (moment_at t)) ≡ with_id id (codes "at " ++ decimal t ++ spaced names_then (named_then w.host id t m)) ++ flat_map (with_id id) (done_lines due_then)
     moment_said is =
         said_told w as_many (put_on id (moment_at t)) (Names (named_at (after_moment w.host id t) id)) is
-        ∙ ap (λ (names : List (List ℕ)). told_text names (due_in files (case_next files (case_of (the_host_session w) id) (put_on id (moment_at t)))) (put_on id (moment_at t)) (Names (named_at (after_moment w.host id t) id))) names_are
+        ∙ ap (λ (names : List (List ℕ)). told_text names (due_in (files w as_many) (case_next (files w as_many) (case_of (the_host_session w) id) (put_on id (moment_at t)))) (put_on id (moment_at t)) (Names (named_at (after_moment w.host id t) id))) names_are
         ∙ ap (λ (due : Option ℕ). told_text names_then due (put_on id (moment_at t)) (Names (named_at (after_moment w.host id t) id))) due_is
         ∙ ap (λ (xs : List ℕ). told_text names_then due_then (put_on id (moment_at t)) (Names xs)) (named_now w.host id t m)
 

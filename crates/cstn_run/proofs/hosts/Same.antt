@@ -41,7 +41,7 @@ file_same (p ∷ ps) (n ∷ ns) zero same = refl
 file_same (p ∷ ps) (n ∷ ns) (suc k) same = file_same ps ns k (omega (arith, same))
 
 module _ (w : HostSessionParts) (as_many : length w.names ≡ length w.host.plans) where
-  abbrev files : List File
+  abbrev pub files : List File
   files = the_files w.host.plans w.names
 
   the_file : (k : ℕ) → file_at files k ≡ the_planned (plan_of_file w.host.plans k) (slice_index_or w.names k [])
