@@ -24,6 +24,3 @@ expects_of Letter = letter
 
 abbrev pub pair_seen : LentPair → Pair
 pair_seen p = record { most = p.most; label = option_map marks p.label }
-
-abbrev pub prop_seen : Option Prop → Option ℕ
-prop_seen prop = option_map (λ p. p.index) prop

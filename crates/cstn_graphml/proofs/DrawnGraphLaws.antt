@@ -34,7 +34,7 @@ bind_ok (Err r) f y e = absurd (cc)
 pub ok_is : {A : Type 0} (x y : A) → ◌≡◌ {A = Result A Refusal} (Ok x) (Ok y) → x ≡ y
 ok_is x y e = cc
 
-given : {A : Type 0} (o : Option A) (e : Refusal) (x : A) → or_refused o e ≡ Ok x → o ≡ Some x
+pub given : {A : Type 0} (o : Option A) (e : Refusal) (x : A) → or_refused o e ≡ Ok x → o ≡ Some x
 given (Some y) e x h = cc
 given None e x h = absurd (cc)
 
@@ -55,7 +55,7 @@ read_keeps r P Q ends runs elements (element tag inside after) s a p h =
     read_keeps r P Q ends runs elements after b.0 a (elements s b.0 tag inside p b.1) b.2
 
 -- a blank text changes nothing
-blank_keeps : {S : Type 0} (P : S → Type 0) (s t : S) (at : ℕ) (raw : List ℕ) → P s → (blank at raw >>= λ same. Ok s) ≡ Ok t → P t
+pub blank_keeps : {S : Type 0} (P : S → Type 0) (s t : S) (at : ℕ) (raw : List ℕ) → P s → (blank at raw >>= λ same. Ok s) ≡ Ok t → P t
 blank_keeps P s t at raw p h = let b = bind_ok (blank at raw) (λ same. Ok s) t h in subst P (ok_is s t b.2) p
 
 pub empty_is : IsDrawnGraph empty_graph

@@ -5,7 +5,7 @@ ghost use Rattle.cstn_label.specs.Read.{marks};
 ghost use Rattle.cstn_graphml.specs.Judged.{observed, reacting, labelled, judged_node};
 ghost use Rattle.cstn_element.specs.Children.{tag_seen};
 ghost use Rattle.cstn_element.specs.DataElementSeen.{lent_datum, data_seen};
-ghost use Rattle.cstn_element.specs.TextsSeen.{prop_seen};
+ghost use Rattle.cstn_net.specs.Read.{prop_number};
 ghost use Rattle.cstn_graphml.specs.DrawnGraph.{observation};
 ghost use Rattle.cstn_graphml.specs.DrawnGraphSeen.{observed_seen, graph_seen};
 ghost use Rattle.cstn_element.specs.Reads.{Gives, raised};
@@ -19,7 +19,7 @@ use std::alloc::Global;
 
 /// The proposition that a node observes by its data element `Obs`, if any. Refused where its text isn't of its form.
 fn observed(datum: Option<&Datum>) -> Result<Option<Prop>, Fault>
-    ensures { Gives prop_seen (raised result) (observed (lent_datum datum.entry)) }
+    ensures { Gives prop_number (raised result) (observed (lent_datum datum.entry)) }
 {
     let Some(datum) = datum else {
         return Ok(None);
@@ -45,7 +45,7 @@ fn reacting(datum: Option<&Datum>) -> Result<u32, Fault>
 
 /// The observation of this proposition, if any.
 fn observation(prop: Option<Prop>, reaction: u32) -> Option<Observation>
-    ensures { observed_seen result ≡ observation (prop_seen prop) reaction }
+    ensures { observed_seen result ≡ observation (prop_number prop) reaction }
 {
     match prop {
         Some(prop) => Some(Observation { prop, reaction }),

@@ -77,8 +77,8 @@ absent_by a p No low e high = absurd (omega (arith, high, low (λ none. false≢
 absent_by a p Unknown low e high = absurd (omega (arith, high, low (λ none. false≢true (ap is_absent (sym e ∙ none)))))
 
 -- a label of observed propositions alone marks no proposition above 51
-high_of : (net : Network) (a : Label) → IsWellFormed net → IsOnObserved net a → (p : ℕ) → 52 ≤ p → a p ≡ Absent
-high_of net a wf observed p high = absent_by a p (a p) (λ marked. let o = observed p marked in wf.letters o.0 p o.1) refl high
+pub letters_alone : (net : Network) (a : Label) → IsWellFormed net → IsOnObserved net a → (p : ℕ) → 52 ≤ p → a p ≡ Absent
+letters_alone net a wf observed p high = absent_by a p (a p) (λ marked. let o = observed p marked in wf.letters o.0 p o.1) refl high
 
 all_known : (names : List (List ℕ)) (cs : List Constraint) (d : DrawnGraph) → All (IsKnown names d) cs → AreKnown names d cs
 unfolding AreKnown
@@ -111,13 +111,13 @@ content_back m names good is =
       sized = given.sized i (omega (arith, h, is.each));
       fresh = fresh names os m.labels net.deadline at i given (omega (arith, h, is.each));
       prop = given.props i (omega (arith, h, observations_count net));
-      label = record { plain = good.plain i h; high = high_of net (label_of m i) wf (good.observed i h) };
+      label = record { plain = good.plain i h; high = letters_alone net (label_of m i) wf (good.observed i h) };
     } in
     let known : (at : ℕ) → All (IsKnown names (drafted_of m names at)) net.constraints =
     λ at k x h. let c = wf.network.constraints k x h in let v = wf.values k x h in record {
       fits = value_fits (slice_index_or net.constraints k x).most v;
       plain = c.plain;
-      letters = λ p high. high_of net (slice_index_or net.constraints k x).label wf c.observed p high;
+      letters = λ p high. letters_alone net (slice_index_or net.constraints k x).label wf c.observed p high;
       from = found names os m.labels net.deadline n (slice_index_or net.constraints k x).from _ given all (shape at) (omega (arith, c.from, is.each));
       to = found names os m.labels net.deadline n (slice_index_or net.constraints k x).to _ given all (shape at) (omega (arith, c.to, is.each));
     } in

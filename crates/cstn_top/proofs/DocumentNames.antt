@@ -28,7 +28,7 @@ use Rattle.cstn_graphml.specs.DrawnGraph.{Observation, observation, DrawnGraph, 
 use Rattle.cstn_graphml.specs.Judged.{judged_node, judged_edge, judged_deadline, with_pair, with_pairs, with_values, with_edge, is_kept, observed, reacting, labelled}
 use Rattle.cstn_graphml.specs.Document.{Parts, Part, graph_child, graph_reading, in_graph, root_child, root_reading, in_root, document_child, document_reading, in_document, part_of, drawn_parts, or_nothing, first_of_two, is_text, document}
 use Rattle.cstn_graphml.specs.Document.Part.{a_datum, a_node, an_edge, another}
-use Rattle.cstn_graphml.proofs.DrawnGraphLaws.{bind_ok}
+use Rattle.cstn_graphml.proofs.DrawnGraphLaws.{bind_ok, ok_is, given, blank_keeps}
 use Rattle.cstn_graphml.proofs.FreshNames.{fresh}
 
 -- the names and values of a tag are UTF-8, or those of all tags of a content
@@ -116,13 +116,6 @@ attribute_clear name tag value clear is = by_raw (raw_with name tag.attributes) 
     by_raw None e h = absurd (cc)
     by_raw (Some raw) e h = let same : read_of raw ≡ value = cc in subst IsUtf8 same (read_clear raw (raw_clear name tag.attributes raw clear e))
 
-ok_is : {A : Type 0} (x y : A) → ◌≡◌ {A = Result A Refusal} (Ok x) (Ok y) → x ≡ y
-ok_is x y e = cc
-
-given : {A : Type 0} (o : Option A) (e : Refusal) (x : A) → or_refused o e ≡ Ok x → o ≡ Some x
-given (Some y) e x h = cc
-given None e x h = absurd (cc)
-
 demanded : (b : Bool) (e : Refusal) (u : Unit {0}) → demand b e ≡ Ok u → b ≡ true
 demanded true e u h = refl
 demanded false e u h = absurd (cc)
@@ -142,9 +135,6 @@ read_keeps r P Q ends runs elements (run at raw after) s a clear p h =
 read_keeps r P Q ends runs elements (element tag inside after) s a clear p h =
     let b = bind_ok (r.elements s tag inside) (λ t. read_by r t after) a h in
     read_keeps r P Q ends runs elements after b.0 a clear.2 (elements s b.0 tag inside clear.0 clear.1 p b.1) b.2
-
-blank_keeps : {S : Type 0} (P : S → Type 0) (s t : S) (at : ℕ) (raw : List ℕ) → P s → (blank at raw >>= λ same. Ok s) ≡ Ok t → P t
-blank_keeps P s t at raw p h = let b = bind_ok (blank at raw) (λ same. Ok s) t h in subst P (ok_is s t b.2) p
 
 -- the names of a graph are different texts of 1 to 64 bytes
 record IsNamedGraph (d : DrawnGraph) : Type 0 where

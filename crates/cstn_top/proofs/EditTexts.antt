@@ -1,5 +1,5 @@
 -- What an edit session says after no is accepted by a replay on the network as edited.
-use Rattle.std.proofs.Common.{◌≡◌, ◌≢◌, ℕ, ◌+◌, ◌-◌, ◌≤◌, ◌<◌, ◌^◌, Bool, true, false, List, [], ◌∷◌, length, get_or, Some, refl, sym, ap, subst, inl, inr, arith}
+use Rattle.std.proofs.Common.{◌≡◌, ℕ, ◌+◌, ◌-◌, ◌≤◌, ◌<◌, ◌^◌, Bool, true, false, List, [], ◌∷◌, length, get_or, Some, refl, sym, ap, subst, inl, inr, arith}
 use Rattle.std.specs.Prelude.{ℤ, nat_lt, nat_le, Result, Ok, Err, if◌then◌else◌, codes, pos, ◌≤ℤ◌, slice_get, Option, None}
 use Rattle.std.specs.List.{All}
 use Rattle.std.proofs.lemmas.Int.{ints}
@@ -23,6 +23,7 @@ use Rattle.cstn_check.proofs.GoodLemmas.{good_at}
 use Rattle.cstn_check.proofs.PartLemmas.{part_short}
 use Rattle.cstn_text.specs.Names.{AreNames}
 use Rattle.cstn_refute.specs.Texts.{Told, tells, told, shown}
+use Rattle.cstn_save.proofs.LawLemmas.{letters_alone}
 use Rattle.cstn_refute.specs.Written.{ArePlaces, IsPrintableStep, AreWritten}
 use Rattle.cstn_lines.specs.EditLines.{Edit, added, removed, changed, asked, edit_read}
 use Rattle.cstn_reply.specs.Texts.{say}
@@ -34,7 +35,7 @@ use Rattle.cstn_change.specs.Changes.{EditedNetwork, Change, adds, removes, reva
 use Rattle.cstn_change.specs.ChangeLines.{addition, after_change, after_edit, after_lines}
 use Rattle.cstn_change.proofs.IdLemmas.{above_small, one_id}
 use Rattle.cstn_top.proofs.Lengths.{steps_text_short}
-use Rattle.cstn_top.proofs.ReadBack.{StepsBack, letters_alone, short_text, replay_accepted}
+use Rattle.cstn_top.proofs.ReadBack.{StepsBack, short_text, replay_accepted}
 
 -- ---- ids stay numbers of 32 bits
 

@@ -1,12 +1,10 @@
 -- What is written of a network is accepted when it is handed in again.
-use Rattle.std.proofs.Common.{◌≡◌, ◌≢◌, ℕ, ◌+◌, ◌-◌, ◌≤◌, ◌<◌, ◌^◌, Bool, true, false, List, [], ◌∷◌, Some, length, get_or, refl, sym, ap, subst, inl, inr, arith}
+use Rattle.std.proofs.Common.{◌≡◌, ℕ, ◌+◌, ◌-◌, ◌≤◌, ◌<◌, ◌^◌, Bool, true, false, List, [], ◌∷◌, Some, length, get_or, refl, sym, ap, subst, inl, inr, arith}
 use Rattle.std.specs.Prelude.{◌⊎◌, nat_lt, if◌then◌else◌, codes, pos, ◌≤ℤ◌, slice_get}
 use Rattle.std.specs.List.{All, Contains}
 use Rattle.std.proofs.lemmas.Int.{ints}
 use Rattle.std.proofs.lemmas.List.Elements.{All-nil, All-cons, All-contains, Contains-get_or}
 use Rattle.std.proofs.lemmas.Option.{slice_get_within, slice_get-get_or}
-use Rattle.cstn_label.specs.declared.marks.Mark.{Mark}
-use Rattle.cstn_label.specs.declared.marks.Mark.TheVariants.{Absent, Yes, No, Unknown}
 use Rattle.cstn_label.specs.Bounds.{Bound}
 use Rattle.cstn_label.specs.Labels.{Label}
 use Rattle.cstn_net.specs.Limits.{most_constraints, most_load}
@@ -29,6 +27,7 @@ use Rattle.cstn_check.proofs.Answering.{log_refutes_last}
 use Rattle.cstn_check.proofs.PartLemmas.{part_short, part_refutes, log_refutation}
 use Rattle.cstn_text.specs.Names.{AreNames}
 use Rattle.cstn_refute.specs.Texts.{Told as ToldSteps, tells as tells_steps, told as told_steps, shown as shown_steps}
+use Rattle.cstn_save.proofs.LawLemmas.{letters_alone}
 use Rattle.cstn_refute.specs.Written.{ArePlaces, IsPrintableStep as IsWrittenStep, AreWritten as AreWrittenSteps}
 use Rattle.cstn_closed.specs.Faults.{IsFaultless}
 use Rattle.cstn_closed.specs.Texts.{Told as ToldBounds, tells as tells_bounds, told as told_bounds, shown as shown_bounds}
@@ -54,16 +53,6 @@ numbered_ids k [] few = All-nil (λ (c : Constraint). c.id < 2 ^ 32)
 numbered_ids k (c ∷ cs) few =
     All-cons (λ (c : Constraint). c.id < 2 ^ 32) (record { id = k; from = c.from; to = c.to; most = c.most; label = c.label }) (numbered_drawn (k + 1) cs)
     (omega arith) (numbered_ids (k + 1) cs (omega arith))
-
-absent : (m : Mark) → (m ≢ Absent → ⊥) → m ≡ Absent
-absent Absent never = refl
-absent Yes never = absurd (never (λ e. cc))
-absent No never = absurd (never (λ e. cc))
-absent Unknown never = absurd (never (λ e. cc))
-
--- a label that marks observed propositions alone marks none above the letters
-pub letters_alone : (net : Network) (a : Label) → IsWellFormed net → IsOnObserved net a → (p : ℕ) → 52 ≤ p → a p ≡ Absent
-letters_alone net a good on p above = absent (a p) (λ named. let seen = on p named in let below = good.letters seen.0 p seen.1 in omega (arith, above, below))
 
 some_load : (net : Network) → IsWellFormed net → 1 ≤ load_of net
 some_load net good = omega (arith, load_above net good, good.network.origin)

@@ -19,7 +19,8 @@ use Rattle.cstn_element.specs.Results.{Refusal as DocumentRefusal}
 use Rattle.cstn_graphml.specs.Document.{Parts, document}
 use Rattle.cstn_graphml.specs.Networks.{labelled_of, network_of, IsHeld, IsFit, IsUnfit, IsMislabelled}
 use Rattle.cstn_graphml.specs.Answers.{CanBeHeld}
-use Rattle.cstn_rules.specs.Derivations.{Entry, Follows, IsDerivation}
+use Rattle.cstn_rules.specs.Derivations.{Entry, IsDerivation}
+use Rattle.cstn_replay.specs.Wrong.{IsRight}
 use Rattle.cstn_refute.specs.Texts.{Told as ToldSteps, tells as tells_steps, wrong as wrong_step, told as told_steps}
 use Rattle.cstn_refute.specs.Written.{AreWritten as AreWrittenSteps}
 use Rattle.cstn_closed.specs.Texts.{Told as ToldBounds, tells as tells_bounds, wrong as wrong_bound, told as told_bounds}
@@ -70,12 +71,8 @@ HasSome plan live = ((said : Said) → IsOutput plan live said → ⊥) → ⊥
 pub said_some : (said : Said) (live : List ℕ) → HasSome (says said) live
 said_some said live none = none said refl
 
--- the step at the place k, if there is one, follows by its rule
-abbrev pub IsRightStep : Network → List Entry → ℕ → Type 0
-IsRightStep net steps k = (e : Entry) → slice_get steps k ≡ Some e → Follows net steps k e.why e.bound
-
 -- steps that are right before the place k, after which n are left
-pub steps_some : (net : Network) (steps : List Entry) (live : List ℕ) (n k : ℕ) → k + n ≡ length steps → 1 ≤ length steps → ((i : ℕ) → i < k → IsRightStep net steps i) → HasSome (replays steps net) live
+pub steps_some : (net : Network) (steps : List Entry) (live : List ℕ) (n k : ℕ) → k + n ≡ length steps → 1 ≤ length steps → ((i : ℕ) → i < k → IsRight net steps i) → HasSome (replays steps net) live
 steps_some net steps live zero k whole some right none =
     let derivation : IsDerivation net steps = λ i e there. let inside = slice_get_within steps i e there in right i (omega (arith, whole, inside)) e there in
     none _ (inr (
@@ -98,10 +95,10 @@ steps_some net steps live (suc n) k whole some right none =
       refl,
     ))
   where
-    later : IsRightStep net steps k → (i : ℕ) → i < k + 1 → IsRightStep net steps i
+    later : IsRight net steps k → (i : ℕ) → i < k + 1 → IsRight net steps i
     later here i upto = elim (cases_lt i k) [
       | inl below ↦ right i below
-      | inr past ↦ let same : k ≡ i = omega (arith, past, upto) in subst (IsRightStep net steps) same here
+      | inr past ↦ let same : k ≡ i = omega (arith, past, upto) in subst (IsRight net steps) same here
     ]
 
 pub verdict_some : (cap : ℕ) (names : List (List ℕ)) (net : Network) (after_yes : Plan) (v : Verdict) (live : List ℕ) → Tells cap net v → (IsYes cap net → HasSome after_yes live) → HasSome (on_verdict cap names net after_yes v) live

@@ -1,5 +1,6 @@
 -- The answers to an id are those of a run of its file's plan alone.
 use Rattle.std.proofs.Common.{◌≡◌, ◌≢◌, ℕ, ◌<◌, List, [], ◌∷◌, ◌++◌, length, map, refl, ap, sym, subst, ◌∙◌, arith, Bool, true, false}
+use Rattle.std.proofs.lemmas.Bool.{lt-ltb}
 use Rattle.std.specs.Prelude.{Option, Some, None, nat_lt, ◌==◌, if◌then◌else◌, slice_index_or, slice_set, flat_map, codes}
 use Rattle.std.proofs.lemmas.List.{get_or-set_same, get_or-set_other, length-set, length-replicate}
 use Rattle.cstn_exec.specs.Runs.{Run, due, called}
@@ -13,7 +14,7 @@ use Rattle.cstn_exec.specs.Running.{moment_line, refused_text, seen_text, due_te
 use Rattle.cstn_run.specs.hosted.Sessions.{File, Case, HostSession, begun, file_at, case_of, id_of, passed_on, case_next, with_id, answer_lines, denied_text, said_in, said, session_after}
 use Rattle.cstn_run.specs.hosted.Alone.{lines_on, put_if, said_to, alone_after, alone_lines, alone_said, turn_text, LeadsTo}
 use Rattle.cstn_run.proofs.hosts.PutLines.{nothing_after}
-use Rattle.cstn_run.proofs.hosts.Ids.{is_below, same_is, is_same, other_is}
+use Rattle.cstn_run.proofs.hosts.Ids.{same_is, is_same, other_is}
 
 -- ---- one line
 
@@ -36,7 +37,7 @@ as_many session h = at (nat_lt (id_of h) 64)
 -- a line changes what its own id is open over
 pub changes : (session : HostSession) (h : Hosted) → length session.cases ≡ 64 → id_of h < 64 → case_of (session_after session h) (id_of h) ≡ case_next session.files (case_of session (id_of h)) h
 changes session h size below =
-    ap (λ (b : Bool). slice_index_or (if b then slice_set session.cases (id_of h) (case_next session.files (case_of session (id_of h)) h) else session.cases) (id_of h) None) (is_below (id_of h) 64 below)
+    ap (λ (b : Bool). slice_index_or (if b then slice_set session.cases (id_of h) (case_next session.files (case_of session (id_of h)) h) else session.cases) (id_of h) None) (lt-ltb (id_of h) 64 below)
     ∙ get_or-set_same session.cases (id_of h) (case_next session.files (case_of session (id_of h)) h) None (omega (arith, size, below))
 
 -- ---- all lines
@@ -125,7 +126,7 @@ passes_on w id c (live ∷ lives) below size is =
   where
     now : said w (put_on id live) ≡ flat_map (with_id id) (alone_lines (file_at w.files c.file) c.run live)
     now =
-        ap (λ (b : Bool). if b then said_in w.files (case_of w id) (put_on id live) else line (denied_text (OutOfRange id))) (is_below id 64 below)
+        ap (λ (b : Bool). if b then said_in w.files (case_of w id) (put_on id live) else line (denied_text (OutOfRange id))) (lt-ltb id 64 below)
         ∙ ap (λ (o : Option Case). said_in w.files o (put_on id live)) is
 
 -- ---- a run alone

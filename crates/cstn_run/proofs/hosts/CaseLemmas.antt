@@ -1,5 +1,6 @@
 -- What contracts see of a host's cases.
 use Rattle.std.proofs.Common.{◌≡◌, ◌<◌, ◌≤◌, ℕ, List, [], length, replicate, refl, ap, sym, subst, ◌∙◌, arith, false}
+use Rattle.std.proofs.lemmas.Bool.{lt-ltb}
 use Rattle.std.specs.Prelude.{Option, Some, None, is_some, slice_index_or, slice_set, IfSome}
 use Rattle.std.specs.Option.{option_map}
 use Rattle.std.proofs.Math.ListN.{get_or-map}
@@ -14,7 +15,6 @@ use Rattle.cstn_run.specs.declared.hosted.cases.Case.{Case}
 use Rattle.cstn_run.specs.hosted.Hosts.{HostParts, Opened, plan_of_file}
 use Rattle.cstn_run.specs.hosted.Calls.{Call, Open, Close, answer_at, answer_on, case_after, host_after}
 use Rattle.cstn_run.specs.hosted.Read.{the_opened, the_cases, IsOver, IsHost}
-use Rattle.cstn_run.proofs.hosts.Ids.{is_below}
 
 -- what is seen of the case at a place
 pub case_read : (cases : List (Option Case)) (k : ℕ) → slice_index_or (the_cases cases) k None ≡ option_map the_opened (slice_index_or cases k None)
@@ -61,11 +61,11 @@ over_at plans cases id place d is here =
 
 -- the answer to a call on such an id is that by the case at its place
 pub answered_at : (plans : List PlanParts) (cases : List (Option Case)) (id place : ℕ) (d : Option Case) (call : Call) → IsHost plans cases → IsAt cases id place d → answer_on (host_of plans cases) id call ≡ answer_at plans id (option_map the_opened d) call
-answered_at plans cases id place d call is here = rw (is_below id 64 here.is_small, case_read cases id, at_id plans cases id place d is here) refl
+answered_at plans cases id place d call is here = rw (lt-ltb id 64 here.is_small, case_read cases id, at_id plans cases id place d is here) refl
 
 -- the host after a call that puts v into the id's place
 pub after_put : (plans : List PlanParts) (cases : List (Option Case)) (id place : ℕ) (d v : Option Case) (call : Call) → IsHost plans cases → IsAt cases id place d → option_map the_opened v ≡ case_after plans (option_map the_opened d) call → host_of plans (slice_set cases place v) ≡ host_after (host_of plans cases) id call
-after_put plans cases id place d v call is here puts = rw (here.is_place, is_below id 64 here.is_small, case_read cases id, at_id plans cases id place d is here, ← puts, map-set (option_map the_opened) cases id v) refl
+after_put plans cases id place d v call is here puts = rw (here.is_place, lt-ltb id 64 here.is_small, case_read cases id, at_id plans cases id place d is here, ← puts, map-set (option_map the_opened) cases id v) refl
 
 -- what was put into a place is there
 pub put_there : (plans : List PlanParts) (cases : List (Option Case)) (id place : ℕ) (d v : Option Case) → IsHost plans cases → IsAt cases id place d → slice_index_or (the_cases (slice_set cases place v)) id None ≡ option_map the_opened v
@@ -84,7 +84,7 @@ pub opened_on : (plans : List PlanParts) (file : ℕ) (d : Option Case) (e : Exe
     → e ≡ record { net = record (plan_of_file plans file).net { spare = 0 }; bounds = (plan_of_file plans file).bounds; run = start (count (the_network (plan_of_file plans file).net)); named = [] }
     → Some (the_opened (record { file = file; executive = e })) ≡ case_after plans (option_map the_opened d) (Open file false)
 opened_on plans file d e none inside is =
-    rw (none, is_below file (length plans) inside) (ap Some (ap (λ (x : ExecParts). record { file = file; run = x.run; named = x.named }) is))
+    rw (none, lt-ltb file (length plans) inside) (ap Some (ap (λ (x : ExecParts). record { file = file; run = x.run; named = x.named }) is))
 
 pub is_closed : (d : Option Case) → is_some d ≡ false → d ≡ None
 is_closed None is = refl

@@ -1,5 +1,6 @@
 -- The least open id of which not all is executed.
 use Rattle.std.proofs.Common.{◌≡◌, ◌<◌, ◌≤◌, ◌+◌, ◌-◌, ℕ, suc, Bool, length, refl, ap, sym, ◌∙◌, arith}
+use Rattle.std.proofs.lemmas.Bool.{lt-ltb}
 use Rattle.std.specs.Prelude.{if◌then◌else◌, Option, Some, None}
 use Rattle.std.specs.Option.{option_map}
 use Rattle.cstn_exec.specs.Runs.{due}
@@ -12,7 +13,6 @@ use Rattle.cstn_run.specs.hosted.Sessions.{File, Case, HostSession, case_of, due
 use Rattle.cstn_run.specs.hosted.SessionRead.{HostSessionParts, the_files, the_case, the_host_session}
 use Rattle.cstn_run.proofs.hosts.Same.{case_same, file_same}
 use Rattle.cstn_run.proofs.hosts.Moments.{never_due}
-use Rattle.cstn_run.proofs.hosts.Ids.{is_below}
 
 -- the least id from `id` on is `id`, where something is due there, or the least from the next id on
 step : (session : HostSession) (id : ℕ) → id < 64 → due_from session id (64 - id) ≡ or_later (option_map (λ t. (id, t)) (due_in session.files (case_of session id))) (due_from session (id + 1) (64 - (id + 1)))
@@ -54,7 +54,7 @@ module _ (w : HostSessionParts) (as_many : length w.names ≡ length w.host.plan
       at (Some c) = ap (λ (f : File). due f.net f.bounds c.run) (file_same w.host.plans w.names c.file as_many)
 
   asked : (id : ℕ) → id < 64 → answer_on w.host id (Pass AskDue) ≡ answer_at w.host.plans id (case_at w.host id) (Pass AskDue)
-  asked id below = ap (λ (b : Bool). if b then answer_at w.host.plans id (case_at w.host id) (Pass AskDue) else Denied (OutOfRange id)) (is_below id 64 below)
+  asked id below = ap (λ (b : Bool). if b then answer_at w.host.plans id (case_at w.host id) (Pass AskDue) else Denied (OutOfRange id)) (lt-ltb id 64 below)
 
   -- what the host answers to `due` is what is due
   pub due_told : (id : ℕ) (t : Option ℕ) → id < 64 → Told (DueAt t) ≡ answer_on w.host id (Pass AskDue) → due_in (the_files w.host.plans w.names) (case_of (the_host_session w) id) ≡ t

@@ -2,9 +2,6 @@
 use Rattle.std.proofs.Common.{◌≡◌, ◌≢◌, ℕ, ◌<◌, true, false, arith}
 use Rattle.std.specs.Prelude.{nat_lt, ◌==◌}
 
-pub is_below : (a b : ℕ) → a < b → nat_lt a b ≡ true
-is_below a b small = grind arith
-
 pub below_is : (a b : ℕ) → nat_lt a b ≡ true → a < b
 below_is a b is = grind arith
 

@@ -1,5 +1,6 @@
 -- The answer to a host line is the one by its id's own lines.
 use Rattle.std.proofs.Common.{◌≡◌, ℕ, ◌<◌, ◌+◌, List, [], ◌∷◌, ◌++◌, length, map, refl, ap, sym, subst, ◌∙◌, arith, Bool, true, false}
+use Rattle.std.proofs.lemmas.Bool.{lt-ltb}
 use Rattle.std.specs.Prelude.{Option, Some, None, nat_lt, ◌==◌, if◌then◌else◌}
 use Rattle.std.specs.Option.{option_map}
 use Rattle.std.proofs.lemmas.List.{get_or-replicate, length-replicate}
@@ -14,7 +15,7 @@ use Rattle.cstn_reply.specs.Reached.{state_after, LeadsTo, Says}
 use Rattle.cstn_reply.proofs.Sessions.{first_leads, Begins, says_next}
 use Rattle.cstn_run.specs.hosted.Sessions.{File, Case, HostSession, begun, file_at, fresh, case_of, id_of, case_next, agreed_text, denied_text, answer_text, due_in, said_in, said, session_after, hosted_turn, host_turn, host_ending}
 use Rattle.cstn_run.specs.hosted.Alone.{is_on, lines_on, said_to, after_all, said_after, alone_after, alone_after_all, alone_said, Own, own_with, own_from, own_lines, own_file, own_run, said_by_own, said_by}
-use Rattle.cstn_run.proofs.hosts.Ids.{is_below, same_is, is_same, other_is}
+use Rattle.cstn_run.proofs.hosts.Ids.{same_is, is_same, other_is}
 use Rattle.cstn_run.proofs.hosts.Apart.{leaves, as_many, changes, Agree, to_its_lines, passes_on}
 
 -- ---- what an id is open over
@@ -184,12 +185,12 @@ not_open files lines id = at (nat_lt id 64)
 pub anew : (files : List File) (lines : List Hosted) (id file : ℕ) → own_lines files id lines ≡ None → id < 64 → file < length files → own_lines files id (lines ++ opened id file ∷ []) ≡ Some (record { file = file; lives = [] })
 anew files lines id file none small inside =
     let own = own_from files None id lines in
-    let before : own ≡ None = sym (ap (λ (b : Bool). if b then own else None) (is_below id 64 small)) ∙ none in
-    ap (λ (b : Bool). if b then own_from files None id (lines ++ opened id file ∷ []) else None) (is_below id 64 small)
+    let before : own ≡ None = sym (ap (λ (b : Bool). if b then own else None) (lt-ltb id 64 small)) ∙ none in
+    ap (λ (b : Bool). if b then own_from files None id (lines ++ opened id file ∷ []) else None) (lt-ltb id 64 small)
     ∙ own_append files None id lines (opened id file ∷ [])
     ∙ ap (λ (b : Bool). if b then own_with files own (opened id file) else own) (is_same id)
     ∙ ap (λ (o : Option Own). own_with files o (opened id file)) before
-    ∙ ap (λ (b : Bool). if b then Some (record { file = file; lives = [] }) else None) (is_below file (length files) inside)
+    ∙ ap (λ (b : Bool). if b then Some (record { file = file; lives = [] }) else None) (lt-ltb file (length files) inside)
 
 abbrev Inside : List File → Option Own → Type 0
 Inside files None = Unit {0}

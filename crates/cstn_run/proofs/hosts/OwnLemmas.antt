@@ -1,5 +1,6 @@
 -- The answer of a host to a call on an id depends only on the plans and on the id's own calls.
 use Rattle.std.proofs.Common.{◌≡◌, ◌≢◌, ℕ, ◌<◌, List, [], ◌∷◌, ◌++◌, length, refl, ap, sym, subst, ◌∙◌, arith, Bool, true, false, not}
+use Rattle.std.proofs.lemmas.Bool.{lt-ltb}
 use Rattle.std.specs.Prelude.{Option, Some, None, nat_lt, ◌==◌, ◌&&◌, if◌then◌else◌, slice_index_or, slice_set}
 use Rattle.std.specs.Option.{option_map}
 use Rattle.std.proofs.lemmas.List.{get_or-set_same, get_or-set_other, get_or-replicate, length-set, length-replicate}
@@ -13,7 +14,7 @@ use Rattle.cstn_run.specs.hosted.Hosts.{HostParts, Opened, nothing_open, plan_of
 use Rattle.cstn_run.specs.hosted.Calls.{Call, CallOn, Open, AskFile, AskNamed, Pass, Close, Told, Denied, OutOfRange, answer_at, unless_refused, named_after, passed, case_after, answer_on, host_after, host_after_all, put_if, answers_to}
 use Rattle.cstn_run.specs.hosted.Own.{Own, own_with, is_on, own_calls_from, own_calls, calls_on, alone, last_from, named_from, answer_by_own, answer_by}
 use Rattle.cstn_run.specs.hosted.Examples.{on}
-use Rattle.cstn_run.proofs.hosts.Ids.{is_below, below_is, same_is, is_same, other_is, is_other}
+use Rattle.cstn_run.proofs.hosts.Ids.{below_is, same_is, is_same, other_is, is_other}
 
 -- ---- an executive that is alone
 
@@ -122,7 +123,7 @@ leaves_case host id other call apart = at (nat_lt id 64)
 
 -- a call on an id changes what that id is open over as `case_after` says
 changes_case : (host : HostParts) (id : ℕ) (call : Call) → length host.cases ≡ 64 → id < 64 → case_at (host_after host id call) id ≡ case_after host.plans (case_at host id) call
-changes_case host id call size small = rw (is_below id 64 small) (get_or-set_same host.cases id (case_after host.plans (case_at host id) call) None (omega arith))
+changes_case host id call size small = rw (lt-ltb id 64 small) (get_or-set_same host.cases id (case_after host.plans (case_at host id) call) None (omega arith))
 
 -- a call leaves the number of ids as it is
 as_many : (host : HostParts) (id : ℕ) (call : Call) → length (host_after host id call).cases ≡ length host.cases
@@ -186,11 +187,11 @@ closes files (Some own) = refl
 pub anew : (files : ℕ) (calls : List CallOn) (id file : ℕ) → id < 64 → file < files → own_calls files (calls ++ on id Close ∷ (on id (Open file false) ∷ [])) id ≡ Some (record { file = file; events = [] })
 anew files calls id file small inside =
     let own = own_calls_from files None calls id in
-    rw (is_below id 64 small)
+    rw (lt-ltb id 64 small)
     (own_append files None calls (on id Close ∷ (on id (Open file false) ∷ [])) id
     ∙ ap (λ b. if b then own_with files (if b then own_with files own Close else own) (Open file false) else (if b then own_with files own Close else own)) (is_same id)
     ∙ ap (λ o. own_with files o (Open file false)) (closes files own)
-    ∙ ap (λ b. if b && not false then Some (record { file = file; events = [] }) else None) (is_below file files inside))
+    ∙ ap (λ b. if b && not false then Some (record { file = file; events = [] }) else None) (lt-ltb file files inside))
 
 -- the calls on other ids make no difference to an id's own calls
 own_filtered : (files : ℕ) (own : Option Own) (calls : List CallOn) (id : ℕ) → own_calls_from files own (calls_on id calls) id ≡ own_calls_from files own calls id
