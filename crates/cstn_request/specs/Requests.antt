@@ -1,9 +1,9 @@
 -- Which words are a request.
-use Rattle.std.specs.Prelude.{ℕ, Bool, nat_le, nat_eq, ◌&&◌, if◌then◌else◌, List, [], ◌∷◌, length, Option, None, Some, codes}
+use Rattle.std.specs.Prelude.{ℕ, Bool, nat_eq, if◌then◌else◌, List, [], ◌∷◌, length, Option, None, Some, codes}
 use Rattle.std.specs.Option.{option_map, option_and_then, unwrap_or}
 use Rattle.std.specs.Cmp.Lexicographic.{pointwise}
 use Rattle.cstn_net.specs.Limits.{most_deadline, most_load}
-use Rattle.cstn_text.specs.Numbers.{number_read}
+use Rattle.cstn_text.specs.Numbers.{number_read, number_within}
 use Rattle.cstn_request.specs.Limits.{usual_cap, most_host_cap, most_files}
 use Rattle.cstn_request.specs.declared.words.Release.{Release}
 
@@ -35,10 +35,6 @@ pub data Request : Type 0 where
   drill : ℕ → Request
   host : List (List ℕ) → Option ℕ → ℕ → Request
   version : Release → Request
-
--- a number from least to most
-abbrev pub number_within : ℕ → ℕ → List ℕ → Option ℕ
-number_within least most text = option_and_then (λ n. if nat_le least n && nat_le n most then Some n else None) (number_read text)
 
 -- the number of an option, if it is there, and the words after it
 pub record Taken : Type 0 where

@@ -2,7 +2,8 @@
 ghost use Rattle.std.specs.Prelude.{◌≡◌, ◌≤◌, IfSome, map, string_bytes};
 ghost use Rattle.std.specs.Option.{option_map, option_and_then, unwrap_or};
 ghost use Rattle.cstn_net.specs.Limits.{most_load};
-ghost use Rattle.cstn_request.specs.Requests.{number_within, value_at, option_at, deadline_at, cap_at, deadline_of, cap_of};
+ghost use Rattle.cstn_text.specs.Numbers.{number_within};
+ghost use Rattle.cstn_request.specs.Requests.{value_at, option_at, deadline_at, cap_at, deadline_of, cap_of};
 ghost use Rattle.cstn_request.specs.Requests.{asked_of, capped_of, capped_at, checked_of, drill_of, request_at};
 ghost use Rattle.cstn_request.specs.Requests.{hosted_of, host_of, version_of};
 ghost use Rattle.cstn_request.specs.Limits.{usual_cap};
