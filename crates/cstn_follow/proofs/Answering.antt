@@ -1,13 +1,12 @@
 -- What a session says ends a line, and its names stay.
-use Rattle.std.proofs.Common.{ℕ, ℤ, zero, suc, ◌≡◌, inl, inr, ◌<◌, Bool, true, false, List, [], ◌∷◌, ◌++◌, Option, Some, None, length, map, arith, refl, sym}
+use Rattle.std.proofs.Common.{ℕ, zero, suc, ◌≡◌, inl, inr, ◌<◌, Bool, true, false, List, [], ◌∷◌, ◌++◌, Option, Some, None, length, map, arith, refl, sym}
 use Rattle.std.proofs.Common.{subst, ap, ◌∙◌}
 use Rattle.std.specs.Prelude.{◌⊎◌, Result, Ok, Err, IfOk, OnErr, ◌&&◌, not, nat_lt, slice_get, if◌then◌else◌, codes, decimal}
 use Rattle.std.specs.List.{filter, range_with_len}
 use Rattle.std.proofs.lemmas.List.{append_assoc, length-map}
 use Rattle.std.proofs.lemmas.Result.{IfOk-weaker}
 use Rattle.cstn_label.specs.Bounds.{Bound}
-use Rattle.cstn_label.specs.Labels.{Label}
-use Rattle.cstn_net.specs.Limits.{most_deadline}
+use Rattle.cstn_net.specs.Limits.{most_constraints, most_deadline}
 use Rattle.cstn_net.specs.Networks.{count}
 use Rattle.cstn_log.specs.Cuts.{part}
 use Rattle.cstn_lift.specs.Lowered.{lowered}
@@ -22,21 +21,23 @@ use Rattle.cstn_history.specs.Rest.{is_left, left, sight_left}
 use Rattle.cstn_next.specs.Next.{next_moment, named, awaited}
 use Rattle.cstn_text.specs.Names.{number_of}
 use Rattle.cstn_text.specs.PrintedNames.{printed_name}
+use Rattle.cstn_change.specs.Changes.{Change, removes, revalues, Refusal, refusal, after}
+use Rattle.cstn_change.specs.ChangeLines.{accepted_text, refused_text, addition}
 use Rattle.cstn_lines.specs.EditLines.{Edit, added, removed, changed, asked}
 use Rattle.cstn_lines.specs.FollowLines.{Follow, done_at, came_at, now_at, awaited_at, edits, ends_by, asks_next, asks_by, asks_blame, asks_rest}
 use Rattle.cstn_reply.specs.Texts.{line}
 use Rattle.cstn_reply.specs.Written.{EndsLine}
 use Rattle.cstn_follow.specs.Following.{Following, Heard, says, saves, left_now, name_at, names_left, verdict_now, verdict_within, verdict_line, on_verdict}
 use Rattle.cstn_follow.specs.FactLines.{refused_fact, unknown_name, refuses, records, on_result, all_done, nodes_of, unknown_of, on_known, on_did, on_fact}
-use Rattle.cstn_follow.specs.PlanLines.{add_refusal, remove_refusal, change_refusal, with_added, with_removed, with_changed, replanned, on_edit, unknown_end}
-use Rattle.cstn_follow.specs.PlanLines.{on_ends, on_deadline}
+use Rattle.cstn_follow.specs.PlanLines.{edited_network, replanned, on_refusal, on_edit, on_deadline}
+use Rattle.cstn_follow.specs.Replans.{with_due}
 use Rattle.cstn_follow.specs.Questions.{tells_verdict, next_text, next_at, next_after, check_after, on_rest}
 use Rattle.cstn_follow.specs.Searches.{has_place, by_text, by_refusal, by_after, by_unless, by_number, blame_text, blame_after, ids_text}
 use Rattle.cstn_follow.specs.Waiting.{waits_until}
 use Rattle.cstn_follow.specs.Blame.{blamed}
 use Rattle.cstn_follow.specs.Hearing.{on_plan, on_other, on_line, counted, hear}
-use Rattle.cstn_follow.specs.declared.sessions.Heard.{Heard as HeardText}
-use Rattle.cstn_follow.specs.declared.sessions.Heard.TheVariants.{Text, Rest}
+use Rattle.cstn_follow.specs.declared.following.Heard.{Heard as HeardText}
+use Rattle.cstn_follow.specs.declared.following.Heard.TheVariants.{Text, Rest}
 use Rattle.cstn_follow.specs.Read.{FollowingParts, IsFollowing, the_following, the_heard, IsSaidFor}
 
 -- what is said ends a line, or has a name for each time-point, of which the first is the first of these, and the session that
@@ -88,19 +89,20 @@ module _ (s : Following) where
 
   -- ---- edits
 
-  edit_keeps : (o : Option (List ℕ)) (text : List ℕ) (next : Following) → next.names ≡ s.names → Keeps s.names (on_edit s o text next)
-  edit_keeps (Some refusal) text next same = (refl, ends refusal)
-  edit_keeps None text next same = verdict_keeps next (λ v. line text) same (λ v. ends text) (verdict_within next)
+  refusal_keeps : (change : Change) (o : Option Refusal) → Keeps s.names (on_refusal s change o)
+  refusal_keeps change (Some why) = (refl, ends (refused_text why))
+  refusal_keeps change None =
+      let next = replanned s (after (edited_network s) change) in
+      let text = accepted_text s.fresh change in
+      verdict_keeps next (λ v. line text) refl (λ v. ends text) (verdict_within next)
 
-  ends_keeps : (from to : List ℕ) (most : ℤ) (a : Label) (x y : Option ℕ) → Keeps s.names (on_ends s from to most a x y)
-  ends_keeps from to most a None y = (refl, ends (unknown_end from))
-  ends_keeps from to most a (Some x) None = (refl, ends (unknown_end to))
-  ends_keeps from to most a (Some x) (Some y) =
-      edit_keeps (add_refusal s.network.base s.edits most a) (codes "added " ++ decimal s.fresh) (with_added s x y most a) refl
+  edit_keeps : (r : Result Change Refusal) → Keeps s.names (on_edit s r)
+  edit_keeps (Ok change) = refusal_keeps change (refusal most_constraints (edited_network s) change)
+  edit_keeps (Err why) = (refl, ends (refused_text why))
 
   deadline_keeps : (deadline : ℕ) → Keeps s.names (on_deadline s deadline)
   deadline_keeps deadline =
-      let next = replanned s deadline s.network.base.constraints s.edits s.fresh in
+      let next = replanned s (with_due (edited_network s) deadline) in
       let text = codes "deadline " ++ decimal deadline in
       verdict_keeps next (λ v. line text) refl (λ v. ends text) (verdict_within next)
 
@@ -190,9 +192,9 @@ module _ (s : Following) where
   -- ---- lines
 
   plan_keeps : (edit : Edit) → Keeps s.names (on_plan s edit)
-  plan_keeps (added from to most a) = ends_keeps from to most a (number_of s.names from) (number_of s.names to)
-  plan_keeps (removed id) = edit_keeps (remove_refusal s.network.base s.edits id) (codes "removed " ++ decimal id) (with_removed s id) refl
-  plan_keeps (changed id most) = edit_keeps (change_refusal s.network.base s.edits id most) (codes "changed " ++ decimal id) (with_changed s id most) refl
+  plan_keeps (added from to most a) = edit_keeps (addition s.names from to most a)
+  plan_keeps (removed id) = edit_keeps (Ok (removes id))
+  plan_keeps (changed id most) = edit_keeps (Ok (revalues id most))
   plan_keeps asked = check_keeps (verdict_now s)
 
   line_keeps : 0 < count s.network.base → length s.names ≡ count s.network.base → (o : Option Follow) → Keeps s.names (on_line s o)
@@ -230,7 +232,7 @@ module _ {E : Type 0} (old mid new : FollowingParts) (o : Option Follow) (r : Re
   line_counted : Keeps old.names (on_line (the_following mid) o)
   line_counted =
       subst (λ (f : FollowingParts). Keeps old.names (on_line (the_following f) o)) (sym is)
-      (hear_keeps (the_following old) good.labelled.base.network.origin good.named o)
+      (hear_keeps (the_following old) good.session.execution.labelled.base.network.origin good.names.named o)
 
   pub heard_names : OnErr r (new ≡ mid) → IfOk r (λ h. on_line (the_following mid) o ≡ the_heard new h) → new.names ≡ old.names
   heard_names refused heard = elim (ok_or_err r) [

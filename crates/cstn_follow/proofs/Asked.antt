@@ -1,5 +1,5 @@
 -- What is said where it is asked why, and the names of what is left.
-use Rattle.std.proofs.Common.{ℕ, suc, ◌≡◌, ◌+◌, ◌≤◌, Bool, true, false, List, [], ◌∷◌, ◌++◌, length, arith, refl, ap, sym, ◌∙◌}
+use Rattle.std.proofs.Common.{ℕ, suc, ◌≡◌, ◌+◌, ◌≤◌, Bool, true, false, List, [], ◌∷◌, ◌++◌, Option, length, arith, refl, ap, sym, ◌∙◌}
 use Rattle.std.specs.Prelude.{map, nat_lt, if◌then◌else◌, codes}
 use Rattle.std.proofs.lemmas.List.{map-append, length-append}
 use Rattle.cstn_net.specs.Networks.{Network}
@@ -16,7 +16,9 @@ use Rattle.cstn_history.specs.Histories.{History}
 use Rattle.cstn_history.specs.Rest.{is_left, left_upto}
 use Rattle.cstn_history.proofs.Lists.{passing_next}
 use Rattle.cstn_follow.specs.Following.{Following, says, left_now, name_at, names_left, verdict_now}
-use Rattle.cstn_follow.specs.Questions.{check_after, on_check}
+use Rattle.cstn_follow.specs.Blame.{blamed}
+use Rattle.cstn_follow.specs.Questions.{tells, check_after, on_check}
+use Rattle.cstn_follow.specs.Searches.{blame_text, blame_after, on_blame}
 
 -- the name of the next time-point, where it is left
 pub names_turn : (m : Labelled) (h : History) (names old new : List (List ℕ)) (x : ℕ) (b : Bool) → old ≡ map (name_at names) (left_upto m h x)
@@ -63,3 +65,8 @@ check_said s load l names steps text refuted named long taken is =
     ∙ ap (λ t. says t s) (ap (λ n. shown (names_left s) n (part (log_of (lowered (left_now s)))) ++ line (codes "end")) same
     ∙ ap (λ n. shown n l (part (log_of (lowered (left_now s)))) ++ line (codes "end")) (sym named)
     ∙ ap (λ es. shown names l es ++ line (codes "end")) (sym taken) ∙ sym is)
+
+-- after a no it is told which constraints are to blame, or a log that was tried is full
+pub blame_told : (s : Following) (text : List ℕ) (load : ℕ) (o : Option (List ℕ)) → verdict_now s ≡ No load → blamed s.network s.history s.fresh s.cap ≡ o
+    → text ≡ blame_text s.cap o → on_blame s ≡ says text s
+blame_told s text load o bad found said = ap (blame_after s) bad ∙ ap (λ p. tells s (blame_text s.cap p)) found ∙ ap (λ l. says l s) (sym said)

@@ -1,31 +1,15 @@
--- Edits of a labelled network, and how much of it there may be.
-use Rattle.std.proofs.Common.{ℕ, ◌≡◌, ◌<◌, ◌≤◌, inl, inr, Bool, true, false, List, Some, None, length, refl, sym, subst, ap, ◌∙◌, arith}
+-- How much of a labelled network there may be, and the verdict on what is left of it.
+use Rattle.std.proofs.Common.{ℕ, ◌≡◌, ◌<◌, ◌≤◌, inl, inr, Bool, true, false, Some, None, length, refl, ap, ◌∙◌, arith}
 use Rattle.std.specs.Prelude.{◌⊎◌, nat_le, ◌&&◌, if◌then◌else◌}
-use Rattle.cstn_label.specs.Labels.{Label, IsPlain}
 use Rattle.cstn_net.specs.Limits.{most_constraints}
-use Rattle.cstn_net.specs.Networks.{Constraint, IsWellFormed}
-use Rattle.cstn_lift.specs.Labelled.{Labelled, label_of}
+use Rattle.cstn_lift.specs.Labelled.{Labelled}
 use Rattle.cstn_lift.specs.Lowered.{lowered}
-use Rattle.cstn_lift.specs.WellFormed.{IsLabelled}
 use Rattle.cstn_check.specs.Decisions.{verdict}
 use Rattle.cstn_check.specs.declared.verdicts.Verdict.{Verdict}
-use Rattle.cstn_history.specs.Histories.{History, edited}
+use Rattle.cstn_history.specs.Histories.{History}
 use Rattle.cstn_history.specs.Rest.{rest}
 use Rattle.cstn_history.specs.Handed.{HasRoom}
-use Rattle.cstn_history.proofs.Edited.{completed_new}
 use Rattle.cstn_follow.specs.Following.{Following, has_few, fits, verdict_left, verdict_now, verdict_within}
-
--- labels that were in order are so with other constraints and another deadline
-pub edited_labelled : (m : Labelled) (deadline : ℕ) (cs : List Constraint) → IsLabelled m → IsWellFormed (edited m deadline cs).base → IsLabelled (edited m deadline cs)
-edited_labelled m deadline cs good wf = record {
-  base = wf;
-  one_each = good.one_each;
-  origin = good.origin;
-  plain = good.plain;
-  observed = λ x here p marked. let o = good.observed x here p marked in (o.0, record { what = o.1.what });
-  no_circle = λ x p o. ap (λ (a : Label). a p) (completed_new m deadline cs (label_of m x)) ∙ good.no_circle x p (record { what = o.what });
-  completed_plain = λ x here. subst IsPlain (sym (completed_new m deadline cs (label_of m x))) (good.completed_plain x here);
-}
 
 few_true : (n : ℕ) → n ≤ most_constraints → nat_le n most_constraints ≡ true
 few_true n few = grind arith

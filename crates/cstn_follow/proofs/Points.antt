@@ -1,12 +1,13 @@
 -- A session that follows keeps its time-points, their names and its cap.
-use Rattle.std.proofs.Common.{ℕ, ℤ, ◌≡◌, ◌+◌, Bool, true, false, List, [], ◌∷◌, ◌++◌, Option, Some, None, refl, sym, subst, ◌∙◌}
-use Rattle.std.specs.Prelude.{nat_lt, if◌then◌else◌, codes, decimal}
+use Rattle.std.proofs.Common.{ℕ, ◌≡◌, ◌+◌, Bool, true, false, List, [], ◌∷◌, Option, Some, None, refl, sym, subst, ◌∙◌}
+use Rattle.std.specs.Prelude.{Result, Ok, Err, nat_lt, if◌then◌else◌}
 use Rattle.std.proofs.lemmas.Option.{same_Some}
-use Rattle.cstn_label.specs.Labels.{Label}
-use Rattle.cstn_net.specs.Limits.{most_deadline}
+use Rattle.cstn_net.specs.Limits.{most_constraints, most_deadline}
 use Rattle.cstn_text.specs.Names.{number_of}
 use Rattle.cstn_check.specs.declared.verdicts.Verdict.{Verdict}
 use Rattle.cstn_history.specs.Histories.{History}
+use Rattle.cstn_change.specs.Changes.{Change, removes, revalues, Refusal, refusal, after}
+use Rattle.cstn_change.specs.ChangeLines.{addition}
 use Rattle.cstn_lines.specs.EditLines.{Edit, added, removed, changed, asked}
 use Rattle.cstn_lines.specs.FollowLines.{Follow, follow_read, IsFollow, done_at, came_at, now_at, awaited_at, edits, ends_by, asks_next, asks_by, asks_blame, asks_rest}
 use Rattle.cstn_lines.proofs.FollowLemmas.{follow_is}
@@ -15,7 +16,8 @@ use Rattle.cstn_reply.specs.Reached.{state_after}
 use Rattle.cstn_reply.proofs.Sessions.{first_leads}
 use Rattle.cstn_follow.specs.Following.{Following, Heard, says, saves, verdict_now, verdict_within, on_verdict, follows, verdict_line}
 use Rattle.cstn_follow.specs.FactLines.{records}
-use Rattle.cstn_follow.specs.PlanLines.{add_refusal, remove_refusal, change_refusal, on_edit, on_ends, on_deadline, with_added, with_removed, with_changed, replanned}
+use Rattle.cstn_follow.specs.PlanLines.{edited_network, replanned, on_refusal, on_edit, on_deadline}
+use Rattle.cstn_follow.specs.Replans.{with_due}
 use Rattle.cstn_follow.specs.Hearing.{on_plan, on_other, on_line, counted, hear}
 use Rattle.cstn_follow.specs.Recorded.{IsFact}
 use Rattle.cstn_follow.specs.Turns.{Writing, heard_by, turn_by}
@@ -44,26 +46,25 @@ follows_keeps s next text keeps = by_verdict (verdict_within next)
 records_keeps : (s : Following) (h : History) → KeepsPoints s (next_of (records s h))
 records_keeps s h = follows_keeps s (record s { history = h }) (verdict_line s.cap) (record { names = refl; observes = refl; reaction = refl; cap = refl })
 
-edit_keeps : (s next : Following) (o : Option (List ℕ)) (text : List ℕ) → KeepsPoints s next → KeepsPoints s (next_of (on_edit s o text next))
-edit_keeps s next (Some refusal) text keeps = same s
-edit_keeps s next None text keeps = follows_keeps s next (λ v. _) keeps
+refusal_keeps : (s : Following) (change : Change) (o : Option Refusal) → KeepsPoints s (next_of (on_refusal s change o))
+refusal_keeps s change (Some why) = same s
+refusal_keeps s change None =
+    follows_keeps s (replanned s (after (edited_network s) change)) (λ v. _) (record { names = refl; observes = refl; reaction = refl; cap = refl })
 
-ends_keeps : (s : Following) (from to : List ℕ) (most : ℤ) (a : Label) (one other : Option ℕ) → KeepsPoints s (next_of (on_ends s from to most a one other))
-ends_keeps s from to most a None other = same s
-ends_keeps s from to most a (Some x) None = same s
-ends_keeps s from to most a (Some x) (Some y) =
-    edit_keeps s (with_added s x y most a) (add_refusal s.network.base s.edits most a) (codes "added " ++ decimal s.fresh) (record { names = refl; observes = refl; reaction = refl; cap = refl })
+edit_keeps : (s : Following) (r : Result Change Refusal) → KeepsPoints s (next_of (on_edit s r))
+edit_keeps s (Ok change) = refusal_keeps s change (refusal most_constraints (edited_network s) change)
+edit_keeps s (Err why) = same s
 
 plan_keeps : (s : Following) (edit : Edit) → KeepsPoints s (next_of (on_plan s edit))
-plan_keeps s (added from to most a) = ends_keeps s from to most a (number_of s.names from) (number_of s.names to)
-plan_keeps s (removed id) = edit_keeps s (with_removed s id) (remove_refusal s.network.base s.edits id) (codes "removed " ++ decimal id) (record { names = refl; observes = refl; reaction = refl; cap = refl })
-plan_keeps s (changed id most) = edit_keeps s (with_changed s id most) (change_refusal s.network.base s.edits id most) (codes "changed " ++ decimal id) (record { names = refl; observes = refl; reaction = refl; cap = refl })
+plan_keeps s (added from to most a) = edit_keeps s (addition s.names from to most a)
+plan_keeps s (removed id) = edit_keeps s (Ok (removes id))
+plan_keeps s (changed id most) = edit_keeps s (Ok (revalues id most))
 plan_keeps s asked = subst (KeepsPoints s) (sym (check_keeps s (verdict_now s))) (same s)
 
 deadline_keeps : (s : Following) (deadline : ℕ) (b : Bool) → KeepsPoints s (next_of (if b then on_other s else on_deadline s deadline))
 deadline_keeps s deadline true = same s
 deadline_keeps s deadline false =
-    edit_keeps s (replanned s deadline s.network.base.constraints s.edits s.fresh) None (codes "deadline " ++ decimal deadline) (record { names = refl; observes = refl; reaction = refl; cap = refl })
+    follows_keeps s (replanned s (with_due (edited_network s) deadline)) (λ v. _) (record { names = refl; observes = refl; reaction = refl; cap = refl })
 
 fact_keeps : (s : Following) (fact : Follow) → IsSound s → IsFact fact → IsFollow fact → KeepsPoints s (next_of (on_line s (Some fact)))
 fact_keeps s fact sound = fact_is s sound (λ fact heard. KeepsPoints s (next_of heard)) (λ fact text why. same s) (λ fact h timely is. records_keeps s h) fact

@@ -1,5 +1,5 @@
 -- Facts are recorded one after another.
-use Rattle.std.proofs.Common.{ℕ, ◌≡◌, ◌+◌, ◌<◌, Bool, List, [], ◌∷◌, ◌++◌, Option, Some, None, length, take, drop, refl, sym, ap, ◌∙◌}
+use Rattle.std.proofs.Common.{ℕ, ◌≡◌, ◌+◌, ◌<◌, List, [], ◌∷◌, ◌++◌, Option, Some, None, length, take, drop, refl, sym, ap, ◌∙◌}
 use Rattle.std.specs.Prelude.{slice_index_or, Err}
 use Rattle.std.specs.List.{filter_map, cons_option}
 use Rattle.std.proofs.lemmas.List.{take_more, drop_more}
@@ -8,9 +8,9 @@ use Rattle.cstn_label.specs.declared.nodes.NodeId.{NodeId}
 use Rattle.cstn_lift.specs.Labelled.{Labelled}
 use Rattle.cstn_history.specs.Histories.{History}
 use Rattle.cstn_check.specs.declared.verdicts.Verdict.{Verdict}
-use Rattle.cstn_history.specs.Facts.{FactRefusal, now_refusal, done_refusal, told_refusal, expected_refusal, at_now, with_done, with_told, with_expected}
+use Rattle.cstn_history.specs.Facts.{FactRefusal, done_refusal, with_done}
 use Rattle.cstn_follow.specs.Following.{Following, says, too_many, verdict_line, verdict_left, on_verdict}
-use Rattle.cstn_follow.specs.FactLines.{records, all_done, unless_refused, on_fact, on_now, on_saw, on_await}
+use Rattle.cstn_follow.specs.FactLines.{records, all_done, unless_refused}
 
 -- the next name, where a time-point has it
 pub nodes_turn : (f : List ℕ → Option NodeId) (given : List (List ℕ)) (nodes new : List NodeId) (i : ℕ) (name : List ℕ) → i < length given
@@ -46,24 +46,3 @@ pub recorded_some : (s : Following) (h : History) (text : List ℕ) (v : Verdict
     → records s h ≡ says text (record s { history = h })
 recorded_some s h text v some is =
     ap (on_verdict s (record s { history = h }) (verdict_line s.cap)) some ∙ ap (λ t. says t (record s { history = h })) (sym is)
-
--- a fact that is accepted is recorded
-fact_accepted : (s : Following) (o : Option FactRefusal) (h next : History) → None ≡ o → next ≡ h → on_fact s o h ≡ records s next
-fact_accepted s o h next accepted recorded = ap (λ o. on_fact s o h) (sym accepted) ∙ ap (records s) (sym recorded)
-
-pub now_accepted : (s : Following) (h next : History) (t : ℕ) → h ≡ s.history → None ≡ now_refusal h t → next ≡ at_now h t → on_now s t ≡ records s next
-now_accepted s h next t same accepted recorded =
-    ap (λ k. on_fact s (now_refusal k t) (at_now k t)) (sym same) ∙ fact_accepted s (now_refusal h t) (at_now h t) next accepted recorded
-
-module _ (s : Following) (m : Labelled) (h next : History) (t p : ℕ) (same_network : m ≡ s.network) (same : h ≡ s.history) where
-  pub saw_accepted : (v : Bool) → None ≡ told_refusal m h t p → next ≡ with_told h t p v → on_saw s t p v ≡ records s next
-  saw_accepted v accepted recorded =
-      ap (λ n. on_fact s (told_refusal n s.history t p) (with_told s.history t p v)) (sym same_network)
-      ∙ ap (λ k. on_fact s (told_refusal m k t p) (with_told k t p v)) (sym same)
-      ∙ fact_accepted s (told_refusal m h t p) (with_told h t p v) next accepted recorded
-
-  pub await_accepted : None ≡ expected_refusal m h t p → next ≡ with_expected h t p → on_await s t p ≡ records s next
-  await_accepted accepted recorded =
-      ap (λ n. on_fact s (expected_refusal n s.history t p) (with_expected s.history t p)) (sym same_network)
-      ∙ ap (λ k. on_fact s (expected_refusal m k t p) (with_expected k t p)) (sym same)
-      ∙ fact_accepted s (expected_refusal m h t p) (with_expected h t p) next accepted recorded

@@ -38,21 +38,23 @@ use Rattle.cstn_history.proofs.Recorded.{timely_now, timely_done, timely_told, t
 use Rattle.cstn_lines.specs.EditLines.{Edit, added, removed, changed, asked, IsEdit}
 use Rattle.cstn_lines.specs.FollowLines.{Follow, follow_read, IsFollow, done_at, came_at, now_at, awaited_at, edits, ends_by, asks_next, asks_by, asks_blame, asks_rest}
 use Rattle.cstn_lines.proofs.FollowLemmas.{follow_is}
+use Rattle.cstn_change.specs.Changes.{Change, adds, removes, revalues, Refusal, id_above, refusal, constraints_after, fresh_after, IsBetween}
+use Rattle.cstn_change.specs.ChangeLines.{accepted_text, addition_between}
+use Rattle.cstn_change.proofs.IdLemmas.{above_each, ids_below}
+use Rattle.cstn_change.proofs.PlanLemmas.{edited_labelled}
 use Rattle.cstn_reply.specs.Texts.{line}
 use Rattle.cstn_reply.specs.Sessions.{Turn, more, last, wrong}
 use Rattle.cstn_reply.specs.Reached.{state_after}
 use Rattle.cstn_reply.proofs.Sessions.{first_leads}
-use Rattle.cstn_follow.specs.Following.{Following, Heard, says, saves, above, begun, verdict_now, verdict_within, on_verdict, follows, verdict_line}
+use Rattle.cstn_follow.specs.Following.{Following, Heard, says, saves, begun, verdict_now, verdict_within, on_verdict, follows, verdict_line}
 use Rattle.cstn_follow.specs.FactLines.{on_result, records, refuses, refused_fact, unknown_name, unless_refused, all_done, on_known, on_did, nodes_of, unknown_of, on_fact, on_now, on_saw, on_await}
-use Rattle.cstn_follow.specs.PlanLines.{is_value, unobserved, has_constraint, add_refusal, remove_refusal, change_refusal, at_limit, on_edit, on_ends, on_add, on_remove, on_change, on_deadline, with_value, with_added, with_removed, with_changed}
+use Rattle.cstn_follow.specs.PlanLines.{edited_network, on_refusal, on_edit, on_add, on_deadline}
 use Rattle.cstn_follow.specs.Questions.{next_after, check_after}
 use Rattle.cstn_follow.specs.Searches.{by_number, by_unless, by_after, by_refusal, blame_after}
 use Rattle.cstn_follow.specs.Hearing.{on_plan, on_other, on_line, counted, hear}
-use Rattle.cstn_follow.proofs.Edited.{edited_labelled, left_fits, within_is}
+use Rattle.cstn_follow.proofs.InOrder.{IsOfLetters, can_change, changed_in_order}
+use Rattle.cstn_follow.proofs.Edited.{left_fits, within_is}
 use Rattle.cstn_follow.proofs.GoesOn.{yes_can, no_cannot, full_is_above}
-use Rattle.cstn_follow.proofs.Refused.{true_value}
-use Rattle.cstn_follow.proofs.Replanned.{value_id}
-use Rattle.cstn_follow.proofs.Starting.{above_all}
 use Rattle.cstn_follow.specs.Recorded.{IsFact, IsRecorded}
 use Rattle.cstn_follow.specs.Turns.{Writing, IsTrueOf, heard_by, turn_by}
 use Rattle.cstn_follow.proofs.RecordedFacts.{IsRefusal, fact_refusal, same_history, are_done, has_passed, has_come, is_expected}
@@ -159,148 +161,30 @@ replan_sound s deadline cs count' fresh text sound good above =
     follows_sound s (record s { network = edited s.network deadline cs; edits = count'; fresh = fresh }) text sound
     (edited_labelled s.network deadline cs sound.labelled good) sound.named (timely_edited s.network s.history deadline cs sound.timely.history sound.timely.in_time) above
 
-none_refused : (b : Bool) (r : List ℕ) (o : Option (List ℕ)) → (if b then Some r else o) ≡ None → (b ≡ false) × (o ≡ None)
-none_refused true r o e = cc
-none_refused false r o e = (refl, e)
-
-refused_unless : (b : Bool) (r : List ℕ) → (if b then None else Some r) ≡ None → b ≡ true
-refused_unless true r e = refl
-refused_unless false r e = cc
-
-edit_sound : (s next : Following) (o : Option (List ℕ)) (text : List ℕ) → IsSound s → (o ≡ None → (said : Verdict → List ℕ) → IsSound (next_of (follows s next said)))
-    → IsSound (next_of (on_edit s o text next))
-edit_sound s next (Some refusal) text sound goes_on = sound
-edit_sound s next None text sound goes_on = goes_on refl (λ v. line text)
-
-marked_true : (a : Mark) → a ≢ Absent → is_marked a ≡ true
-marked_true Absent never = absurd (never refl)
-marked_true YesMark never = refl
-marked_true NoMark never = refl
-marked_true Unknown never = refl
-
--- where no proposition that the label names is found unobserved, the label names observed propositions alone
-observed : (net : Network) (a : Label) → ((p : ℕ) → 52 ≤ p → a p ≡ Absent) → unobserved net a ≡ None → IsOnObserved net a
-unfolding unobserved
-observed net a small none p named = by_observer (observer_of net p) refl
+-- a change is refused, or it is made
+change_sound : (s : Following) (change : Change) → IsSound s → IsBetween s.network.base change → IsOfLetters change → IsSound (next_of (on_edit s (Ok change)))
+change_sound s change sound between letters = by_refusal (refusal most_constraints (edited_network s) change) refl
   where
-    test : ℕ → Bool
-    test q = is_marked (a q) && is_none (observer_of net q)
-
-    by_observer : (o : Option ℕ) → observer_of net p ≡ o → (x : ℕ) × Observes net x p
-    by_observer (Some j) is = (j, observer_back net j p is)
-    by_observer None is = elim (cases_lt p 52) [
-      | inr above ↦ absurd (named (small p above))
-      | inl below ↦
-          let passes : test p ≡ true = ap (λ b. b && is_none (observer_of net p)) (marked_true (a p) named) ∙ ap (λ o. is_none o) is in
-          let at : get_or (range_with_len 0 52) p 0 ≡ p = get_or-range_with_len 0 52 p 0 below ∙ (let same : 0 + p ≡ p = omega arith in same) in
-          let fails = none_passes test (range_with_len 0 52) none p 0 (omega (arith, below, length-range_with_len 0 52)) in
-          absurd (false≢true (sym fails ∙ ap test at ∙ passes))
-    ]
-
--- what holds of a constraint that is added
-record IsAccepted (s : Following) (most : ℤ) (a : Label) : Type 0 where
-  few : length s.network.base.constraints < most_constraints
-  value : is_value most ≡ true
-  plain : is_plain a ≡ true
-  observed : unobserved s.network.base a ≡ None
-
-accepted : (s : Following) (most : ℤ) (a : Label) → add_refusal s.network.base s.edits most a ≡ None → IsAccepted s most a
-accepted s most a none =
-    let one = none_refused (at_limit s.edits) _ _ none in
-    let two = none_refused (nat_le most_constraints (length s.network.base.constraints)) _ _ one.1 in
-    let three = none_refused (not (is_value most)) _ _ two.1 in
-    let four = none_refused (not (is_plain a)) _ _ three.1 in
-    record {
-      few = leb-false most_constraints (length s.network.base.constraints) two.0;
-      value = not-false (is_value most) three.0;
-      plain = not-false (is_plain a) four.0;
-      observed = none_mapped _ (unobserved s.network.base a) four.1;
-    }
-
-added_sound : (s : Following) (x y : ℕ) (most : ℤ) (a : Label) (said : Verdict → List ℕ) → IsSound s → ((p : ℕ) → 52 ≤ p → a p ≡ Absent) → x < count s.network.base → y < count s.network.base
-    → add_refusal s.network.base s.edits most a ≡ None → IsSound (next_of (follows s (with_added s x y most a) said))
-added_sound s x y most a said sound small from to none =
-    let net = s.network.base in
-    let cs = net.constraints in
-    let c : Constraint = record { id = s.fresh; from = x; to = y; most = most; label = a } in
-    let good = sound.labelled.base in
-    let ok = accepted s most a none in
-    replan_sound s net.deadline (cs ++ c ∷ []) (s.edits + 1) (s.fresh + 1) said sound
-    (well_formed_with net (cs ++ c ∷ []) good
-    (let long = length-append cs (c ∷ []) in let less = ok.few in omega arith)
-    (All-push (IsConstraint net) cs c good.network.constraints
-    (record { from = from; to = to; plain = plain_back a small ok.plain; observed = observed net a small ok.observed }))
-    (all_pairs_push (λ b d. b.id < d.id) cs c good.ascending sound.above)
-    (All-push (λ d. IsValue d.most) cs c good.values (true_value most ok.value)))
-    (All-push (λ d. d.id < s.fresh + 1) cs c
-    (All-weaker (λ d. d.id < s.fresh) (λ d. d.id < s.fresh + 1) (λ d below. omega arith) cs sound.above)
-    (omega arith))
+    by_refusal : (o : Option Refusal) → refusal most_constraints (edited_network s) change ≡ o → IsSound (next_of (on_refusal s change o))
+    by_refusal (Some why) is = sound
+    by_refusal None is =
+        let net = s.network.base in
+        replan_sound s net.deadline (constraints_after net.constraints s.fresh change) (s.edits + 1) (fresh_after s.fresh change)
+        (λ v. line (accepted_text s.fresh change)) sound
+        (changed_in_order net sound.labelled.base s.fresh change sound.above between (can_change (edited_network s) change letters is))
+        (ids_below net.constraints s.fresh change sound.above)
 
 add_sound : (s : Following) (from to : List ℕ) (most : ℤ) (a : Label) → IsSound s → ((p : ℕ) → 52 ≤ p → a p ≡ Absent) → IsSound (next_of (on_add s from to most a))
-add_sound s from to most a sound small = by_numbers (number_of s.names from) (number_of s.names to) refl refl
+add_sound s from to most a sound letters = by_numbers (number_of s.names from) (number_of s.names to) refl refl
   where
     inside : (name : List ℕ) (x : ℕ) → number_of s.names name ≡ Some x → x < count s.network.base
     inside name x is = omega (arith, (position-Some (bytes_eq name) s.names x [] is).0, sound.named)
 
-    by_numbers : (one other : Option ℕ) → number_of s.names from ≡ one → number_of s.names to ≡ other → IsSound (next_of (on_ends s from to most a one other))
+    by_numbers : (one other : Option ℕ) → number_of s.names from ≡ one → number_of s.names to ≡ other
+        → IsSound (next_of (on_edit s (addition_between from to most a one other)))
     by_numbers None other is also = sound
     by_numbers (Some x) None is also = sound
-    by_numbers (Some x) (Some y) is also =
-        edit_sound s (with_added s x y most a) (add_refusal s.network.base s.edits most a) (codes "added " ++ decimal s.fresh) sound
-        (λ none said. added_sound s x y most a said sound small (inside from x is) (inside to y also) none)
-
-remove_sound : (s : Following) (id : ℕ) → IsSound s → IsSound (next_of (on_remove s id))
-remove_sound s id sound =
-    let net = s.network.base in
-    let cs = net.constraints in
-    let good = sound.labelled.base in
-    let test : Constraint → Bool = λ c. not (c.id == id) in
-    edit_sound s (with_removed s id) (remove_refusal net s.edits id) (codes "removed " ++ decimal id) sound
-    (λ none said. replan_sound s net.deadline (filter test cs) (s.edits + 1) s.fresh said sound
-    (well_formed_with net (filter test cs) good
-    (let both = length-filter_both (λ (c : Constraint). c.id == id) test (λ c. refl) cs in let few = good.few_constraints in omega arith)
-    (All-filter test (IsConstraint net) cs good.network.constraints)
-    (AllPairs-filter (λ b c. b.id < c.id) test cs good.ascending)
-    (All-filter test (λ c. IsValue c.most) cs good.values))
-    (All-filter test (λ c. c.id < s.fresh) cs sound.above))
-
--- a constraint with another value is one of the network
-one_with : (net : Network) (id : ℕ) (most : ℤ) (c : Constraint) → IsConstraint net c → IsConstraint net (with_value id most c)
-one_with net id most c h = elim (cases_Bool (c.id == id)) [
-  | inl t ↦ rw t (record { from = h.from; to = h.to; plain = h.plain; observed = h.observed })
-  | inr f ↦ rw f h
-]
-
-value_with : (id : ℕ) (most : ℤ) (c : Constraint) → IsValue most → IsValue c.most → IsValue (with_value id most c).most
-value_with id most c new old = elim (cases_Bool (c.id == id)) [ inl t ↦ rw t new | inr f ↦ rw f old ]
-
-changed_well_formed : (net : Network) (id : ℕ) (most : ℤ) → IsWellFormed net → IsValue most
-    → IsWellFormed (record net { constraints = map (with_value id most) net.constraints })
-changed_well_formed net id most good value =
-    let cs = net.constraints in
-    let f : Constraint → Constraint = with_value id most in
-    well_formed_with net (map f cs) good
-    (let same = length-map cs f in let few = good.few_constraints in omega arith)
-    (All-map (IsConstraint net) f cs (All-weaker _ _ (one_with net id most) cs good.network.constraints))
-    (pairs_map (λ b c. b.id < c.id) f cs (λ i j d before inside.
-    let ordered = good.ascending i j d before inside in
-    let one = value_id id most (get_or cs i d) in
-    let other = value_id id most (get_or cs j d) in
-    omega arith))
-    (All-map (λ c. IsValue c.most) f cs (All-weaker _ _ (λ c. value_with id most c value) cs good.values))
-
-change_sound : (s : Following) (id : ℕ) (most : ℤ) → IsSound s → IsSound (next_of (on_change s id most))
-change_sound s id most sound =
-    let net = s.network.base in
-    let cs = net.constraints in
-    edit_sound s (with_changed s id most) (change_refusal net s.edits id most) (codes "changed " ++ decimal id) sound
-    (λ none said.
-    let one = none_refused (at_limit s.edits) _ _ none in
-    let two = none_refused (not (has_constraint net id)) _ _ one.1 in
-    replan_sound s net.deadline (map (with_value id most) cs) (s.edits + 1) s.fresh said sound
-    (changed_well_formed net id most sound.labelled.base (true_value most (refused_unless (is_value most) _ two.1)))
-    (All-map (λ c. c.id < s.fresh) (with_value id most) cs
-    (All-weaker (λ c. c.id < s.fresh) (λ c. (with_value id most c).id < s.fresh) (λ c below. (let same = value_id id most c in omega arith)) cs sound.above)))
+    by_numbers (Some x) (Some y) is also = change_sound s (adds x y most a) sound (inside from x is, inside to y also) letters
 
 deadline_sound : (s : Following) (deadline : ℕ) → IsSound s → deadline ≤ most_deadline → IsSound (next_of (on_deadline s deadline))
 deadline_sound s deadline sound within =
@@ -340,8 +224,8 @@ by_keeps s name (Some x) = unless_refusal (by_refusal s x (s.history.done x))
 
 plan_sound : (s : Following) (edit : Edit) → IsSound s → IsEdit edit → IsSound (next_of (on_plan s edit))
 plan_sound s (added from to most a) sound is = add_sound s from to most a sound is.3
-plan_sound s (removed id) sound is = remove_sound s id sound
-plan_sound s (changed id most) sound is = change_sound s id most sound
+plan_sound s (removed id) sound is = change_sound s (removes id) sound tt tt
+plan_sound s (changed id most) sound is = change_sound s (revalues id most) sound tt tt
 plan_sound s asked sound is = subst IsSound (sym (check_keeps s (verdict_now s))) sound
 
 deadline_line_sound : (s : Following) (deadline : ℕ) (b : Bool) → IsSound s → deadline ≤ most_deadline → IsSound (next_of (if b then on_other s else on_deadline s deadline))
@@ -401,13 +285,13 @@ nothing_timely m good = record {
 
 pub begun_sound : (cap : ℕ) (names : List (List ℕ)) (m : Labelled) → IsLabelled m → length (lowered m).constraints ≤ most_constraints → length names ≡ count m.base → IsSound (begun cap names m)
 begun_sound cap names m good few named =
-    let fresh = above m.base.constraints in
+    let fresh = id_above m.base.constraints in
     let room : HasRoom m = record { base = good.base.few_constraints; lowered = few } in
     record {
       labelled = good;
       named = named;
       timely = nothing_timely m good;
-      above = above_all m.base.constraints;
+      above = above_each m.base.constraints;
       verdict = left_fits m nothing_yet fresh cap few (subst HasRoom (sym (rest_whole m fresh good)) room);
     }
 

@@ -1,8 +1,8 @@
 -- Following what happens: a labelled network is told facts and edits, and asked what is next.
-use Rattle.std.specs.Prelude.{ℕ, zero, suc, Bool, false, ◌&&◌, ◌||◌, max, nat_le, List, [], ◌∷◌, ◌++◌, length, map, slice_index_or, Option, None, Some, if◌then◌else◌, codes, decimal}
+use Rattle.std.specs.Prelude.{ℕ, zero, suc, Bool, false, ◌&&◌, ◌||◌, nat_le, List, [], ◌∷◌, ◌++◌, length, map, slice_index_or, Option, None, Some, if◌then◌else◌, codes, decimal}
 use Rattle.std.specs.Option.{is_some}
 use Rattle.cstn_net.specs.Limits.{most_constraints}
-use Rattle.cstn_net.specs.Networks.{Network, Constraint, count}
+use Rattle.cstn_net.specs.Networks.{Network, count}
 use Rattle.cstn_lift.specs.Labelled.{Labelled}
 use Rattle.cstn_lift.specs.Completion.{completed_label}
 use Rattle.cstn_lift.specs.Lowered.{lowered}
@@ -11,6 +11,7 @@ use Rattle.cstn_check.specs.declared.verdicts.Verdict.{Verdict}
 use Rattle.cstn_check.specs.declared.verdicts.Verdict.TheVariants.{Yes, No, Full as IsFull}
 use Rattle.cstn_history.specs.Histories.{History, nothing_yet, is_done, allows}
 use Rattle.cstn_history.specs.Rest.{left, rest, sight_left}
+use Rattle.cstn_change.specs.Changes.{id_above}
 use Rattle.cstn_reply.specs.Texts.{Said, line, say, yes_line, full_line}
 use Rattle.cstn_reply.specs.declared.output.Outcome.{Outcome}
 use Rattle.cstn_reply.specs.declared.output.Outcome.TheVariants.{Good, Bad, Full, Unfinished}
@@ -26,11 +27,6 @@ pub record Following : Type 0 where
   pub fresh : ℕ
   pub lines : ℕ
 
--- an id above those of these constraints
-abbrev pub above : List Constraint → ℕ
-above [] = 0
-above (c ∷ cs) = max (suc c.id) (above cs)
-
 -- a session that begins: nothing has happened yet
 abbrev pub begun : ℕ → List (List ℕ) → Labelled → Following
 begun cap names m = record {
@@ -39,7 +35,7 @@ begun cap names m = record {
   history = nothing_yet;
   cap = cap;
   edits = 0;
-  fresh = above m.base.constraints;
+  fresh = id_above m.base.constraints;
   lines = 0;
 }
 

@@ -3,13 +3,19 @@ pub mod Tries
 pub mod Waiting
 pub mod Blame
 pub mod Needs
--- Sessions that follow what happens.
+-- What is carried out, and what a check found of what is left.
+pub mod Executions
+pub mod Findings
+-- A session, what its calls make of it, and what it answers.
+pub mod Sessions
+pub mod Replans
+pub mod Answers
+-- Sessions that follow what happens in lines.
 pub mod Following
 pub mod Progress
 -- What is said to each kind of line.
 pub mod FactLines
 pub mod PlanLines
-pub mod Refusals
 pub mod Questions
 pub mod Searches
 pub mod Hearing
@@ -18,4 +24,4 @@ pub mod Recorded
 pub mod Turns
 -- How the values of the program are read.
 pub mod Read
-pub mod NextRead
+pub mod Told

@@ -1,16 +1,14 @@
 -- How the program's session is read as that of the definitions.
-use Rattle.std.specs.Prelude.{ℕ, ◌≡◌, ◌<◌, ◌≤◌, ◌+◌, ◌^◌, List, length, slice_get, Some}
-use Rattle.std.specs.List.{All}
-use Rattle.cstn_net.specs.Limits.{most_load, most_edits}
+use Rattle.std.specs.Prelude.{ℕ, ◌≡◌, ◌≤◌, List, length, slice_get}
 use Rattle.cstn_net.specs.Networks.{count}
 use Rattle.cstn_lift.specs.Read.{LabelledParts, the_labelled}
-use Rattle.cstn_lift.specs.WellFormed.{IsLabelled}
 use Rattle.cstn_check.specs.declared.verdicts.Verdict.{Verdict}
-use Rattle.cstn_history.specs.Read.{HistoryParts, the_history, IsKeptFor}
+use Rattle.cstn_history.specs.Read.{HistoryParts, the_history}
 use Rattle.cstn_reply.specs.Written.{EndsLine}
-use Rattle.cstn_follow.specs.declared.sessions.Heard.{Heard as HeardText}
-use Rattle.cstn_follow.specs.declared.sessions.Heard.TheVariants.{Text, Rest}
-use Rattle.cstn_follow.specs.Following.{Following, Heard, says, saves, verdict_within}
+use Rattle.cstn_follow.specs.declared.following.Heard.{Heard as HeardText}
+use Rattle.cstn_follow.specs.declared.following.Heard.TheVariants.{Text, Rest}
+use Rattle.cstn_follow.specs.Following.{Following, Heard, says, saves}
+use Rattle.cstn_follow.specs.Sessions.{SessionParts, IsSession}
 
 -- what contracts see of a session: its parts as the program keeps them, and the verdict on what is left
 pub record FollowingParts : Type 0 where
@@ -35,17 +33,38 @@ the_following f = record {
   lines = f.lines;
 }
 
--- each time-point has a name, what has happened is a history of the network, numbers are in range, and the
--- verdict is the one on what is left, which has no more constraints than it may
+-- the parts by what contracts see of the session that takes values, and these are it
+abbrev pub following_of : SessionParts → List (List ℕ) → ℕ → FollowingParts
+following_of s names lines = record {
+  network = s.network;
+  names = names;
+  history = s.history;
+  cap = s.cap;
+  edits = s.edits;
+  fresh = s.fresh;
+  lines = lines;
+  verdict = s.verdict;
+}
+
+abbrev pub session_of : FollowingParts → SessionParts
+session_of f = record {
+  network = f.network;
+  history = f.history;
+  cap = f.cap;
+  edits = f.edits;
+  fresh = f.fresh;
+  verdict = f.verdict;
+}
+
+-- each time-point of the session has a name, and no more lines are counted than there may be
+pub record HasNames (s : SessionParts) (names : List (List ℕ)) (lines : ℕ) : Type 0 where
+  pub named : length names ≡ count (the_labelled s.network).base
+  pub few_lines : lines ≤ 16777217
+
+-- what is true of each session
 pub record IsFollowing (f : FollowingParts) : Type 0 where
-  pub labelled : IsLabelled (the_labelled f.network)
-  pub named : length f.names ≡ count (the_labelled f.network).base
-  pub kept : IsKeptFor (the_labelled f.network) f.history
-  pub few_edits : f.edits ≤ most_edits
-  pub above : All (λ c. c.id < f.fresh) (the_labelled f.network).base.constraints
-  pub low : f.fresh ≤ 2 ^ 31 + f.edits
-  pub few_lines : f.lines ≤ 16777217
-  pub verdict : verdict_within (the_following f) ≡ Some f.verdict
+  pub session : IsSession (session_of f)
+  pub names : HasNames (session_of f) f.names f.lines
 
 -- what the program says to a line, and the session that follows
 abbrev pub the_heard : FollowingParts → HeardText → Heard

@@ -1,12 +1,10 @@
 // What a session says.
-ghost use Rattle.std.specs.Prelude.{◌≡◌, ◌++◌, ◌∷◌, [], IfOk, codes, decimal};
+ghost use Rattle.std.specs.Prelude.{◌≡◌, ◌≤◌, ◌++◌, ◌∷◌, [], length, vec_capacity, IfOk, codes, decimal};
 ghost use Rattle.cstn_label.specs.Letters.{letter_of};
 ghost use Rattle.cstn_history.specs.Read.{the_fact_refusal};
 ghost use Rattle.cstn_reply.specs.Texts.{line};
 ghost use Rattle.cstn_follow.specs.Following.{verdict_line, too_many, name_at};
 ghost use Rattle.cstn_follow.specs.FactLines.{refused_fact, unknown_name};
-ghost use Rattle.cstn_follow.specs.PlanLines.{unknown_end};
-ghost use Rattle.cstn_text.specs.Numbers.{printed_value};
 ghost use Rattle.cstn_text.specs.PrintedNames.{printed_name};
 ghost use Rattle.cstn_lines.specs.LiveLines.{printed_truth};
 
@@ -22,15 +20,48 @@ use std::alloc::{AllocError, Global};
 /// How many bytes an answer without names has at most.
 pub const ROOM: usize = 64;
 
+/// Room for an answer without names.
+pub fn room(alloc: Global) -> Result<Vec<u8>, AllocError>
+    ensures empty { IfOk result (λ text. text.items ≡ []) }
+    ensures room { IfOk result (λ text. 64 ≤ vec_capacity text) }
+{
+    Vec::with_capacity(alloc, ROOM)
+}
+
+/// The line of a verdict, in room that was taken before.
+pub fn verdict_in(room: Vec<u8>, cap: Cap, verdict: Verdict) -> Vec<u8>
+    requires empty { room.items ≡ [] }
+    requires room { 64 ≤ vec_capacity room }
+    ensures line { result.items ≡ verdict_line cap.entries verdict }
+{
+    match verdict {
+        Verdict::Yes { load } => number_in(room, b"yes ", load),
+        Verdict::No { load } => number_in(room, b"no ", load),
+        Verdict::Full => number_in(room, b"full ", cap.entries),
+    }
+}
+
+// A line that ends with a number, in room that was taken before.
+fn number_in(mut room: Vec<u8>, word: &[u8], number: u32) -> Vec<u8>
+    requires empty { room.items ≡ [] }
+    requires room { 64 ≤ vec_capacity room }
+    requires short { length word.now ≤ 8 }
+    ensures line { result.items ≡ line (word.now ++ decimal number) }
+{
+    let mut digits = Buffer::new();
+    room.extend_from_slice(word).unwrap();
+    room.extend_from_slice(digits.format(number).as_bytes())
+        .unwrap();
+    room.push(b'\n').unwrap();
+    room
+}
+
 /// The line of a verdict.
 pub fn verdict_line(alloc: Global, cap: Cap, verdict: Verdict) -> Result<Vec<u8>, AllocError>
     ensures line { IfOk result (λ text. text.items ≡ verdict_line cap.entries verdict) }
 {
-    match verdict {
-        Verdict::Yes { load } => number_line(alloc, b"yes ", load),
-        Verdict::No { load } => number_line(alloc, b"no ", load),
-        Verdict::Full => number_line(alloc, b"full ", cap.entries),
-    }
+    let room = room(alloc)?;
+    Ok(verdict_in(room, cap, verdict))
 }
 
 /// A line that is a word.
@@ -46,14 +77,6 @@ pub fn number_line(alloc: Global, word: &[u8], number: u32) -> Result<Vec<u8>, A
 {
     let mut digits = Buffer::new();
     line_of(alloc, word, digits.format(number).as_bytes())
-}
-
-/// A line that ends with a value.
-pub fn value_line(alloc: Global, word: &[u8], value: i32) -> Result<Vec<u8>, AllocError>
-    ensures line { IfOk result (λ text. text.items ≡ line (word.now ++ printed_value value)) }
-{
-    let mut digits = Buffer::new();
-    line_of(alloc, word, digits.format(value).as_bytes())
 }
 
 /// A line that ends with a proposition.
@@ -86,14 +109,6 @@ pub fn unknown_name(alloc: Global, name: &str) -> Result<Vec<u8>, AllocError>
     ensures line { IfOk result (λ text. text.items ≡ line (unknown_name name.now)) }
 {
     let text = format!(in alloc; "refused F3 {}\n", print_name(alloc, name)?)?;
-    Ok(text.into_bytes())
-}
-
-/// The line that no time-point has the name, which an end of a constraint is to have.
-pub fn unknown_end(alloc: Global, name: &str) -> Result<Vec<u8>, AllocError>
-    ensures line { IfOk result (λ text. text.items ≡ line (unknown_end name.now)) }
-{
-    let text = format!(in alloc; "refused S7 {}\n", print_name(alloc, name)?)?;
     Ok(text.into_bytes())
 }
 

@@ -11,4 +11,8 @@ pub enum Event {
     Observed(Prop, bool),
     /// The outcome is expected at this moment, and not before.
     Expected(Prop),
+    /// The constraint with this id gets another value, in ticks.
+    Revalued { id: u32, most: i32 },
+    /// The deadline is this moment.
+    Due(u32),
 }

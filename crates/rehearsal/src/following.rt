@@ -8,11 +8,13 @@ use crate::heating::{FILL, HEAT, SAMPLE, heating};
 use crate::plans::CAP;
 use crate::printing::{print_blame, print_event, print_latest, print_outlook};
 use anyhow::bail;
+use cstn_change::Change;
+use cstn_check::Verdict;
 use cstn_label::NodeId;
 use cstn_lift::Labelled;
 use cstn_log::Cap;
-use cstn_net::Network;
-use cstn_session::{FollowError, Outlook, Session};
+use cstn_net::{MAX_DEADLINE, Network};
+use cstn_follow::{Outlook, Session};
 use cstn_text::Names;
 use std::alloc::Global;
 
@@ -25,19 +27,24 @@ const LATE: [(u32, Event); 5] = [
     (42, Event::Executed(FILL)),
 ];
 
-// The result is 6 minutes early.
-const EARLY: [(u32, Event); 3] = [
+// The result is 6 minutes early, and all is to be done within 20 minutes then.
+const EARLY: [(u32, Event); 4] = [
     (0, Event::Executed(SAMPLE)),
     (4, Event::Observed(SOUR, false)),
+    (4, Event::Due(20)),
     (15, Event::Executed(FILL)),
 ];
 
-// The result is 9 minutes late, and 2 minutes after it heating has not begun.
-const TOO_LATE: [(u32, Event); 4] = [
+// The result is 9 minutes late, and 2 minutes after it heating has not begun. Then the batch may be filled up to 45 minutes after
+// the sample.
+const TOO_LATE: [(u32, Event); 7] = [
     (5, Event::Executed(SAMPLE)),
     (24, Event::Expected(SOUR)),
     (24, Event::Observed(SOUR, true)),
     (26, Event::Passed),
+    (26, Event::Revalued { id: 2, most: 45 }),
+    (28, Event::Executed(HEAT)),
+    (48, Event::Executed(FILL)),
 ];
 
 /// Follows three courses of heating and bottling.
@@ -94,14 +101,24 @@ fn follow(
 }
 
 // Records what happens at a moment. What is refused changes nothing.
-fn record(session: &mut Session, moment: u32, event: Event) -> Result<(), FollowError> {
+fn record(session: &mut Session, moment: u32, event: Event) -> anyhow::Result<()> {
     match event {
         Event::Passed => session.now(moment)?,
         Event::Executed(x) => session.did(moment, &[x])?,
         Event::Observed(p, value) => session.saw(moment, p, value)?,
         Event::Expected(p) => session.expect(moment, p)?,
+        Event::Revalued { id, most } => session.edit(Change::Revalue { id, most })?,
+        Event::Due(deadline) => set_deadline(session, deadline)?,
     };
     Ok(())
+}
+
+// Sets the deadline. Refused where it is above 1,000,000.
+fn set_deadline(session: &mut Session, deadline: u32) -> anyhow::Result<Verdict> {
+    if deadline > MAX_DEADLINE {
+        bail!("the deadline {deadline} is above {MAX_DEADLINE}");
+    }
+    Ok(session.deadline(deadline)?)
 }
 
 // Tells how the plan stands: what is next, and until when each time-point that is named can wait; or what is to blame.

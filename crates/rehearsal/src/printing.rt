@@ -1,7 +1,7 @@
 use crate::events::Event;
 use cstn_label::{NodeId, Prop};
 use cstn_next::NextMoment;
-use cstn_session::{Latest, Outlook, ToBlame};
+use cstn_follow::{Latest, Outlook, ToBlame};
 use cstn_text::Names;
 use std::io;
 
@@ -39,6 +39,8 @@ pub fn print_event(rt: &impl Print, t: u32, event: Event, names: &Names) -> io::
         Event::Executed(x) => print_named(rt, t, &[x], names),
         Event::Observed(p, value) => print_outcome(rt, t, p, value),
         Event::Expected(p) => println!(rt; "{t} {} is expected", p.letter() as char),
+        Event::Due(deadline) => println!(rt; "{t} due by {deadline}"),
+        Event::Revalued { id, most } => println!(rt; "{t} constraint {id} is {most}"),
     }
 }
 

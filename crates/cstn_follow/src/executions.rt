@@ -1,0 +1,204 @@
+// Labelled networks that are carried out.
+ghost use Rattle.std.specs.Prelude.{ℕ, ◌≡◌, ◌<◌, ◌≤◌, ◌^◌, None, Some, List, IsTrue, IfOk, IfErr, IsOk, IsErrOf};
+ghost use Rattle.std.specs.List.{All, AllPairs, Contains};
+ghost use Rattle.cstn_net.specs.Networks.{count};
+ghost use Rattle.cstn_lift.specs.Lowered.{lowered};
+ghost use Rattle.cstn_lift.specs.Read.{the_labelled};
+ghost use Rattle.cstn_history.specs.Continuations.{Can, CanWait};
+ghost use Rattle.cstn_history.specs.Handed.{HasRoom, IsRestRefusal};
+ghost use Rattle.cstn_history.specs.Histories.{nothing_yet};
+ghost use Rattle.cstn_history.specs.Read.{the_history, IsKeptFor};
+ghost use Rattle.cstn_history.specs.Rest.{is_left, rest};
+ghost use Rattle.cstn_change.specs.Changes.{id_above};
+ghost use Rattle.cstn_check.specs.Givers.{but, is_of};
+ghost use Rattle.cstn_follow.specs.Blame.{alone, blamed};
+ghost use Rattle.cstn_follow.specs.Executions.{IsExecution, left_of};
+ghost use Rattle.cstn_follow.specs.Findings.{verdict_of, IsFindingOn};
+ghost use Rattle.cstn_follow.specs.Following.{verdict_left};
+ghost use Rattle.cstn_follow.specs.Waiting.{HasRoomToWait, waits_until};
+
+use crate::blames::blame;
+use crate::errors::{BlameError, WaitError};
+use crate::findings::{Finding, finding_left, labelled_network_is_in_order};
+use crate::waits::by;
+use cstn_change::id_above;
+use cstn_history::{History, RestError, rest};
+use cstn_label::NodeId;
+use cstn_lift::Labelled;
+use cstn_log::Cap;
+use std::alloc::{AllocError, Global};
+use std::marker::Model;
+
+/// A labelled network that is carried out: the network, what has happened so far, and an id above all that its constraints ever
+/// had.
+#[derive(Drop)]
+pub struct Execution {
+    network: Labelled,
+    history: History,
+    fresh: u32,
+}
+
+impl Model for Execution {
+    ghost use Rattle.cstn_follow.specs.Executions.{ExecutionParts, IsExecution};
+
+    ghost Value = { ExecutionParts };
+
+    ghost view = { λ e. record { network = e.network; history = e.history; fresh = e.fresh } };
+
+    ghost invariant = { λ e. IsExecution (record { network = e.network; history = e.history; fresh = e.fresh }) };
+}
+
+impl Execution {
+    /// The execution of a labelled network of which nothing has happened yet. Fails for want of memory alone.
+    pub fn start(alloc: Global, network: Labelled) -> Result<Execution, AllocError>
+        requires ids { All (λ c. c.id < 2 ^ 31) (the_labelled network).base.constraints }
+        ensures network { IfOk result (λ e. e.network ≡ network) }
+        ensures nothing { IfOk result (λ e. the_history e.history ≡ nothing_yet) }
+        ensures fresh { IfOk result (λ e. e.fresh ≡ id_above (the_labelled network).base.constraints) }
+        ensures small { IfOk result (λ e. e.fresh ≤ 2 ^ 31) }
+        ensures execution { IfOk result IsExecution }
+    {
+        labelled_network_is_in_order(&network);
+        let history = History::new(alloc, &network)?;
+        let fresh = id_above(network.base());
+        Ok(Execution {
+            network,
+            history,
+            fresh,
+        })
+    }
+
+    /// The network.
+    pub fn network(&self) -> &Labelled
+        ensures network { result.now ≡ self.now.network }
+    {
+        &self.network
+    }
+
+    /// What has happened.
+    pub fn history(&self) -> &History
+        ensures history { result.now ≡ self.now.history }
+    {
+        &self.history
+    }
+
+    /// An id above all that constraints ever had, which the next one gets.
+    pub fn fresh(&self) -> u32
+        ensures fresh { result ≡ self.now.fresh }
+    {
+        self.fresh
+    }
+
+    /// What is left. Refused where there are too many constraints.
+    pub fn rest(&self, alloc: Global) -> Result<Labelled, RestError>
+        ensures rest { IfOk result (λ l. the_labelled l ≡ left_of self.now) }
+        ensures refused { IfErr result (IsRestRefusal (left_of self.now)) }
+    {
+        rest(alloc, &self.network, &self.history, self.fresh)
+    }
+
+    /// What a check finds of what is left. Refused where there are too many constraints.
+    pub fn finding(&self, alloc: Global, cap: Cap) -> Result<Finding, RestError>
+        ensures finding { IfOk result (IsFindingOn cap.entries (lowered (left_of self.now))) }
+        ensures verdict { IfOk result (λ f. verdict_left (the_labelled self.now.network) (the_history self.now.history) self.now.fresh cap.entries
+            ≡ Some (verdict_of f)) }
+        ensures many { IsErrOf result RestError.TooManyConstraints
+            → verdict_left (the_labelled self.now.network) (the_history self.now.history) self.now.fresh cap.entries ≡ None }
+    {
+        finding_left(alloc, &self.network, &self.history, self.fresh, cap)
+    }
+
+    /// What a check would find of what is left after another history. Refused where there would be too many constraints.
+    pub fn finding_after(
+        &self,
+        alloc: Global,
+        later: &History,
+        cap: Cap,
+    ) -> Result<Finding, RestError>
+        requires kept { IsKeptFor (the_labelled self.now.network) later.now }
+        ensures finding { IfOk result (IsFindingOn cap.entries (lowered (left_of (record self.now { history = later.now })))) }
+        ensures verdict { IfOk result (λ f. verdict_left (the_labelled self.now.network) (the_history later.now) self.now.fresh cap.entries
+            ≡ Some (verdict_of f)) }
+        ensures many { IsErrOf result RestError.TooManyConstraints
+            → verdict_left (the_labelled self.now.network) (the_history later.now) self.now.fresh cap.entries ≡ None }
+    {
+        finding_left(alloc, &self.network, later, self.fresh, cap)
+    }
+
+    /// What a check would find of what is left of another network, whose ids are below `fresh`. Refused where there would be too many
+    /// constraints.
+    pub fn finding_replanned(
+        &self,
+        alloc: Global,
+        network: &Labelled,
+        fresh: u32,
+        cap: Cap,
+    ) -> Result<Finding, RestError>
+        requires kept { IsKeptFor (the_labelled network.now) self.now.history }
+        requires above { All (λ c. c.id < fresh) (the_labelled network.now).base.constraints }
+        requires low { fresh ≤ 4294000000 }
+        ensures finding { IfOk result (IsFindingOn cap.entries (lowered (rest (the_labelled network.now) (the_history self.now.history) fresh))) }
+        ensures verdict { IfOk result (λ f. verdict_left (the_labelled network.now) (the_history self.now.history) fresh cap.entries
+            ≡ Some (verdict_of f)) }
+        ensures many { IsErrOf result RestError.TooManyConstraints
+            → verdict_left (the_labelled network.now) (the_history self.now.history) fresh cap.entries ≡ None }
+    {
+        finding_left(alloc, network, &self.history, fresh, cap)
+    }
+
+    /// Makes this what has happened.
+    pub fn record(&mut self, later: History)
+        requires kept { IsKeptFor (the_labelled self.old.network) later }
+        ensures recorded { self.new ≡ record self.old { history = later } }
+        ensures execution { IsExecution self.new }
+    {
+        self.history = later;
+    }
+
+    /// Puts another network, whose ids are below `fresh`, in the place of the network.
+    pub fn replan(&mut self, network: Labelled, fresh: u32)
+        requires kept { IsKeptFor (the_labelled network) self.old.history }
+        requires above { All (λ c. c.id < fresh) (the_labelled network).base.constraints }
+        requires low { fresh ≤ 4294000000 }
+        ensures replanned { self.new ≡ record self.old { network = network; fresh = fresh } }
+        ensures execution { IsExecution self.new }
+    {
+        labelled_network_is_in_order(&network);
+        self.network = network;
+        self.fresh = fresh;
+    }
+
+    /// Until when a time-point that is left and isn't done can wait, in ticks, where what has happened can go on.
+    pub fn latest(&self, alloc: Global, x: NodeId, cap: Cap) -> Result<u32, WaitError>
+        requires inside { x.0 < count (the_labelled self.now.network).base }
+        requires coming { (the_history self.now.history).done x.0 ≡ None }
+        requires left { IsTrue (is_left (the_labelled self.now.network) (the_history self.now.history) x.0) }
+        requires can { Can (the_labelled self.now.network) (the_history self.now.history) }
+        ensures until { IfOk result (λ t. waits_until (the_labelled self.now.network) (the_history self.now.history) self.now.fresh x.0 cap.entries ≡ Some t) }
+        ensures waits { IfOk result (λ t. CanWait (the_labelled self.now.network) (the_history self.now.history) x.0 t) }
+        ensures last { IfOk result (λ t. (u : ℕ) → CanWait (the_labelled self.now.network) (the_history self.now.history) x.0 u → u ≤ t) }
+        ensures few { IsOk result → HasRoomToWait (the_labelled self.now.network) (the_history self.now.history) self.now.fresh }
+        ensures many { IsErrOf result WaitError.TooManyConstraints
+            → HasRoomToWait (the_labelled self.now.network) (the_history self.now.history) self.now.fresh → ⊥ }
+        ensures full { IsErrOf result WaitError.Full → HasRoomToWait (the_labelled self.now.network) (the_history self.now.history) self.now.fresh
+            × (waits_until (the_labelled self.now.network) (the_history self.now.history) self.now.fresh x.0 cap.entries ≡ None) }
+    {
+        by(alloc, &self.network, &self.history, self.fresh, x, cap)
+    }
+
+    /// The ids of the constraints that are to blame where what has happened can't go on.
+    pub fn blame(&self, alloc: Global, cap: Cap) -> Result<Vec<u32>, BlameError>
+        requires room { HasRoom (left_of self.now) }
+        requires cannot { Can (the_labelled self.now.network) (the_history self.now.history) → ⊥ }
+        ensures cannot { IfOk result (λ ids. Can (alone (the_labelled self.now.network) (is_of ids.items)) (the_history self.now.history) → ⊥) }
+        ensures needed { IfOk result (λ ids. (id : ℕ) → Contains ids.items id
+            → Can (alone (the_labelled self.now.network) (but id (is_of ids.items))) (the_history self.now.history)) }
+        ensures ascending { IfOk result (λ ids. AllPairs (λ a b. a < b) ids.items) }
+        ensures blamed { IfOk result (λ ids. blamed (the_labelled self.now.network) (the_history self.now.history) self.now.fresh cap.entries
+            ≡ Some ids.items) }
+        ensures full { IsErrOf result BlameError.Full
+            → blamed (the_labelled self.now.network) (the_history self.now.history) self.now.fresh cap.entries ≡ None }
+    {
+        blame(alloc, &self.network, &self.history, self.fresh, cap)
+    }
+}

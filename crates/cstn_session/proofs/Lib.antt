@@ -1,4 +1,0 @@
--- What a check found, and what its verdict says.
-pub mod Found
--- What facts make of a session.
-pub mod Told
