@@ -7,8 +7,8 @@ use Rattle.cstn_check.specs.declared.verdicts.Verdict.{Verdict}
 use Rattle.cstn_check.specs.declared.verdicts.Verdict.TheVariants.{Yes, No, Full}
 use Rattle.cstn_follow.specs.Following.{Following, begun, following_ending, verdict_now, verdict_line}
 use Rattle.cstn_follow.specs.Read.{FollowingParts, the_following, the_heard}
-use Rattle.cstn_follow.specs.declared.sessions.Heard.{Heard as HeardText}
-use Rattle.cstn_follow.specs.declared.sessions.Heard.TheVariants.{Text, Rest}
+use Rattle.cstn_follow.specs.declared.following.Heard.{Heard as HeardText}
+use Rattle.cstn_follow.specs.declared.following.Heard.TheVariants.{Text, Rest}
 use Rattle.cstn_reply.specs.Texts.{line}
 use Rattle.cstn_reply.specs.Sessions.{more}
 use Rattle.cstn_reply.specs.Written.{EndsLine}

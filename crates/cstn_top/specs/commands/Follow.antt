@@ -11,8 +11,8 @@ use Rattle.cstn_history.specs.Continuations.{Can}
 use Rattle.cstn_lines.specs.Pieces.{heard_lines}
 use Rattle.cstn_follow.specs.Following.{Following, Heard, begun, left_now, verdict_now, verdict_line, is_any_open, following_ending}
 use Rattle.cstn_follow.specs.Turns.{heard_by, turn_by}
-use Rattle.cstn_follow.specs.declared.sessions.Heard.{Heard as HeardText}
-use Rattle.cstn_follow.specs.declared.sessions.Heard.TheVariants.{Text, Rest}
+use Rattle.cstn_follow.specs.declared.following.Heard.{Heard as HeardText}
+use Rattle.cstn_follow.specs.declared.following.Heard.TheVariants.{Text, Rest}
 use Rattle.cstn_request.specs.Requests.{Asked}
 use Rattle.cstn_reply.specs.Texts.{Said, line}
 use Rattle.cstn_reply.specs.Sessions.{Turn, play}
