@@ -10,11 +10,13 @@ ghost use Rattle.cstn_reply.specs.Texts.{line};
 ghost use Rattle.cstn_follow.specs.Following.{says};
 ghost use Rattle.cstn_follow.specs.PlanLines.{on_edit, on_add, on_remove, on_change, on_deadline};
 ghost use Rattle.cstn_follow.specs.Read.{the_following};
+ghost use Rattle.cstn_follow.specs.Told.{IsSaidOfEdit, IsSaidOfReplan, IsUnmade};
 
 use super::Following;
 use crate::errors::ReplanError;
 use crate::texts::{number_line, too_many};
 use cstn_change::{Change, EditError, put_accepted, put_refusal, put_unknown_end};
+use cstn_check::Verdict;
 use cstn_history::RestError;
 use cstn_label::Label;
 use cstn_reply::AnswerText;
@@ -80,11 +82,8 @@ impl Following {
         ensures same { OnErr result (self.new ≡ self.old) }
     {
         let text = number_line(self.alloc, b"deadline ", deadline)?;
-        match self.session.deadline(deadline) {
-            Ok(_) => Ok(text),
-            Err(RestError::TooManyConstraints) => too_many(self.alloc),
-            Err(RestError::Memory(e)) => Err(e),
-        }
+        let made = self.session.deadline(deadline);
+        self.answer_replanned(text, made)
     }
 
     // Makes a change. Its line is made before, so nothing can fail after it.
@@ -95,11 +94,40 @@ impl Following {
         ensures same { OnErr result (self.new ≡ self.old) }
     {
         let text = accepted(self.alloc, self.session.fresh(), change)?;
-        match self.session.edit(change) {
+        let made = self.session.edit(change);
+        self.answer_edited(text, made)
+    }
+
+    // This line of an edit that is made, or the line of why it isn't. So it fails only where nothing is edited.
+    fn answer_edited(
+        &self,
+        text: Vec<u8>,
+        made: Result<Verdict, ReplanError>,
+    ) -> Result<Vec<u8>, AllocError>
+        ensures said { IfOk result (λ said. IsSaidOfEdit text.items made said.items) }
+        ensures refused { OnErr result (IsUnmade made) }
+    {
+        match made {
             Ok(_) => Ok(text),
             Err(ReplanError::Refused(error)) => refused(self.alloc, error),
             Err(ReplanError::TooManyConstraints) => too_many(self.alloc),
             Err(ReplanError::Memory(e)) => Err(e),
+        }
+    }
+
+    // This line of another deadline that is set, or the line of why it isn't.
+    fn answer_replanned(
+        &self,
+        text: Vec<u8>,
+        made: Result<Verdict, RestError>,
+    ) -> Result<Vec<u8>, AllocError>
+        ensures said { IfOk result (λ said. IsSaidOfReplan text.items made said.items) }
+        ensures refused { OnErr result (IsUnmade made) }
+    {
+        match made {
+            Ok(_) => Ok(text),
+            Err(RestError::TooManyConstraints) => too_many(self.alloc),
+            Err(RestError::Memory(e)) => Err(e),
         }
     }
 }

@@ -3,10 +3,12 @@ ghost use Rattle.std.specs.Prelude.{◌≡◌, ◌≤◌, ◌++◌, [], length, 
 ghost use Rattle.std.specs.List.{cons_option};
 ghost use Rattle.std.specs.Option.{option_map};
 ghost use Rattle.cstn_net.specs.Limits.{most_time_points};
+ghost use Rattle.cstn_lift.specs.Read.{the_labelled};
+ghost use Rattle.cstn_history.specs.Read.{the_history};
 ghost use Rattle.cstn_follow.specs.Following.{says};
-ghost use Rattle.cstn_follow.specs.FactLines.{unknown_of, node_named, nodes_of, on_did, on_saw, on_now, on_await};
+ghost use Rattle.cstn_follow.specs.FactLines.{all_done, unknown_of, node_named, nodes_of, on_result, on_did, on_saw, on_now, on_await};
 ghost use Rattle.cstn_follow.specs.Read.{the_following};
-ghost use Rattle.cstn_follow.specs.Told.{IsSaidOf, IsRefused};
+ghost use Rattle.cstn_follow.specs.Told.{IsSaidOfFacts, IsUnmade};
 
 use super::Following;
 use crate::errors::FollowError;
@@ -36,8 +38,18 @@ impl Following {
         }
         self.session.network().base().count();
         let nodes = nodes_of(self.alloc, &self.names, names)?;
+        self.did_all(moment, &nodes)
+    }
+
+    // Records that these time-points were done at this moment.
+    fn did_all(&mut self, moment: u32, nodes: &[NodeId]) -> Result<Vec<u8>, AllocError>
+        ensures says { IfOk result (λ text.
+            on_result (the_following self.old) (all_done (the_labelled self.old.network) moment (the_history self.old.history) nodes.now)
+            ≡ says text.items (the_following self.new)) }
+        ensures same { OnErr result (self.new ≡ self.old) }
+    {
         let room = room(self.alloc)?;
-        let told = self.session.did(moment, &nodes);
+        let told = self.session.did(moment, nodes);
         self.answer_told(room, told)
     }
 
@@ -84,8 +96,8 @@ impl Following {
     ) -> Result<Vec<u8>, AllocError>
         requires empty { room.items ≡ [] }
         requires room { 64 ≤ vec_capacity room }
-        ensures said { IfOk result (λ text. IsSaidOf self.now.names self.now.cap told text.items) }
-        ensures refused { OnErr result (IsRefused told) }
+        ensures said { IfOk result (λ text. IsSaidOfFacts self.now.names self.now.cap told text.items) }
+        ensures refused { OnErr result (IsUnmade told) }
     {
         match told {
             Ok(verdict) => Ok(verdict_in(room, self.session.cap(), verdict)),

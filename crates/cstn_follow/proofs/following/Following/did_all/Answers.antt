@@ -1,0 +1,47 @@
+use Rattle.std.proofs.Common.{ℕ, ◌≡◌, List, sym, subst, ap, ◌∙◌}
+use Rattle.std.specs.Prelude.{Result, IfOk, OnErr}
+use Rattle.std.proofs.lemmas.Result.{IfOk-weaker, on_err_weaker}
+use Rattle.cstn_label.specs.declared.nodes.NodeId.{NodeId}
+use Rattle.cstn_net.specs.Networks.{count}
+use Rattle.cstn_lift.specs.Read.{LabelledParts, the_labelled}
+use Rattle.cstn_history.specs.Facts.{FactRefusal}
+use Rattle.cstn_history.specs.Histories.{History}
+use Rattle.cstn_history.specs.Read.{the_history}
+use Rattle.cstn_follow.specs.FactLines.{all_done, on_result}
+use Rattle.cstn_follow.specs.Following.{says}
+use Rattle.cstn_follow.specs.Read.{FollowingParts, following_of, session_of, the_following}
+use Rattle.cstn_follow.specs.Sessions.{SessionParts}
+use Rattle.cstn_follow.proofs.Lines.{facts_said, records_network, refused_same}
+use Rattle.cstn_follow.proofs.following.Following.did_all.Goals as goal
+
+abbrev told : SessionParts → ℕ → List NodeId → Result History FactRefusal
+told s t nodes = all_done (the_labelled s.network) t (the_history s.history) nodes
+
+pub invariant_of-self : goal.invariant_of-self
+invariant_of-self c =
+    let s = c.self.inside.session in
+    let same = records_network (told s c.args.moment c.args.nodes.now) s c.did-told.new.self c.did-told.result c.did-told.ensures.recorded in
+    record {
+      named = c.self.invariant.named ∙ ap (λ (l : LabelledParts). count (the_labelled l).base) (sym same);
+      few_lines = c.self.invariant.few_lines;
+    }
+
+pub returns-clause-says : goal.returns-clause-says
+returns-clause-says c =
+    let w = c.self.inside in
+    let next = c.did-told.new.self in
+    subst (λ (v : FollowingParts). IfOk c.answer_told.result (λ text. on_result (the_following v) (told (session_of v) c.args.moment c.args.nodes.now)
+    ≡ says text.items (the_following (following_of next w.names w.lines)))) c.self.view_is
+    (IfOk-weaker c.answer_told.result _ _
+    (λ text said. facts_said w.names w.lines (told w.session c.args.moment c.args.nodes.now) w.session next c.did-told.result text.items
+    c.did-told.ensures.recorded said) c.answer_told.ensures.said)
+
+pub returns-clause-same : goal.returns-clause-same
+returns-clause-same c =
+    let w = c.self.inside in
+    let next = c.did-told.new.self in
+    subst (λ (v : FollowingParts). OnErr c.answer_told.result (following_of next w.names w.lines ≡ v)) c.self.view_is
+    (on_err_weaker c.answer_told.result
+    (λ refused. ap (λ (s : SessionParts). following_of s w.names w.lines)
+    (refused_same (told w.session c.args.moment c.args.nodes.now) w.session next c.did-told.result c.did-told.ensures.recorded refused))
+    c.answer_told.ensures.refused)
