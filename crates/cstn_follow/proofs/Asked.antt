@@ -6,18 +6,19 @@ use Rattle.cstn_net.specs.Networks.{Network}
 use Rattle.cstn_rules.specs.Derivations.{Entry}
 use Rattle.cstn_log.specs.Cuts.{part}
 use Rattle.cstn_refute.specs.Texts.{shown}
-use Rattle.cstn_reply.specs.Texts.{line}
+use Rattle.cstn_reply.specs.Texts.{line, full_line}
 use Rattle.cstn_lift.specs.Labelled.{Labelled}
 use Rattle.cstn_lift.specs.Lowered.{lowered}
 use Rattle.cstn_check.specs.Growth.{is_refuted, log_of, load_of}
 use Rattle.cstn_check.specs.Decisions.{verdict}
+use Rattle.cstn_check.specs.declared.verdicts.Verdict.{Verdict}
 use Rattle.cstn_check.specs.declared.verdicts.Verdict.TheVariants.{Yes, No, Full}
 use Rattle.cstn_history.specs.Histories.{History}
 use Rattle.cstn_history.specs.Rest.{is_left, left_upto}
 use Rattle.cstn_history.proofs.Lists.{passing_next}
-use Rattle.cstn_follow.specs.Following.{Following, says, left_now, name_at, names_left, verdict_now}
+use Rattle.cstn_follow.specs.Following.{Following, says, left_now, name_at, names_left, verdict_now, verdict_line}
 use Rattle.cstn_follow.specs.Blame.{blamed}
-use Rattle.cstn_follow.specs.Questions.{tells, check_after, on_check}
+use Rattle.cstn_follow.specs.Questions.{tells, tells_verdict, check_after, on_check}
 use Rattle.cstn_follow.specs.Searches.{blame_text, blame_after, on_blame}
 
 -- the name of the next time-point, where it is left
@@ -66,7 +67,21 @@ check_said s load l names steps text refuted named long taken is =
     ∙ ap (λ n. shown n l (part (log_of (lowered (left_now s)))) ++ line (codes "end")) (sym named)
     ∙ ap (λ es. shown names l es ++ line (codes "end")) (sym taken) ∙ sym is)
 
+-- without a no the line of the verdict is said
+pub other_said : (s : Following) (text : List ℕ) (v : Verdict) → verdict_now s ≡ v → ((load : ℕ) → v ≡ No load → ⊥) → tells_verdict s ≡ says text s
+    → on_check s ≡ says text s
+other_said s text (Yes load) is never told = ap (check_after s) is ∙ told
+other_said s text (No load) is never told = absurd (never load refl)
+other_said s text Full is never told = ap (check_after s) is ∙ told
+
 -- after a no it is told which constraints are to blame, or a log that was tried is full
 pub blame_told : (s : Following) (text : List ℕ) (load : ℕ) (o : Option (List ℕ)) → verdict_now s ≡ No load → blamed s.network s.history s.fresh s.cap ≡ o
     → text ≡ blame_text s.cap o → on_blame s ≡ says text s
 blame_told s text load o bad found said = ap (blame_after s) bad ∙ ap (λ p. tells s (blame_text s.cap p)) found ∙ ap (λ l. says l s) (sym said)
+
+-- and the line of the verdict else
+pub blame_other : (s : Following) (text : List ℕ) (load : ℕ) → verdict_now s ≡ Yes load → tells_verdict s ≡ says text s → on_blame s ≡ says text s
+blame_other s text load is told = ap (blame_after s) is ∙ told
+
+pub blame_full : (s : Following) (text : List ℕ) → verdict_now s ≡ Full → text ≡ full_line s.cap → on_blame s ≡ says text s
+blame_full s text is said = ap (blame_after s) is ∙ ap (λ v. tells s (verdict_line s.cap v)) is ∙ ap (λ t. says t s) (sym said)

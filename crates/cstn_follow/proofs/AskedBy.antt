@@ -1,8 +1,9 @@
 -- What is said where it is asked until when a time-point can wait.
-use Rattle.std.proofs.Common.{ℕ, ◌≡◌, ◌<◌, Bool, true, false, List, Option, Some, None, length, arith, refl, sym, ap, ◌∙◌}
+use Rattle.std.proofs.Common.{ℕ, ◌≡◌, ◌<◌, Bool, true, false, List, Option, Some, None, arith, refl, sym, ap, ◌∙◌}
 use Rattle.std.specs.Prelude.{◌&&◌, not, nat_lt, nat_le, if◌then◌else◌}
 use Rattle.cstn_net.specs.Limits.{most_constraints}
 use Rattle.cstn_net.specs.Networks.{count}
+use Rattle.cstn_text.specs.Names.{number_of}
 use Rattle.cstn_lift.specs.Labelled.{Labelled}
 use Rattle.cstn_lift.specs.Completion.{completed_label}
 use Rattle.cstn_lift.specs.Lowered.{lowered}
@@ -13,7 +14,7 @@ use Rattle.cstn_reply.specs.Texts.{line, full_line}
 use Rattle.cstn_follow.specs.Following.{Following, says, left_now, too_many, verdict_now, verdict_line}
 use Rattle.cstn_follow.specs.FactLines.{refused_fact}
 use Rattle.cstn_follow.specs.Questions.{tells_verdict}
-use Rattle.cstn_follow.specs.Searches.{has_place, by_refusal, by_line, by_text, by_after, by_unless}
+use Rattle.cstn_follow.specs.Searches.{has_place, by_refusal, by_line, by_text, by_after, by_unless, by_number, on_by}
 use Rattle.cstn_follow.specs.Waiting.{HasRoomToWait, waits_until}
 use Rattle.cstn_follow.specs.Answers.{ruled_out, wait_refusal}
 
@@ -83,17 +84,22 @@ module _ (s : Following) (x : ℕ) (inside : x < count s.network.base) (text : L
   module _ (free : wait_refusal s.network s.history x ≡ None) (has : HasRoomToWait s.network s.history s.fresh) where
     pub until_said : (load t : ℕ) → verdict_now s ≡ Yes load → waits_until s.network s.history s.fresh x s.cap ≡ Some t → text ≡ by_line s.names t x
         → by_unless s x (by_refusal s x (s.history.done x)) ≡ says text s
-    until_said load t yes found is =
-        room_said free has ∙ ap (by_after s x) yes ∙ ap (λ o. says (by_text s x o) s) found ∙ ap (λ l. says l s) (sym is)
+    until_said load t can found is =
+        room_said free has ∙ ap (by_after s x) can ∙ ap (λ o. says (by_text s x o) s) found ∙ ap (λ l. says l s) (sym is)
 
     pub tried_said : (load : ℕ) → verdict_now s ≡ Yes load → waits_until s.network s.history s.fresh x s.cap ≡ None → text ≡ full_line s.cap
         → by_unless s x (by_refusal s x (s.history.done x)) ≡ says text s
-    tried_said load yes found is =
-        room_said free has ∙ ap (by_after s x) yes ∙ ap (λ o. says (by_text s x o) s) found ∙ ap (λ l. says l s) (sym is)
+    tried_said load can found is =
+        room_said free has ∙ ap (by_after s x) can ∙ ap (λ o. says (by_text s x o) s) found ∙ ap (λ l. says l s) (sym is)
 
     pub stuck_said : (load : ℕ) → verdict_now s ≡ No load → tells_verdict s ≡ says text s → by_unless s x (by_refusal s x (s.history.done x)) ≡ says text s
-    stuck_said load no is = room_said free has ∙ ap (by_after s x) no ∙ is
+    stuck_said load stuck is = room_said free has ∙ ap (by_after s x) stuck ∙ is
 
     pub full_said : verdict_now s ≡ Full → text ≡ full_line s.cap → by_unless s x (by_refusal s x (s.history.done x)) ≡ says text s
     full_said full is =
         room_said free has ∙ ap (by_after s x) full ∙ ap (λ v. says (verdict_line s.cap v) s) full ∙ ap (λ l. says l s) (sym is)
+
+-- where a time-point has the name, it is told of that
+pub named_said : (s : Following) (name text : List ℕ) (x : ℕ) → number_of s.names name ≡ Some x → by_unless s x (by_refusal s x (s.history.done x)) ≡ says text s
+    → on_by s name ≡ says text s
+named_said s name text x is told = ap (by_number s name) is ∙ told

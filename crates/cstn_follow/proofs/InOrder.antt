@@ -1,5 +1,5 @@
 -- Networks that are changed stay in order.
-use Rattle.std.proofs.Common.{ℕ, ℤ, ◌≡◌, ◌+◌, ◌<◌, ◌≤◌, Bool, true, false, not, List, ◌∷◌, [], length, map, get_or, Option, Some, None, arith, refl, inl, inr, length-append}
+use Rattle.std.proofs.Common.{ℕ, ℤ, ◌≡◌, ◌<◌, Bool, true, false, not, List, ◌∷◌, [], length, map, get_or, Option, Some, None, arith, refl, inl, inr, length-append}
 use Rattle.std.specs.Prelude.{◌==◌, nat_le, if◌then◌else◌}
 use Rattle.std.specs.List.{All}
 use Rattle.std.specs.Option.{option_map}
@@ -18,10 +18,10 @@ use Rattle.cstn_net.specs.Limits.{most_constraints, most_edits}
 use Rattle.cstn_net.specs.Networks.{Network, Constraint, IsConstraint, IsValue, IsWellFormed}
 use Rattle.cstn_net.proofs.WellFormed.{well_formed_with}
 use Rattle.cstn_change.specs.Changes.{EditedNetwork, Change, adds, removes, revalues, refusal, is_value, has_constraint, least_unobserved, with_value, new_constraint, constraints_after, IsBetween, CanAdd, CanChange}
-use Rattle.cstn_change.proofs.IdLemmas.{value_id}
 use Rattle.cstn_change.proofs.RefusalLemmas.{true_value, on_observed}
 
-none_refused : {X : Type 0} (b : Bool) (r : X) (o : Option X) → (if b then Some r else o) ≡ None → (b ≡ false) × (o ≡ None)
+-- where a test and the rest refuse nothing, the test is false
+pub none_refused : {X : Type 0} (b : Bool) (r : X) (o : Option X) → (if b then Some r else o) ≡ None → (b ≡ false) × (o ≡ None)
 none_refused true r o e = absurd (cc)
 none_refused false r o e = (refl, e)
 
@@ -32,6 +32,9 @@ refused_unless false r e = absurd (cc)
 none_mapped : {X Y : Type 0} (f : X → Y) (o : Option X) → option_map f o ≡ None → o ≡ None
 none_mapped f None e = refl
 none_mapped f (Some x) e = absurd (cc)
+
+value_id : (id : ℕ) (most : ℤ) (c : Constraint) → (with_value id most c).id ≡ c.id
+value_id id most c = elim (c.id == id) as (λ b. (if b then record c { most = most } else c).id ≡ c.id) [ true ↦ refl | false ↦ refl ]
 
 -- the label of a constraint that is added names letters alone
 abbrev pub IsOfLetters : Change → Type 0

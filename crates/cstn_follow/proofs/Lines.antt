@@ -10,20 +10,20 @@ use Rattle.cstn_history.specs.Facts.{FactRefusal}
 use Rattle.cstn_history.specs.Histories.{History}
 use Rattle.cstn_history.specs.Read.{the_history}
 use Rattle.cstn_change.specs.Changes.{EditedNetwork, Change, after}
-use Rattle.cstn_change.specs.ChangeLines.{accepted_text, refused_text}
-use Rattle.cstn_change.specs.Read.{the_refusal}
+use Rattle.cstn_change.specs.ChangeLines.{accepted_text}
 use Rattle.cstn_reply.specs.Texts.{line}
 use Rattle.cstn_follow.specs.declared.errors.FollowError.{FollowError}
 use Rattle.cstn_follow.specs.declared.errors.FollowError.TheVariants.{Refused, TooManyConstraints, Memory}
 use Rattle.cstn_follow.specs.declared.errors.ReplanError.{ReplanError}
 use Rattle.cstn_follow.specs.declared.errors.ReplanError.TheVariants.{Refused as IsRefusedEdit, TooManyConstraints as HasTooMany, Memory as RanOut}
-use Rattle.cstn_follow.specs.Following.{Following, says, too_many, verdict_line, verdict_within, on_verdict}
+use Rattle.cstn_follow.specs.Following.{Following, says, too_many, verdict_line, verdict_now, verdict_within, on_verdict}
 use Rattle.cstn_follow.specs.FactLines.{on_result}
-use Rattle.cstn_follow.specs.PlanLines.{edited_network, replanned, on_refusal, on_edit, on_deadline}
+use Rattle.cstn_follow.specs.PlanLines.{replanned, on_refusal, on_edit, on_deadline}
 use Rattle.cstn_follow.specs.Read.{following_of, the_following}
 use Rattle.cstn_follow.specs.Replans.{Replans, MakesChange, edited_now, with_due}
-use Rattle.cstn_follow.specs.Sessions.{SessionParts, Records}
+use Rattle.cstn_follow.specs.Sessions.{SessionParts, IsSession, Records}
 use Rattle.cstn_follow.specs.Told.{IsSaidOfFacts, IsSaidOfEdit, IsSaidOfReplan, IsUnmade}
+use Rattle.cstn_follow.proofs.Edited.{within_is}
 use Rattle.cstn_follow.proofs.Recording.{recorded_none, recorded_some}
 
 -- ---- facts
@@ -69,6 +69,10 @@ module _ (names : List (List ℕ)) (lines : ℕ) where
   -- the session of lines, by its session of values
   abbrev pub lines_of : SessionParts → Following
   lines_of s = the_following (following_of s names lines)
+
+  -- its verdict is the one on what is left
+  pub verdict_is : (s : SessionParts) (v : Verdict) → IsSession s → s.verdict ≡ v → verdict_now (lines_of s) ≡ v
+  verdict_is s v good is = sym (within_is (lines_of s) s.verdict good.verdict) ∙ is
 
   pub facts_said : (told : Result History FactRefusal) (old new : SessionParts) (r : Result Verdict FollowError) (text : List ℕ) → Records told old new r
       → IsSaidOfFacts names new.cap r text → on_result (lines_of old) told ≡ says text (lines_of new)

@@ -1,6 +1,6 @@
 -- How facts are refused, and what has happened once they are recorded.
-use Rattle.std.proofs.Common.{ℕ, zero, suc, ◌≡◌, ◌≤◌, Bool, true, false, max, List, [], ◌∷◌, ◌++◌, length, Option, Some, None, arith, refl, sym, subst, ap, ◌∙◌, inl, inr}
-use Rattle.std.specs.Prelude.{◌⊎◌, cond, Result, Ok, nat_lt, nat_le, if◌then◌else◌, codes, decimal}
+use Rattle.std.proofs.Common.{ℕ, zero, suc, ◌≡◌, ◌≤◌, Bool, false, max, List, [], ◌∷◌, ◌++◌, length, Option, Some, None, arith, refl, sym, subst, ap, ◌∙◌, inl, inr}
+use Rattle.std.specs.Prelude.{◌⊎◌, cond, Result, Ok, nat_lt, nat_le, codes, decimal}
 use Rattle.std.specs.List.{Contains, cons_option}
 use Rattle.std.specs.Option.{option_map, is_none}
 use Rattle.std.proofs.lemmas.Bool.{cases_eq}
@@ -19,6 +19,7 @@ use Rattle.cstn_lines.specs.LiveLines.{printed_truth}
 use Rattle.cstn_reply.specs.Texts.{line}
 use Rattle.cstn_follow.specs.Following.{name_at}
 use Rattle.cstn_follow.specs.FactLines.{refused_fact, unless_refused, all_done, unknown_of, node_of, node_named, nodes_of}
+use Rattle.cstn_follow.proofs.InOrder.{none_refused}
 use Rattle.cstn_follow.specs.Recorded.{AreDone, HasCome, HasPassed, IsExpectedAt}
 
 -- ---- refusals
@@ -36,14 +37,9 @@ fact_refusal names (Undecided x) = (codes "F5 " ++ printed_name (name_at names x
 fact_refusal names (NotObserved p) = (codes "F6 " ++ letter_of p ∷ [], refl)
 fact_refusal names (Told p v) = (codes "F7 " ++ letter_of p ∷ 32 ∷ printed_truth v, refl)
 
--- where a test and the rest refuse nothing, the test is false
-passed : {X : Type 0} (b : Bool) (e : X) (o : Option X) → (if b then Some e else o) ≡ None → (b ≡ false) × (o ≡ None)
-passed true e o is = absurd (cc)
-passed false e o is = (refl, is)
-
 -- a time-point that is accepted as done wasn't done
 pub undone_here : (m : Labelled) (h : History) (t x : ℕ) → done_refusal m h t x ≡ None → h.done x ≡ None
-undone_here m h t x e = free (h.done x) (passed (nat_le (count m.base) x) _ _ (passed (is_beyond t) _ _ e).1).1
+undone_here m h t x e = free (h.done x) (none_refused (nat_le (count m.base) x) _ _ (none_refused (is_beyond t) _ _ e).1).1
   where
     free : (o : Option ℕ) → again_refusal m h x o ≡ None → o ≡ None
     free None f = refl
@@ -164,14 +160,14 @@ module _ (names : List (List ℕ)) where
 module _ (m : Labelled) (h : History) (t : ℕ) where
   pub has_passed : now_refusal h t ≡ None → HasPassed h t (at_now h t)
   has_passed none =
-      record { from = not_before (passed (nat_lt t h.now) _ _ none).0; now = refl; done = refl; told = refl; expected = refl }
+      record { from = not_before (none_refused (nat_lt t h.now) _ _ none).0; now = refl; done = refl; told = refl; expected = refl }
     where
       not_before : nat_lt t h.now ≡ false → h.now ≤ t
       not_before e = grind arith
 
   module _ (p : ℕ) where
     untold_came : told_refusal m h t p ≡ None → h.told p ≡ None
-    untold_came none = since (observed_since m h p) (passed (is_beyond t) _ _ none).1
+    untold_came none = since (observed_since m h p) (none_refused (is_beyond t) _ _ none).1
       where
         untold : (u : ℕ) (o : Option Bool) → again_told t p u o ≡ None → o ≡ None
         untold u None free = refl

@@ -1,32 +1,20 @@
 -- A session that follows stays sound, and its verdicts are true.
-use Rattle.std.proofs.Common.{ℕ, ℤ, ◌≡◌, ◌≢◌, ◌+◌, ◌<◌, ◌≤◌, Bool, true, false, not, ◌&&◌, List, [], ◌∷◌, ◌++◌, length, map, get_or, Option, Some, None, arith, refl, sym, subst, ap, ◌∙◌, inl, inr, length-append}
-use Rattle.std.specs.Prelude.{◌==◌, Result, Ok, Err, nat_le, nat_lt, if◌then◌else◌, codes, decimal, bytes_eq}
-use Rattle.std.specs.List.{All, filter, range_with_len}
-use Rattle.std.specs.Option.{option_map, is_none}
-use Rattle.std.proofs.lemmas.Bool.{cases_Bool, cases_lt, not-false, leb-false, false≢true}
-use Rattle.std.proofs.lemmas.List.Elements.{All-filter, All-map, All-push, All-weaker}
-use Rattle.std.proofs.lemmas.List.{length-map}
-use Rattle.std.proofs.lemmas.List.Filters.{length-filter_both}
-use Rattle.std.proofs.lemmas.List.FromFn.{get_or-range_with_len, length-range_with_len}
-use Rattle.std.proofs.lemmas.List.Kept.{AllPairs-filter}
-use Rattle.std.proofs.lemmas.List.Quantifiers.{all_pairs_push, position-Some}
+use Rattle.std.proofs.Common.{ℕ, ℤ, ◌≡◌, ◌+◌, ◌<◌, ◌≤◌, Bool, true, false, List, [], ◌∷◌, ◌++◌, length, Option, Some, None, arith, refl, sym, subst, ap, ◌∙◌}
+use Rattle.std.specs.Prelude.{Result, Ok, Err, nat_lt, if◌then◌else◌, codes, decimal, bytes_eq}
+use Rattle.std.specs.List.{All}
+use Rattle.std.proofs.lemmas.List.Quantifiers.{position-Some}
 use Rattle.std.proofs.lemmas.Option.{same_Some}
-use Rattle.cstn_facts.proofs.Filters.{none_passes}
-use Rattle.cstn_facts.proofs.Pairs.{pairs_map}
 use Rattle.cstn_label.specs.declared.nodes.NodeId.{NodeId}
-use Rattle.cstn_label.specs.declared.marks.Mark.{Mark}
-use Rattle.cstn_label.specs.declared.marks.Mark.TheVariants.{Absent, Yes as YesMark, No as NoMark, Unknown}
+use Rattle.cstn_label.specs.declared.marks.Mark.TheVariants.{Absent}
 use Rattle.cstn_label.specs.Labels.{Label}
-use Rattle.cstn_label.specs.Marks.{is_marked}
 use Rattle.cstn_net.specs.Limits.{most_constraints, most_deadline}
-use Rattle.cstn_net.specs.Networks.{Network, Constraint, IsConstraint, IsOnObserved, IsValue, IsWellFormed, Observes, count}
-use Rattle.cstn_net.proofs.WellFormed.{well_formed_by, well_formed_with}
+use Rattle.cstn_net.specs.Networks.{Constraint, IsWellFormed, count}
+use Rattle.cstn_net.proofs.WellFormed.{well_formed_by}
 use Rattle.cstn_text.specs.Names.{number_of}
 use Rattle.cstn_text.specs.PrintedNames.{printed_name}
 use Rattle.cstn_lift.specs.Labelled.{Labelled}
-use Rattle.cstn_lift.specs.Lowered.{lowered, is_plain, observer_of}
+use Rattle.cstn_lift.specs.Lowered.{lowered}
 use Rattle.cstn_lift.specs.WellFormed.{IsLabelled}
-use Rattle.cstn_lift.proofs.LoweredLemmas.{observer_back, plain_back}
 use Rattle.cstn_check.specs.declared.verdicts.Verdict.{Verdict}
 use Rattle.cstn_check.specs.declared.verdicts.Verdict.TheVariants.{Yes, No, Full}
 use Rattle.cstn_history.specs.Histories.{History, IsTimelyHistory, nothing_yet, edited}
@@ -97,10 +85,6 @@ all_timely m t h g (x ∷ xs) good timely is =
         → unless_refused o (all_done m t (with_done h t x.0) xs) ≡ Ok g → IsTimelyHistory m g
     by_refusal None none goes_on so = goes_on none so
     by_refusal (Some e) some goes_on so = absurd (cc)
-
-none_mapped : {X Y : Type 0} (f : X → Y) (o : Option X) → option_map f o ≡ None → o ≡ None
-none_mapped f None e = refl
-none_mapped f (Some x) e = cc
 
 -- a fact is refused, or it is recorded
 module _ (s : Following) (sound : IsSound s) (Is : Follow → Heard → Type 0) (refused : (fact : Follow) (text : List ℕ) → IsRefusal text → Is fact (says text s))

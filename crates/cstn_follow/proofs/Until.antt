@@ -6,14 +6,12 @@ use Rattle.std.proofs.lemmas.Int.{ints}
 use Rattle.std.proofs.lemmas.Bool.{both_ways}
 use Rattle.std.proofs.lemmas.List.{length-append}
 use Rattle.std.proofs.lemmas.List.Quantifiers.{all_pairs_push}
-use Rattle.std.proofs.lemmas.List.Elements.{All-weaker, All-append, All-cons, All-head, All-tail, filter_map-append}
+use Rattle.std.proofs.lemmas.List.Elements.{All-weaker, All-append, All-cons, filter_map-append}
 use Rattle.cstn_facts.proofs.Members.{filter_map_all}
 use Rattle.cstn_label.specs.Labels.{Label, Scenario, MarkFits, IsPlain, empty, joined}
 use Rattle.cstn_label.proofs.LabelLemmas.{made_true, made_holds, joined_empty}
 use Rattle.cstn_net.specs.Limits.{most_constraints, most_deadline}
 use Rattle.cstn_net.specs.Networks.{Network, Constraint, IsConstraint, IsWellFormed, IsValue, count, limit}
-use Rattle.cstn_net.specs.Read.{the_constraint}
-use Rattle.cstn_net.specs.declared.constraints.Constraint.{Constraint as ReadConstraint}
 use Rattle.cstn_lift.specs.Labelled.{Labelled, label_of}
 use Rattle.cstn_lift.specs.Completion.{completed, completed_label, full_label}
 use Rattle.cstn_lift.specs.Lowered.{is_plain, with_full_label, full_of, full_constraints, numbered, lowered}
@@ -39,12 +37,6 @@ use Rattle.cstn_follow.specs.Waiting.{HasRoomToWait, waiting_one, rest_until, tr
 
 all_one : (P : Constraint → Type 0) → (d : Constraint) → P d → All P (d ∷ [])
 all_one P d here = All-cons P d [] here (λ i e inside. absurd (omega arith))
-
--- the ids of the program's constraints are below what the constraints that they stand for are below
-pub ids_below_read : (n : ℕ) (cs : List ReadConstraint) → All (λ c. c.id < n) (map the_constraint cs) → All (λ c. c.id < n) cs
-ids_below_read n [] all = λ i e inside. absurd (omega arith)
-ids_below_read n (c ∷ cs) all = All-cons (λ c. c.id < n) c cs (All-head (λ c. c.id < n) (the_constraint c) (map the_constraint cs) all)
-    (ids_below_read n cs (All-tail (λ c. c.id < n) (the_constraint c) (map the_constraint cs) all))
 
 -- ---- a labelled network with one constraint more, by which a time-point waits
 

@@ -1,5 +1,5 @@
 -- What is said where it is asked what is next.
-use Rattle.std.proofs.Common.{ℕ, ◌≡◌, List, Option, Some, None, map, sym, ap, ◌∙◌}
+use Rattle.std.proofs.Common.{ℕ, ◌≡◌, List, Some, None, map, sym, ap, ◌∙◌}
 use Rattle.std.specs.Prelude.{codes}
 use Rattle.cstn_label.specs.Bounds.{Bound}
 use Rattle.cstn_lift.specs.Lowered.{lowered}
@@ -9,7 +9,7 @@ use Rattle.cstn_next.specs.declared.moments.NextMoment.{NextMoment}
 use Rattle.cstn_next.specs.Next.{TellsNext, awaited}
 use Rattle.cstn_reply.specs.Texts.{line}
 use Rattle.cstn_follow.specs.Following.{Following, says, left_now, verdict_now}
-use Rattle.cstn_follow.specs.Questions.{next_text, next_at, next_by, next_after, on_next}
+use Rattle.cstn_follow.specs.Questions.{next_text, next_at, next_after, on_next}
 
 module _ (s : Following) (load : ℕ) (said_yes : verdict_now s ≡ Yes load) (text : List ℕ) where
   abbrev bounds : List Bound

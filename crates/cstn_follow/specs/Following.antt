@@ -1,5 +1,5 @@
 -- Following what happens: a labelled network is told facts and edits, and asked what is next.
-use Rattle.std.specs.Prelude.{ℕ, zero, suc, Bool, false, ◌&&◌, ◌||◌, nat_le, List, [], ◌∷◌, ◌++◌, length, map, slice_index_or, Option, None, Some, if◌then◌else◌, codes, decimal}
+use Rattle.std.specs.Prelude.{ℕ, zero, suc, Bool, false, ◌&&◌, ◌||◌, nat_le, List, [], ◌++◌, length, map, slice_index_or, Option, None, Some, if◌then◌else◌, codes, decimal}
 use Rattle.std.specs.Option.{is_some}
 use Rattle.cstn_net.specs.Limits.{most_constraints}
 use Rattle.cstn_net.specs.Networks.{Network, count}

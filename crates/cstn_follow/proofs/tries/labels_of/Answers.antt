@@ -2,7 +2,7 @@ use Rattle.std.proofs.Common.{◌≤◌, ◌<◌, length, arith, ap, ◌∙◌}
 use Rattle.cstn_net.specs.Networks.{count}
 use Rattle.cstn_net.specs.Read.{NetworkParts, the_network}
 use Rattle.cstn_lift.specs.Read.{the_labelled}
-use Rattle.cstn_follow.proofs.TimePointLabels.{labels_turn, labels_end}
+use Rattle.cstn_change.proofs.TimePointLabels.{labels_turn, labels_end}
 use Rattle.cstn_follow.proofs.tries.labels_of.Goals as goal
 
 pub loop-x-preserved : goal.loop-x-preserved

@@ -2,7 +2,7 @@ use Rattle.std.proofs.Common.{Some}
 use Rattle.cstn_lines.specs.FollowLines.{the_follow}
 use Rattle.cstn_follow.specs.Read.{the_following}
 use Rattle.cstn_follow.proofs.Answering.{heard_names, heard_said, other_ends}
-use Rattle.cstn_follow.proofs.sessions.Following.hear.Goals as goal
+use Rattle.cstn_follow.proofs.following.Following.hear.Goals as goal
 
 pub returns-in-Some-clause-names : goal.returns-in-Some-clause-names
 returns-in-Some-clause-names c =

@@ -5,7 +5,7 @@ use Rattle.cstn_history.specs.Read.{the_history}
 use Rattle.cstn_follow.specs.Following.{name_at}
 use Rattle.cstn_follow.specs.Read.{FollowingParts}
 use Rattle.cstn_follow.proofs.Asked.{names_turn, names_few}
-use Rattle.cstn_follow.proofs.sessions.Following.names_left.Goals as goal
+use Rattle.cstn_follow.proofs.following.Following.names_left.Goals as goal
 
 pub loop-x-preserved : goal.loop-x-preserved
 loop-x-preserved c =

@@ -4,7 +4,7 @@ use Rattle.cstn_lift.specs.Read.{the_labelled}
 use Rattle.cstn_history.specs.Rest.{left_upto}
 use Rattle.cstn_history.specs.Read.{the_history}
 use Rattle.cstn_follow.specs.Following.{name_at}
-use Rattle.cstn_follow.proofs.sessions.Following.names_left.Given as goal
+use Rattle.cstn_follow.proofs.following.Following.names_left.Given as goal
 
 abbrev pub invariant-loop-x : goal.invariant-loop-x
 invariant-loop-x l = record {

@@ -2,7 +2,7 @@ use Rattle.std.proofs.Common.{[], ◌++◌, ap, ◌∙◌}
 use Rattle.std.specs.List.{cons_option}
 use Rattle.cstn_follow.specs.FactLines.{node_named}
 use Rattle.cstn_follow.proofs.Recording.{nodes_turn}
-use Rattle.cstn_follow.proofs.facts.nodes_of.Goals as goal
+use Rattle.cstn_follow.proofs.following.facts.nodes_of.Goals as goal
 
 pub loop-name-preserved : goal.loop-name-preserved
 loop-name-preserved c =
