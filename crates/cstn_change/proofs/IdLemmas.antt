@@ -8,6 +8,7 @@ use Rattle.std.proofs.lemmas.List.Elements.{All-cons, All-map, All-filter, All-p
 use Rattle.cstn_net.specs.declared.constraints.Constraint.{Constraint}
 use Rattle.cstn_net.specs.Networks.{Constraint as TheConstraint, IsWellFormed}
 use Rattle.cstn_net.specs.Read.{NetworkParts, the_network, the_constraint, has_id, without_id, with_most}
+use Rattle.cstn_net.proofs.ChangeLemmas.{same_id, none_taken}
 use Rattle.cstn_change.specs.Changes.{Change, adds, removes, revalues, id_above, has_constraint, without, with_value, constraints_after, fresh_after}
 
 -- ---- an id above all
@@ -81,6 +82,9 @@ without_seen id (c ∷ cs) = elim (cases_Bool (has_id id c)) [
   | inr f ↦ rw f (ap (λ ds. the_constraint c ∷ ds) (without_seen id cs))
 ]
 
+pub without_none : (id : ℕ) (cs : List Constraint) → All (λ c. c.id ≢ id) cs → map the_constraint cs ≡ without id (map the_constraint cs)
+without_none id cs others = ap (map the_constraint) (sym (none_taken id cs others)) ∙ without_seen id cs
+
 one_with_seen : (id : ℕ) (most : ℤ) (c : Constraint) → the_constraint (with_most id most c) ≡ with_value id most (the_constraint c)
 one_with_seen id most c = elim (cases_Bool (has_id id c)) [
   | inl t ↦ rw t refl
@@ -94,20 +98,11 @@ with_most_seen id most (c ∷ cs) =
     ap (λ d. d ∷ map the_constraint (map (with_most id most) cs)) (one_with_seen id most c)
     ∙ ap (λ ds. with_value id most (the_constraint c) ∷ ds) (with_most_seen id most cs)
 
-pub others_stay : (id : ℕ) (cs : List Constraint) → All (λ c. c.id ≢ id) cs → without_id id cs ≡ cs
-others_stay id [] others = refl
-others_stay id (c ∷ cs) others =
-    let here : has_id id c ≡ false = ne_eqb c.id id (others 0 c (omega arith)) in
-    rw here (ap (λ ds. c ∷ ds) (others_stay id cs (λ k d inside. others (suc k) d (omega arith))))
-
 -- ---- ids stay below a number that they were below
-
-with_most_id : (id : ℕ) (most : ℤ) (c : Constraint) → (with_most id most c).id ≡ c.id
-with_most_id id most c = elim (has_id id c) as (λ b. (if b then record c { most = most } else c).id ≡ c.id) [ true ↦ refl | false ↦ refl ]
 
 pub with_most_below : (n id : ℕ) (most : ℤ) (cs : List Constraint) → All (λ c. c.id < n) cs → All (λ c. c.id < n) (map (with_most id most) cs)
 with_most_below n id most cs below = All-map (λ c. c.id < n) (with_most id most) cs
-    (All-weaker (λ c. c.id < n) (λ c. (with_most id most c).id < n) (λ c here. subst (λ (k : ℕ). k < n) (sym (with_most_id id most c)) here) cs below)
+    (All-weaker (λ c. c.id < n) (λ c. (with_most id most c).id < n) (λ c here. subst (λ (k : ℕ). k < n) (sym (same_id id most c)) here) cs below)
 
 pub without_below : (n id : ℕ) (cs : List Constraint) → All (λ c. c.id < n) cs → All (λ c. c.id < n) (without_id id cs)
 without_below n id cs below = All-filter (λ c. not (has_id id c)) (λ c. c.id < n) cs below
@@ -118,7 +113,7 @@ added_below n cs c is below =
 
 -- ---- and after a change
 
-value_id : (id : ℕ) (most : ℤ) (c : TheConstraint) → (with_value id most c).id ≡ c.id
+pub value_id : (id : ℕ) (most : ℤ) (c : TheConstraint) → (with_value id most c).id ≡ c.id
 value_id id most c = elim (c.id == id) as (λ b. (if b then record c { most = most } else c).id ≡ c.id) [ true ↦ refl | false ↦ refl ]
 
 pub ids_below : (cs : List TheConstraint) (fresh : ℕ) (change : Change) → All (λ c. c.id < fresh) cs → All (λ c. c.id < fresh_after fresh change) (constraints_after cs fresh change)

@@ -22,7 +22,7 @@ use Rattle.cstn_history.specs.Histories.{edited}
 use Rattle.cstn_history.proofs.Edited.{completed_new}
 use Rattle.cstn_change.specs.Changes.{without, with_value}
 use Rattle.cstn_change.specs.Read.{HasConstraints}
-use Rattle.cstn_change.proofs.IdLemmas.{without_seen, with_most_seen, others_stay}
+use Rattle.cstn_change.proofs.IdLemmas.{without_seen, without_none, with_most_seen}
 
 -- ---- labelled networks
 
@@ -64,11 +64,6 @@ lift_many never m e good other (inr lowest) = elim (cases_lt most_constraints (l
   | inr few ↦ absurd (never m e good few lowest.has)
 ]
 
--- where there is none, a fact that holds anyway
-pub if_none : {X P : Type 0} (o : Option X) → P → IfNone o P
-if_none None p = p
-if_none (Some x) p = tt
-
 -- ---- copies of networks
 
 -- one constraint more
@@ -87,7 +82,7 @@ constraint_taken old new id None none same gone = record {
   points = ap (λ (n : NetworkParts). n.points) same;
   deadline = ap (λ (n : NetworkParts). n.deadline) same;
   constraints = ap (λ (n : NetworkParts). (the_network n).constraints) same
-      ∙ ap (map the_constraint) (sym (others_stay id old.constraints (none.0 refl))) ∙ without_seen id old.constraints;
+      ∙ without_none id old.constraints (none.0 refl);
 }
 constraint_taken old new id (Some c) none same gone = record {
   points = ap (λ (n : NetworkParts). n.points) gone;

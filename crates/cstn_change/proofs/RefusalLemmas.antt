@@ -3,8 +3,7 @@ use Rattle.std.proofs.Common.{ℕ, zero, suc, ◌≡◌, ◌+◌, ◌<◌, ◌�
 use Rattle.std.specs.Prelude.{ℤ, nat_le, if◌then◌else◌}
 use Rattle.std.specs.List.{list_any, position, range_with_len}
 use Rattle.std.specs.Option.{option_map}
-use Rattle.std.specs.Coded.{le_prop}
-use Rattle.std.proofs.lemmas.Bool.{cases_Bool, cases_lt, lt-leb, le-leb, cond-true, cond-false, false≢true, eqb-true, eq-eqb, and_from, and_parts, or_left, or_right, not_from_true, not_from_false, false_from_ne_true}
+use Rattle.std.proofs.lemmas.Bool.{cases_Bool, cases_lt, lt-leb, le-leb, cond-true, cond-false, false≢true, eq-eqb, and_from, and_parts, or_left, or_right, not_from_true, not_from_false, false_from_ne_true}
 use Rattle.std.proofs.lemmas.Int.{ints}
 use Rattle.std.proofs.lemmas.Option.{none-some}
 use Rattle.std.proofs.lemmas.List.FromFn.{get_or-range_with_len, length-range_with_len}
@@ -15,11 +14,14 @@ use Rattle.cstn_label.specs.declared.props.Prop.{Prop}
 use Rattle.cstn_label.specs.Labels.{Label, IsPlain}
 use Rattle.cstn_label.specs.Marks.{is_absent, is_plain}
 use Rattle.cstn_label.specs.OnLetters.{IsOnLetters}
-use Rattle.cstn_label.proofs.PlainLabels.{plain_true, true_plain}
+use Rattle.cstn_label.proofs.PlainLabels.{true_plain}
 use Rattle.cstn_net.specs.Limits.{most_edits}
 use Rattle.cstn_net.specs.Networks.{Network, IsOnObserved, IsValue, is_prop, IsUnobserved, IsLeastUnobserved}
 use Rattle.cstn_net.specs.Scenarios.{is_observed}
+use Rattle.cstn_net.proofs.Observed.{place_of}
+use Rattle.cstn_net.proofs.Same.{same_prop}
 use Rattle.cstn_facts.proofs.Filters.{none_passes, position_at}
+use Rattle.cstn_facts.proofs.Options.{none_where}
 use Rattle.cstn_change.specs.Changes.{EditedNetwork, adds, removes, revalues, Refusal, EditLimit, NoRoom, NoSuch, ValueRange, NotPlain, NotObserved, is_value, least_unobserved, has_constraint, refusal}
 
 -- the test of the value passes exactly where it is in range
@@ -33,41 +35,25 @@ pub value_false : (most : ℤ) → (IsValue most → ⊥) → is_value most ≡ 
 value_false most out = false_from_ne_true (is_value most) (λ t. out (true_value most t))
 
 -- the test of the label passes exactly where it is plain
-pub plain_seen : (a : Label) → IsPlain a → is_plain a ≡ true
-plain_seen a plain = plain_true a plain
-
 pub plain_false : (a : Label) → IsOnLetters a → (IsPlain a → ⊥) → is_plain a ≡ false
 plain_false a small odd = false_from_ne_true (is_plain a) (λ t. odd (true_plain a small t))
 
 -- the test of the observers passes exactly where a time-point observes the proposition
-is_it : (p : ℕ) (o : Option ℕ) → is_prop p o ≡ true → o ≡ Some p
-is_it p None e = absurd (false≢true e)
-is_it p (Some q) e = ap Some (eqb-true q p e)
-
 observed_true : (os : List (Option ℕ)) (x p : ℕ) → get_or os x None ≡ Some p → list_any (is_prop p) os ≡ true
 observed_true [] x p e = absurd (none-some p e)
 observed_true (o ∷ os) zero p e =
     or_left (is_prop p o) (list_any (is_prop p) os) (ap (is_prop p) e ∙ eq-eqb p p refl)
 observed_true (o ∷ os) (suc x) p e = or_right (is_prop p o) (list_any (is_prop p) os) (observed_true os x p e)
 
-true_observed : (os : List (Option ℕ)) (p : ℕ) → list_any (is_prop p) os ≡ true → (x : ℕ) × (get_or os x None ≡ Some p)
-true_observed [] p e = absurd (false≢true e)
-true_observed (o ∷ os) p e = elim (cases_Bool (is_prop p o)) [
-  | inl t ↦ (0, is_it p o t)
-  | inr f ↦
-      let rest = true_observed os p (sym (ap (λ b. b || list_any (is_prop p) os) f) ∙ e) in
-      (suc rest.0, rest.1)
-]
+pub none_mapped : {X Y : Type 0} (f : X → Y) (o : Option X) → option_map f o ≡ None → o ≡ None
+none_mapped f None e = refl
+none_mapped f (Some x) e = cc
 
 named_true : (m : Mark) → (m ≡ Absent → ⊥) → not (is_absent m) ≡ true
 named_true m named = grind arith
 
 true_named : (m : Mark) → not (is_absent m) ≡ true → m ≡ Absent → ⊥
 true_named m e is = grind arith
-
-none_where : {X : Type 0} (o : Option X) → ((x : X) → o ≡ Some x → ⊥) → o ≡ None
-none_where None not = refl
-none_where (Some x) not = absurd (not x refl)
 
 module _ (net : Network) (a : Label) where
   -- the label names the proposition, which nothing observes
@@ -79,7 +65,7 @@ module _ (net : Network) (a : Label) where
   stray_true p u =
       and_from (not (is_absent (a p))) (not (is_observed net p)) (named_true (a p) u.0)
       (not_from_false (is_observed net p) (false_from_ne_true (is_observed net p)
-      (λ t. let o = true_observed net.observes p t in u.1 o.0 (record { what = o.1 }))))
+      (λ t. let o = place_of net.observes p t in u.1 o.0 (record { what = o.1 }))))
 
   true_stray : (p : ℕ) → is_stray p ≡ true → IsUnobserved net a p
   unfolding is_stray
@@ -116,7 +102,7 @@ module _ (net : Network) (a : Label) where
 
   pub on_observed : IsOnLetters a → least_unobserved net a ≡ None → IsOnObserved net a
   on_observed small none p named = elim (cases_Bool (is_observed net p)) [
-    | inl t ↦ let o = true_observed net.observes p t in (o.0, record { what = o.1 })
+    | inl t ↦ let o = place_of net.observes p t in (o.0, record { what = o.1 })
     | inr f ↦
         let u : IsUnobserved net a p = (named, λ x o. false≢true (sym f ∙ observed_true net.observes x p o.what)) in
         elim (cases_lt p 52) [
@@ -206,13 +192,6 @@ least_once net a p q one other = elim (cases_lt p q) [
     | inr same ↦ omega arith
   ]
 ]
-
-same_built : (i : ℕ) (h k : i < 52) → ◌≡◌ {A = Prop} (record { index = i; in_range = h }) (record { index = i; in_range = k })
-same_built i h k = let e : h ≡ k = le_prop h k in cc
-
-same_prop : (p q : Prop) → p.index ≡ q.index → p ≡ q
-same_prop p q e =
-    subst (λ i. (k : i < 52) → p ≡ record { index = i; in_range = k }) e (λ k. same_built p.index p.in_range k) q.in_range
 
 pub least_prop : (net : Network) (a : Label) (p q : Prop) → IsLeastUnobserved net a p.index → IsLeastUnobserved net a q.index → p ≡ q
 least_prop net a p q one other = same_prop p q (least_once net a p.index q.index one other)

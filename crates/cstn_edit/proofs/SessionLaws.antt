@@ -9,6 +9,7 @@ use Rattle.std.proofs.lemmas.List.Elements.{All-map, All-push, All-filter, All-w
 use Rattle.std.proofs.lemmas.List.Filters.{length-filter_both}
 use Rattle.std.proofs.lemmas.List.Kept.{AllPairs-filter}
 use Rattle.std.proofs.lemmas.List.Quantifiers.{all_pairs_push}
+use Rattle.cstn_facts.proofs.Filters.{filter_contains}
 use Rattle.cstn_facts.proofs.Pairs.{pairs_map}
 use Rattle.cstn_label.specs.Marks.{is_plain}
 use Rattle.cstn_label.specs.Labels.{Label}
@@ -39,8 +40,8 @@ use Rattle.cstn_check.proofs.Ends.{grow_from}
 use Rattle.cstn_check.proofs.Starts.{GoesOn, bases_go_on, kept_from}
 use Rattle.cstn_edit.specs.declared.outcomes.Outcome.{Outcome}
 use Rattle.cstn_change.specs.Changes.{Refusal, NotObserved, adds, removes, revalues, is_value, least_unobserved, has_constraint, refusal, without, with_value}
-use Rattle.cstn_change.proofs.IdLemmas.{above_each}
-use Rattle.cstn_change.proofs.RefusalLemmas.{true_value, on_observed}
+use Rattle.cstn_change.proofs.IdLemmas.{above_each, value_id}
+use Rattle.cstn_change.proofs.RefusalLemmas.{true_value, on_observed, none_mapped}
 use Rattle.cstn_edit.specs.Sessions.{kept_after, outcome_of, verdict_by}
 use Rattle.cstn_edit.specs.Edits.{Session, begun, edited_of, with_edited, with_change, outcome_at, kept_at, with_verdict}
 use Rattle.cstn_edit.specs.Sound.{AreApart, IsTrueOf, IsLastTrue, IsSound}
@@ -70,10 +71,6 @@ none_refused false r o e = (refl, e)
 refused_unless : (b : Bool) (r : Refusal) → (if b then None else Some r) ≡ None → b ≡ true
 refused_unless true r e = refl
 refused_unless false r e = cc
-
-none_mapped : {X Y : Type 0} (f : X → Y) (o : Option X) → option_map f o ≡ None → o ≡ None
-none_mapped f None e = refl
-none_mapped f (Some x) e = cc
 
 -- in a network with other constraints the same entries refute
 refuted_with : (net : Network) (cs : List Constraint) (list : List Entry) → IsRefutedLast net list →
@@ -163,19 +160,6 @@ others_sound s id cs sound good others below =
       last = tt;
     }
 
-contains_filter : {X : Type 0} (test : X → Bool) (xs : List X) (x : X) → Contains xs x → test x ≡ true → Contains (filter test xs) x
-contains_filter test xs x has passes = go xs has.0 has.1 has.2
-  where
-    go : (ys : List _) (k : ℕ) → k < length ys → get_or ys k x ≡ x → Contains (filter test ys) x
-    go [] k inside at = absurd (omega arith)
-    go (y ∷ ys) zero inside at = rw (ap test at ∙ passes) (0, omega arith, at)
-    go (y ∷ ys) (suc k) inside at =
-        let rest = go ys k (omega arith) at in
-        elim (cases_Bool (test y)) [
-          | inl t ↦ rw t (suc rest.0, (let less = rest.1 in omega arith), rest.2)
-          | inr f ↦ rw f rest
-        ]
-
 -- a session is sound after a constraint is taken out
 pub removed_is_sound : (s : Session) (id : ℕ) → IsSound s → IsSound (with_change s (removes id))
 removed_is_sound s id sound =
@@ -188,13 +172,10 @@ removed_is_sound s id sound =
     (All-filter test (IsConstraint s.net) cs good.network.constraints)
     (AllPairs-filter (λ b c. b.id < c.id) test cs good.ascending)
     (All-filter test (λ c. IsValue c.most) cs good.values))
-    (λ c has other. contains_filter test cs c has (ap not (ne_eqb c.id id other)))
+    (λ c has other. filter_contains test cs c has (ap not (ne_eqb c.id id other)))
     (All-filter test (λ c. c.id < s.next) cs sound.below)
 
 -- a constraint with another value keeps its id, and is one of the network
-same_id : (id : ℕ) (most : ℤ) (c : Constraint) → (with_value id most c).id ≡ c.id
-same_id id most c = elim (cases_Bool (c.id == id)) [ inl t ↦ rw t refl | inr f ↦ rw f refl ]
-
 one_with : (net : Network) (id : ℕ) (most : ℤ) (c : Constraint) → IsConstraint net c → IsConstraint net (with_value id most c)
 one_with net id most c h = elim (cases_Bool (c.id == id)) [
   | inl t ↦ rw t (record { from = h.from; to = h.to; plain = h.plain; observed = h.observed })
@@ -216,14 +197,14 @@ value_is_sound s id most value sound =
     (All-map (IsConstraint s.net) f cs (All-weaker _ _ (one_with s.net id most) cs good.network.constraints))
     (pairs_map (λ b c. b.id < c.id) f cs (λ i j d before inside.
     let ordered = good.ascending i j d before inside in
-    let one = same_id id most (get_or cs i d) in
-    let other = same_id id most (get_or cs j d) in
+    let one = value_id id most (get_or cs i d) in
+    let other = value_id id most (get_or cs j d) in
     omega arith))
     (All-map (λ c. IsValue c.most) f cs (All-weaker _ _ (λ c. value_with id most c value) cs good.values)))
     (λ c has other. subst (Contains (map f cs)) (cond-false _ _ _ (ne_eqb c.id id other)) (contains_map f cs c has))
     (All-map (λ c. c.id < s.next) f cs
     (All-weaker (λ c. c.id < s.next) (λ c. (f c).id < s.next)
-    (λ c below. (let same = same_id id most c in omega arith)) cs sound.below))
+    (λ c below. (let same = value_id id most c in omega arith)) cs sound.below))
 
 pub changed_is_sound : (room : ℕ) (s : Session) (id : ℕ) (most : ℤ) → refusal room (edited_of s) (revalues id most) ≡ None → IsSound s → IsSound (with_change s (revalues id most))
 changed_is_sound room s id most none sound =

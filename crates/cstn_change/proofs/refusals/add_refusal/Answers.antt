@@ -9,7 +9,8 @@ use Rattle.cstn_net.specs.Networks.{IsValue, IsLeastUnobserved}
 use Rattle.cstn_net.specs.Read.{the_network, the_constraint}
 use Rattle.cstn_change.specs.Changes.{ValueRange}
 use Rattle.cstn_change.specs.declared.errors.EditError.TheVariants.{NotObserved}
-use Rattle.cstn_change.proofs.RefusalLemmas.{add_out_of_range, add_not_plain, add_by_observed, value_true, value_false, plain_seen, plain_false, least_first, none_first, least_prop}
+use Rattle.cstn_label.proofs.PlainLabels.{plain_true}
+use Rattle.cstn_change.proofs.RefusalLemmas.{add_out_of_range, add_not_plain, add_by_observed, value_true, value_false, plain_false, least_first, none_first, least_prop}
 use Rattle.cstn_change.proofs.refusals.add_refusal.Goals as goal
 
 -- there is room for one more among the constraints of the definition
@@ -57,7 +58,7 @@ returns-in-Some-clause-refusal c = λ fresh x y.
     add_by_observed net c.args.edits c.args.room fresh x y c.args.most a (Some p.index) c.if-edits-ge-MAX_EDITS.false
     (in_room c.constraints.result.now c.args.net.now.constraints c.args.room c.constraints.ensures.constraints c.if-constraints-room.false)
     (value_true c.args.most (subst IsValue (to_z-of_z w32 c.args.most c.ranges.most) (c.if-not-is_value.ensures.0 refl)))
-    (plain_seen a (c.if-not-is_plain.ensures.plain.0 refl)) (least_first net a p.index p.in_range c.in-Some.ensures)
+    (plain_true a (c.if-not-is_plain.ensures.plain.0 refl)) (least_first net a p.index p.in_range c.in-Some.ensures)
 
 pub returns-in-None-clause-refusal : goal.returns-in-None-clause-refusal
 returns-in-None-clause-refusal c = λ fresh x y.
@@ -66,4 +67,4 @@ returns-in-None-clause-refusal c = λ fresh x y.
     add_by_observed net c.args.edits c.args.room fresh x y c.args.most a None c.if-edits-ge-MAX_EDITS.false
     (in_room c.constraints.result.now c.args.net.now.constraints c.args.room c.constraints.ensures.constraints c.if-constraints-room.false)
     (value_true c.args.most (subst IsValue (to_z-of_z w32 c.args.most c.ranges.most) (c.if-not-is_value.ensures.0 refl)))
-    (plain_seen a (c.if-not-is_plain.ensures.plain.0 refl)) (none_first net a c.in-None.ensures)
+    (plain_true a (c.if-not-is_plain.ensures.plain.0 refl)) (none_first net a c.in-None.ensures)
