@@ -1,10 +1,9 @@
 -- With a larger cap the same is said, but where a log had more entries than the smaller one.
-use Rattle.std.proofs.Common.{ℕ, zero, suc, ℤ, ◌≡◌, ◌+◌, ◌-◌, ◌≤◌, Bool, true, false, List, [], ◌∷◌, ◌++◌, Option, Some, None, arith, refl, sym, subst, ap, ◌∙◌, inl, inr}
+use Rattle.std.proofs.Common.{ℕ, zero, suc, ◌≡◌, ◌+◌, ◌-◌, ◌≤◌, Bool, true, false, List, [], ◌∷◌, ◌++◌, Option, Some, None, arith, refl, sym, subst, ap, ◌∙◌, inl, inr}
 use Rattle.std.specs.Prelude.{◌⊎◌, Result, Ok, Err, nat_lt, if◌then◌else◌, option_and_then, codes, decimal}
 use Rattle.std.specs.Option.{option_map}
 use Rattle.std.proofs.lemmas.Option.{same_Some}
-use Rattle.cstn_label.specs.Labels.{Label}
-use Rattle.cstn_net.specs.Limits.{most_deadline}
+use Rattle.cstn_net.specs.Limits.{most_constraints, most_deadline}
 use Rattle.cstn_net.specs.Networks.{Network}
 use Rattle.cstn_text.specs.Names.{number_of}
 use Rattle.cstn_lift.specs.Labelled.{Labelled}
@@ -19,14 +18,17 @@ use Rattle.cstn_history.specs.Facts.{FactRefusal, OutOfRange, is_beyond, now_ref
 use Rattle.cstn_history.specs.Rest.{rest}
 use Rattle.cstn_lines.specs.EditLines.{Edit, added, removed, changed, asked}
 use Rattle.cstn_lines.specs.FollowLines.{Follow, follow_read, done_at, came_at, now_at, awaited_at, edits, ends_by, asks_next, asks_by, asks_blame, asks_rest}
-use Rattle.cstn_reply.specs.Texts.{full_line}
+use Rattle.cstn_reply.specs.Texts.{line, full_line}
 use Rattle.cstn_reply.specs.Sessions.{Turn, more}
 use Rattle.cstn_reply.specs.Reached.{state_after}
 use Rattle.cstn_reply.proofs.Sessions.{first_leads, state_more}
 use Rattle.cstn_save.specs.Canonical.{canonical}
+use Rattle.cstn_change.specs.Changes.{EditedNetwork, Change, removes, revalues, Refusal, refusal, after}
+use Rattle.cstn_change.specs.ChangeLines.{addition, accepted_text}
+use Rattle.cstn_follow.specs.Replans.{with_due}
 use Rattle.cstn_follow.specs.Following.{Following, Heard, says, saves, left_now, verdict_now, fits, on_verdict, follows, verdict_line}
 use Rattle.cstn_follow.specs.FactLines.{on_result, records, refuses, all_done, on_known, on_did, nodes_of, unknown_of, unless_refused, on_fact}
-use Rattle.cstn_follow.specs.PlanLines.{add_refusal, remove_refusal, change_refusal, on_edit, on_ends, on_deadline, with_added, with_removed, with_changed, replanned}
+use Rattle.cstn_follow.specs.PlanLines.{edited_network, replanned, on_refusal, on_edit, on_deadline}
 use Rattle.cstn_follow.specs.Questions.{next_after, check_after}
 use Rattle.cstn_follow.specs.Searches.{by_number, by_unless, by_after, by_text, by_refusal, blame_text, blame_after}
 use Rattle.cstn_check.specs.Givers.{ids_of, without}
@@ -202,17 +204,18 @@ module _ (s : Following) (larger : ℕ) (upto : s.cap ≤ larger) where
   fact_alike : (o : Option FactRefusal) (h : History) → Alike (on_fact s o h) (on_fact Other o h)
   fact_alike o h = result_alike (unless_refused o (Ok h))
 
-  edit_alike : (o : Option (List ℕ)) (text : List ℕ) (m : Labelled) (e f : ℕ)
-      → Alike (on_edit s o text (record s { network = m; edits = e; fresh = f })) (on_edit Other o text (record Other { network = m; edits = e; fresh = f }))
-  edit_alike None text m e f = follows_alike m s.history e f (λ v. _) (λ v. _) (λ v. inl refl) (inr (λ v w. refl))
-  edit_alike (Some refusal) text m e f = (refl, inl refl)
+  -- the network of the session becomes this one
+  replan_alike : (e : EditedNetwork) (text : List ℕ) → Alike (follows s (replanned s e) (λ v. text)) (follows Other (replanned Other e) (λ v. text))
+  replan_alike e text =
+      follows_alike (record s.network { base = e.net }) s.history e.edits e.fresh (λ v. text) (λ v. text) (λ v. inl refl) (inr (λ v w. refl))
 
-  ends_alike : (from to : List ℕ) (most : ℤ) (a : Label) (one two : Option ℕ) → Alike (on_ends s from to most a one two) (on_ends Other from to most a one two)
-  ends_alike from to most a None two = (refl, inl refl)
-  ends_alike from to most a (Some x) None = (refl, inl refl)
-  ends_alike from to most a (Some x) (Some y) =
-      let next = with_added s x y most a in
-      edit_alike (add_refusal s.network.base s.edits most a) (codes "added " ++ decimal s.fresh) next.network next.edits next.fresh
+  change_alike : (change : Change) (o : Option Refusal) → Alike (on_refusal s change o) (on_refusal Other change o)
+  change_alike change (Some why) = (refl, inl refl)
+  change_alike change None = replan_alike (after (edited_network s) change) (line (accepted_text s.fresh change))
+
+  edit_alike : (r : Result Change Refusal) → Alike (on_edit s r) (on_edit Other r)
+  edit_alike (Ok change) = change_alike change (refusal most_constraints (edited_network s) change)
+  edit_alike (Err why) = (refl, inl refl)
 
   -- what is said to a question by the verdict
   abbrev After : Type 0
@@ -311,21 +314,15 @@ module _ (s : Following) (larger : ℕ) (upto : s.cap ≤ larger) where
   by_alike name (Some x) = unless_alike x (by_refusal s x (s.history.done x))
 
   plan_alike : (edit : Edit) → Alike (on_plan s edit) (on_plan Other edit)
-  plan_alike (added from to most a) = ends_alike from to most a (number_of s.names from) (number_of s.names to)
-  plan_alike (removed id) =
-      let next = with_removed s id in
-      edit_alike (remove_refusal s.network.base s.edits id) (codes "removed " ++ decimal id) next.network next.edits next.fresh
-  plan_alike (changed id most) =
-      let next = with_changed s id most in
-      edit_alike (change_refusal s.network.base s.edits id most) (codes "changed " ++ decimal id) next.network next.edits next.fresh
+  plan_alike (added from to most a) = edit_alike (addition s.names from to most a)
+  plan_alike (removed id) = edit_alike (Ok (removes id))
+  plan_alike (changed id most) = edit_alike (Ok (revalues id most))
   plan_alike asked = check_alike
 
   deadline_alike : (deadline : ℕ) (late : Bool)
       → Alike (if late then on_other s else on_deadline s deadline) (if late then on_other Other else on_deadline Other deadline)
   deadline_alike deadline true = (refl, inl refl)
-  deadline_alike deadline false =
-      let next = replanned s deadline s.network.base.constraints s.edits s.fresh in
-      edit_alike None (codes "deadline " ++ decimal deadline) next.network next.edits next.fresh
+  deadline_alike deadline false = replan_alike (with_due (edited_network s) deadline) (line (codes "deadline " ++ decimal deadline))
 
   pub line_alike : (o : Option Follow) → Alike (on_line s o) (on_line Other o)
   line_alike None = (refl, inl refl)

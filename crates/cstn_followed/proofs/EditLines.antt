@@ -1,23 +1,22 @@
 -- What lines make of the plan and of what has happened.
-use Rattle.std.proofs.Common.{ℕ, ℤ, ◌≡◌, ◌+◌, ◌<◌, ◌≤◌, Bool, true, false, not, List, [], ◌∷◌, ◌++◌, length, Option, Some, None, arith, refl, sym, subst, ap, ◌∙◌, inl, inr}
-use Rattle.std.specs.Prelude.{◌⊎◌, nat_lt, nat_le, if◌then◌else◌, codes, decimal}
-use Rattle.std.specs.Option.{option_map}
+use Rattle.std.proofs.Common.{ℕ, ℤ, ◌≡◌, ◌+◌, ◌<◌, ◌≤◌, Bool, true, false, List, [], ◌∷◌, ◌++◌, Option, Some, None, arith, refl, sym, subst, ap, ◌∙◌, inl, inr}
+use Rattle.std.specs.Prelude.{◌⊎◌, Result, Ok, Err, nat_lt, if◌then◌else◌, codes, decimal}
 use Rattle.std.proofs.lemmas.Bool.{false≢true}
 use Rattle.std.proofs.lemmas.List.Elements.{All-weaker}
 use Rattle.std.proofs.lemmas.Option.{same_Some}
 use Rattle.cstn_label.specs.Labels.{Label}
 use Rattle.cstn_label.specs.Letters.{letter_of}
 use Rattle.cstn_net.specs.Limits.{most_constraints, most_deadline}
-use Rattle.cstn_net.specs.Networks.{Network, Constraint}
+use Rattle.cstn_net.specs.Networks.{Constraint}
 use Rattle.cstn_text.specs.Names.{number_of}
 use Rattle.cstn_text.specs.Numbers.{printed_value}
 use Rattle.cstn_text.specs.PrintedNames.{printed_name}
-use Rattle.cstn_lift.specs.Lowered.{is_plain}
-use Rattle.cstn_change.specs.Changes.{Change, adds, removes, revalues, fresh_after}
-use Rattle.cstn_change.specs.ChangeLines.{addition_between}
+use Rattle.cstn_change.specs.Changes.{EditedNetwork, Change, adds, removes, revalues, refusal, after}
+use Rattle.cstn_change.specs.Changes.{Refusal, NoRoom, NoSuch, ValueRange, NotPlain, NotObserved, EditLimit, UnknownEnd}
+use Rattle.cstn_change.specs.ChangeLines.{addition, refused_text, accepted_text}
 use Rattle.cstn_check.specs.declared.verdicts.Verdict.{Verdict}
 use Rattle.cstn_history.specs.Histories.{History}
-use Rattle.cstn_lines.specs.EditLines.{added, removed, changed, asked}
+use Rattle.cstn_lines.specs.EditLines.{Edit, added, removed, changed, asked}
 use Rattle.cstn_lines.specs.FollowLines.{Follow, follow_read, done_at, came_at, now_at, awaited_at, edits, ends_by, asks_next, asks_by, asks_blame, asks_rest}
 use Rattle.cstn_reply.specs.Texts.{line}
 use Rattle.cstn_reply.specs.Sessions.{Turn, more, last, wrong}
@@ -25,7 +24,8 @@ use Rattle.cstn_reply.specs.Reached.{state_after}
 use Rattle.cstn_reply.proofs.Sessions.{FirstLeads, first_leads}
 use Rattle.cstn_save.specs.Canonical.{canonical}
 use Rattle.cstn_follow.specs.Following.{Following, Heard, says, saves, verdict_now, verdict_within, on_verdict, follows}
-use Rattle.cstn_follow.specs.PlanLines.{is_value, unobserved, has_constraint, label_refusal, add_refusal, remove_refusal, change_refusal, at_limit, on_edit, on_ends, on_deadline, with_added, with_removed, with_changed, replanned}
+use Rattle.cstn_follow.specs.PlanLines.{edited_network, replanned, on_refusal, on_edit, on_add, on_deadline}
+use Rattle.cstn_follow.specs.Replans.{with_due}
 use Rattle.cstn_follow.specs.Hearing.{on_other, on_line, counted, hear}
 use Rattle.cstn_follow.specs.Recorded.{IsRecorded}
 use Rattle.cstn_follow.specs.Turns.{heard_by}
@@ -35,106 +35,68 @@ use Rattle.cstn_followed.specs.Sessions.{IsReached, follow_turn}
 use Rattle.cstn_followed.specs.Answers.{Accepts}
 use Rattle.cstn_followed.specs.Plans.{IsRefusedBy}
 use Rattle.cstn_followed.specs.Journal.{is_refusal, accepted_of, unless_refused}
-use Rattle.cstn_followed.specs.Edits.{Plan, plan_of, change_if, plan_if, plan_told, plan_by_lines, IsHistoryTold, IsHistoryByLines, IsEditLine, Edits, IsNew}
+use Rattle.cstn_followed.specs.Edits.{change_if, change_said, after_if, IsAcceptedText, plan_told, plan_by_lines, IsHistoryTold, IsHistoryByLines, IsEditLine, Edits, IsNew}
 use Rattle.cstn_followed.proofs.Verdicts.{reached_sound, fact_accepted}
 use Rattle.cstn_followed.proofs.Refusals.{refusal_stays}
 use Rattle.cstn_followed.proofs.Journals.{accepted_more}
 
 -- ---- why an edit is refused
 
--- the line of what is said, if something is, is a refusal
-abbrev IsWhy : Option (List ℕ) → Type 0
-IsWhy None = Unit {0}
-IsWhy (Some refusal) = (why : List ℕ) × (line refusal ≡ line (codes "refused " ++ why))
-
-if_why : (b : Bool) (refusal : List ℕ) (o : Option (List ℕ)) → IsWhy (Some refusal) → IsWhy o → IsWhy (if b then Some refusal else o)
-if_why true refusal o is rest = is
-if_why false refusal o is rest = rest
-
-unless_why : (b : Bool) (refusal : List ℕ) → IsWhy (Some refusal) → IsWhy (if b then None else Some refusal)
-unless_why true refusal is = tt
-unless_why false refusal is = is
-
-label_why : (net : Network) (a : Label) → IsWhy (label_refusal net a)
-label_why net a = if_why (not (is_plain a)) _ _ (codes "S4", refl) (by_unobserved (unobserved net a))
-  where
-    by_unobserved : (o : Option ℕ) → IsWhy (option_map (λ p. codes "refused S5 " ++ letter_of p ∷ []) o)
-    by_unobserved None = tt
-    by_unobserved (Some p) = (codes "S5 " ++ letter_of p ∷ [], refl)
-
-add_why : (net : Network) (count' : ℕ) (most : ℤ) (a : Label) → IsWhy (add_refusal net count' most a)
-add_why net count' most a =
-    if_why (at_limit count') _ _ (codes "S6", refl)
-    (if_why (nat_le most_constraints (length net.constraints)) _ _ (codes "S1 16384", refl)
-    (if_why (not (is_value most)) _ _ (codes "S3 " ++ printed_value most, refl) (label_why net a)))
-
-remove_why : (net : Network) (count' id : ℕ) → IsWhy (remove_refusal net count' id)
-remove_why net count' id =
-    if_why (at_limit count') _ _ (codes "S6", refl) (unless_why (has_constraint net id) _ (codes "S2 " ++ decimal id, refl))
-
-change_why : (net : Network) (count' id : ℕ) (most : ℤ) → IsWhy (change_refusal net count' id most)
-change_why net count' id most =
-    if_why (at_limit count') _ _ (codes "S6", refl)
-    (if_why (not (has_constraint net id)) _ _ (codes "S2 " ++ decimal id, refl)
-    (unless_why (is_value most) _ (codes "S3 " ++ printed_value most, refl)))
+refusal_why : (r : Refusal) → (why : List ℕ) × (line (refused_text r) ≡ line (codes "refused " ++ why))
+refusal_why (NoRoom room) = (codes "S1 " ++ decimal room, refl)
+refusal_why (NoSuch id) = (codes "S2 " ++ decimal id, refl)
+refusal_why (ValueRange most) = (codes "S3 " ++ printed_value most, refl)
+refusal_why NotPlain = (codes "S4", refl)
+refusal_why (NotObserved p) = (codes "S5 " ++ letter_of p ∷ [], refl)
+refusal_why EditLimit = (codes "S6", refl)
+refusal_why (UnknownEnd name) = (codes "S7 " ++ printed_name name, refl)
 
 -- ---- edits
 
 module _ (s : Following) where
+  -- the edit is made, and the text says so
+  abbrev Makes : Follow → List ℕ → Following → Type 0
+  Makes edit text next = (next ≡ replanned s (plan_told s.names (edited_network s) (Some edit))) × IsAcceptedText s.names s.fresh edit text
+
   -- the edit is refused, or it is made
   abbrev Says : Follow → Heard → Type 0
-  Says edit (says text next) = ((next ≡ s) × ((why : List ℕ) × (text ≡ line (codes "refused " ++ why)))) ⊎ Edits s edit text next
+  Says edit (says text next) = ((next ≡ s) × ((why : List ℕ) × (text ≡ line (codes "refused " ++ why)))) ⊎ Makes edit text next
   Says edit (saves m names next) = ⊥
 
-  follows_says : (edit : Follow) (next : Following) (text : List ℕ) → Edits s edit text next → Says edit (follows s next (λ v. text))
+  follows_says : (edit : Follow) (next : Following) (text : List ℕ) → Makes edit text next → Says edit (follows s next (λ v. text))
   follows_says edit next text made = by_verdict (verdict_within next)
     where
       by_verdict : (o : Option Verdict) → Says edit (on_verdict s next (λ v. text) o)
       by_verdict None = inl (refl, (codes "F8", refl))
       by_verdict (Some v) = inr made
 
-  edit_says : (edit : Follow) (o : Option (List ℕ)) (text : List ℕ) (next : Following) → IsWhy o → Edits s edit (line text) next
-      → Says edit (on_edit s o text next)
-  edit_says edit None text next why made = follows_says edit next (line text) made
-  edit_says edit (Some refusal) text next why made = inl (refl, why)
-
-  ends_says : (from to : List ℕ) (most : ℤ) (a : Label) (one two : Option ℕ) → number_of s.names from ≡ one → number_of s.names to ≡ two
-      → Says (edits (added from to most a)) (on_ends s from to most a one two)
-  ends_says from to most a None two is also = inl (refl, (codes "S7 " ++ printed_name from, refl))
-  ends_says from to most a (Some x) None is also = inl (refl, (codes "S7 " ++ printed_name to, refl))
-  ends_says from to most a (Some x) (Some y) is also =
-      edit_says (edits (added from to most a)) (add_refusal s.network.base s.edits most a) (codes "added " ++ decimal s.fresh) (with_added s x y most a)
-      (add_why s.network.base s.edits most a)
-      (record {
-        plan = sym (ap (λ r. plan_if (plan_of s) (change_if r)) addition_is);
-        history = refl;
-        names = refl;
-        cap = refl;
-        text_is = (_, ap change_if addition_is, refl);
-      })
+  change_says : (edit : Edit) (change : Change) → change_said s.names edit ≡ Some change → Says (edits edit) (on_edit s (Ok change))
+  change_says edit change is = by_refusal (refusal most_constraints (edited_network s) change)
     where
-      addition_is : addition_between from to most a (number_of s.names from) (number_of s.names to) ≡ addition_between from to most a (Some x) (Some y)
-      addition_is = ap (λ o. addition_between from to most a o (number_of s.names to)) is ∙ ap (addition_between from to most a (Some x)) also
+      by_refusal : (o : Option Refusal) → Says (edits edit) (on_refusal s change o)
+      by_refusal (Some why) = inl (refl, refusal_why why)
+      by_refusal None =
+          follows_says (edits edit) (replanned s (after (edited_network s) change)) (line (accepted_text s.fresh change))
+          (sym (ap (λ o. replanned s (after_if (edited_network s) o)) is), (change, is, refl))
 
-  deadline_says : (deadline : ℕ) → Says (ends_by deadline) (on_deadline s deadline)
-  deadline_says deadline =
-      follows_says (ends_by deadline) (replanned s deadline s.network.base.constraints s.edits s.fresh) (line (codes "deadline " ++ decimal deadline))
-      (record { plan = refl; history = refl; names = refl; cap = refl; text_is = refl })
+  add_says : (from to : List ℕ) (most : ℤ) (a : Label) → Says (edits (added from to most a)) (on_add s from to most a)
+  add_says from to most a = by_addition (addition s.names from to most a) refl
+    where
+      by_addition : (r : Result Change Refusal) → addition s.names from to most a ≡ r → Says (edits (added from to most a)) (on_edit s r)
+      by_addition (Ok change) is = change_says (added from to most a) change (ap change_if is)
+      by_addition (Err why) is = inl (refl, refusal_why why)
 
-  deadline_line : (deadline : ℕ) (late : Bool) → Says (ends_by deadline) (if late then on_other s else on_deadline s deadline)
-  deadline_line deadline true = inl (refl, (codes "line " ++ decimal s.lines, refl))
-  deadline_line deadline false = deadline_says deadline
+  deadline_says : (deadline : ℕ) (late : Bool) → Says (ends_by deadline) (if late then on_other s else on_deadline s deadline)
+  deadline_says deadline true = inl (refl, (codes "line " ++ decimal s.lines, refl))
+  deadline_says deadline false =
+      follows_says (ends_by deadline) (replanned s (with_due (edited_network s) deadline)) (line (codes "deadline " ++ decimal deadline)) (refl, refl)
 
   line_says : (edit : Follow) → IsEditLine edit → Says edit (on_line s (Some edit))
-  line_says (edits (added from to most a)) is = ends_says from to most a (number_of s.names from) (number_of s.names to) refl refl
-  line_says (edits (removed id)) is =
-      edit_says (edits (removed id)) (remove_refusal s.network.base s.edits id) (codes "removed " ++ decimal id) (with_removed s id)
-      (remove_why s.network.base s.edits id) (record { plan = refl; history = refl; names = refl; cap = refl; text_is = (_, refl, refl) })
-  line_says (edits (changed id most)) is =
-      edit_says (edits (changed id most)) (change_refusal s.network.base s.edits id most) (codes "changed " ++ decimal id) (with_changed s id most)
-      (change_why s.network.base s.edits id most) (record { plan = refl; history = refl; names = refl; cap = refl; text_is = (_, refl, refl) })
+  line_says (edits (added from to most a)) is = add_says from to most a
+  line_says (edits (removed id)) is = change_says (removed id) (removes id) refl
+  line_says (edits (changed id most)) is = change_says (changed id most) (revalues id most) refl
   line_says (edits asked) is = absurd is
-  line_says (ends_by deadline) is = deadline_line deadline (nat_lt most_deadline deadline)
+  line_says (ends_by deadline) is = deadline_says deadline (nat_lt most_deadline deadline)
   line_says (done_at t given) is = absurd is
   line_says (came_at t p value) is = absurd is
   line_says (now_at t) is = absurd is
@@ -152,8 +114,7 @@ TurnSays s edit wrong = ⊥
 
 turn_says : (s : Following) (edit : Follow) (heard : Heard) → Says (counted s) edit heard → TurnSays s edit (heard_by canonical heard)
 turn_says s edit (says text next) (inl refused) = inl refused
-turn_says s edit (says text next) (inr made) =
-    inr (record { plan = made.plan; history = made.history; names = made.names; cap = made.cap; text_is = made.text_is })
+turn_says s edit (says text next) (inr made) = inr (record { next_is = made.0; text_is = made.1 })
 turn_says s edit (saves m names next) never = absurd never
 
 pub edit_answered : (s next : Following) (bytes text : List ℕ) (edit : Follow) → follow_read bytes ≡ Some edit → IsEditLine edit
@@ -166,53 +127,52 @@ edit_answered s next bytes text edit reads is answered =
 
 -- what it makes of the plan and of what has happened
 pub record IsTold (s next : Following) (o : Option Follow) : Type 0 where
-  pub plan : plan_of next ≡ plan_told s.names (plan_of s) o
+  pub plan : edited_network next ≡ plan_told s.names (edited_network s) o
+  pub labels : next.network.labels ≡ s.network.labels
   pub history : IsHistoryTold s.names s.history o next.history
   pub fresh : s.fresh ≤ next.fresh
 
-nothing_told : (s next : Following) (o : Option Follow) → plan_told s.names (plan_of s) o ≡ plan_of s → IsHistoryTold s.names s.history o s.history
+nothing_told : (s next : Following) (o : Option Follow) → plan_told s.names (edited_network s) o ≡ edited_network s → IsHistoryTold s.names s.history o s.history
     → next ≡ counted s → IsTold s next o
 nothing_told s next o plan history same =
-    subst (λ (g : Following). IsTold s g o) (sym same) (record { plan = sym plan; history = history; fresh = omega arith })
+    subst (λ (g : Following). IsTold s g o) (sym same) (record { plan = sym plan; labels = refl; history = history; fresh = omega arith })
 
-fact_told : (s next : Following) (fact : Follow) (text : List ℕ) → plan_told s.names (plan_of s) (Some fact) ≡ plan_of s
+fact_told : (s next : Following) (fact : Follow) (text : List ℕ) → plan_told s.names (edited_network s) (Some fact) ≡ edited_network s
     → ((h : History) → IsRecorded s.names s.history fact h → IsHistoryTold s.names s.history (Some fact) h) → is_refusal text ≡ false
     → IsRefusedBy s text next ⊎ Accepts s fact text next → IsTold s next (Some fact)
 fact_told s next fact text plan history fine (inl refused) = absurd (false≢true (sym fine ∙ ap is_refusal refused.1.1))
 fact_told s next fact text plan history fine (inr accepts) =
     subst (λ (g : Following). IsTold s g (Some fact)) (sym accepts.next_is)
-    (record { plan = sym plan; history = history accepts.later accepts.recorded; fresh = omega arith })
+    (record { plan = sym plan; labels = refl; history = history accepts.later accepts.recorded; fresh = omega arith })
 
 -- an id above all that were used stays above them
-fresh_told : (s next : Following) (edit : Follow) (text : List ℕ) → Edits s edit text next → IsEditLine edit → s.fresh ≤ next.fresh
-fresh_told s next (edits (added from to most a)) text made is =
-    let change = made.text_is in
-    let same : next.fresh ≡ (plan_if (plan_of s) (Some change.0)).fresh =
-    ap (λ (p : Plan). p.fresh) made.plan ∙ ap (λ o. (plan_if (plan_of s) o).fresh) change.1 in
-    subst (λ n. s.fresh ≤ n) (sym same) (later change.0)
-  where
-    later : (change : Change) → s.fresh ≤ fresh_after s.fresh change
-    later (adds x y m l) = omega arith
-    later (removes id) = omega arith
-    later (revalues id m) = omega arith
-fresh_told s next (edits (removed id)) text made is = let same = ap (λ (p : Plan). p.fresh) made.plan in omega arith
-fresh_told s next (edits (changed id most)) text made is = let same = ap (λ (p : Plan). p.fresh) made.plan in omega arith
-fresh_told s next (edits asked) text made is = absurd is
-fresh_told s next (ends_by deadline) text made is = let same = ap (λ (p : Plan). p.fresh) made.plan in omega arith
-fresh_told s next (done_at t given) text made is = absurd is
-fresh_told s next (came_at t p value) text made is = absurd is
-fresh_told s next (now_at t) text made is = absurd is
-fresh_told s next (awaited_at t p) text made is = absurd is
-fresh_told s next asks_next text made is = absurd is
-fresh_told s next (asks_by name) text made is = absurd is
-fresh_told s next asks_blame text made is = absurd is
-fresh_told s next asks_rest text made is = absurd is
+fresh_after_if : (e : EditedNetwork) (o : Option Change) → e.fresh ≤ (after_if e o).fresh
+fresh_after_if e None = omega arith
+fresh_after_if e (Some (adds x y most a)) = omega arith
+fresh_after_if e (Some (removes id)) = omega arith
+fresh_after_if e (Some (revalues id most)) = omega arith
+
+fresh_told : (names : List (List ℕ)) (e : EditedNetwork) (edit : Follow) → IsEditLine edit → e.fresh ≤ (plan_told names e (Some edit)).fresh
+fresh_told names e (edits edit) is = fresh_after_if e (change_said names edit)
+fresh_told names e (ends_by deadline) is = omega arith
+fresh_told names e (done_at t given) is = absurd is
+fresh_told names e (came_at t p value) is = absurd is
+fresh_told names e (now_at t) is = absurd is
+fresh_told names e (awaited_at t p) is = absurd is
+fresh_told names e asks_next is = absurd is
+fresh_told names e (asks_by name) is = absurd is
+fresh_told names e asks_blame is = absurd is
+fresh_told names e asks_rest is = absurd is
 
 edit_told : (s next : Following) (edit : Follow) (text : List ℕ) → IsEditLine edit → ((h : History) → h ≡ s.history → IsHistoryTold s.names s.history (Some edit) h)
     → is_refusal text ≡ false → IsRefusedBy s text next ⊎ Edits s edit text next → IsTold s next (Some edit)
 edit_told s next edit text is history fine (inl refused) = absurd (false≢true (sym fine ∙ ap is_refusal refused.1.1))
-edit_told s next edit text is history fine (inr made) =
-    record { plan = made.plan; history = history next.history made.history; fresh = fresh_told s next edit text made is }
+edit_told s next edit text is history fine (inr made) = subst (λ (g : Following). IsTold s g (Some edit)) (sym made.next_is) (record {
+  plan = refl;
+  labels = refl;
+  history = history s.history refl;
+  fresh = fresh_told s.names (edited_network s) edit is;
+})
 
 -- the state after a turn
 abbrev TurnLeads : Following → Turn Following → Type 0
@@ -267,12 +227,13 @@ line_told s next bytes text sound (Some asks_rest) reads answered fine =
 
 -- what the accepted lines make of the plan and of what has happened
 pub record AreTold (s g : Following) (lines : List (List ℕ)) : Type 0 where
-  pub plan : plan_of g ≡ plan_by_lines s.names (plan_of s) (accepted_of s lines)
+  pub plan : edited_network g ≡ plan_by_lines s.names (edited_network s) (accepted_of s lines)
+  pub labels : g.network.labels ≡ s.network.labels
   pub history : IsHistoryByLines s.names s.history (accepted_of s lines) g.history
   pub fresh : s.fresh ≤ g.fresh
 
 none_told : (s g : Following) → s ≡ g → AreTold s g []
-none_told s g same = subst (λ (x : Following). AreTold s x []) same (record { plan = refl; history = refl; fresh = omega arith })
+none_told s g same = subst (λ (x : Following). AreTold s x []) same (record { plan = refl; labels = refl; history = refl; fresh = omega arith })
 
 told_more : (s g : Following) (k : ℕ) (first : List ℕ) (lines : List (List ℕ)) → IsSound s → (l : FirstLeads follow_turn s g k first lines)
     → AreTold l.next g lines → AreTold s g (first ∷ lines)
@@ -288,12 +249,13 @@ told_more s g k first lines sound l rest = by_refusal (is_refusal l.text) refl
     by_refusal true refused =
         let gone = accepted_is ∙ ap (λ b. unless_refused b first (accepted_of l.next lines)) refused in
         let same = refusal_stays s l.next first l.text sound l.answer refused in
-        let plan_same : plan_of l.next ≡ plan_of s = ap plan_of same in
+        let plan_same : edited_network l.next ≡ edited_network s = ap edited_network same in
         let history_same : l.next.history ≡ s.history = ap (λ (x : Following). x.history) same in
         let fresh_same : l.next.fresh ≡ s.fresh = ap (λ (x : Following). x.fresh) same in
         record {
-          plan = rest.plan ∙ ap (λ ns. plan_by_lines ns (plan_of l.next) (accepted_of l.next lines)) names_are
-              ∙ ap (λ p. plan_by_lines s.names p (accepted_of l.next lines)) plan_same ∙ ap (plan_by_lines s.names (plan_of s)) (sym gone);
+          plan = rest.plan ∙ ap (λ ns. plan_by_lines ns (edited_network l.next) (accepted_of l.next lines)) names_are
+              ∙ ap (λ p. plan_by_lines s.names p (accepted_of l.next lines)) plan_same ∙ ap (plan_by_lines s.names (edited_network s)) (sym gone);
+          labels = rest.labels ∙ ap (λ (x : Following). x.network.labels) same;
           history = subst (λ ls. IsHistoryByLines s.names s.history ls g.history) (sym gone)
               (subst (λ h. IsHistoryByLines s.names h (accepted_of l.next lines) g.history) history_same
               (subst (λ ns. IsHistoryByLines ns l.next.history (accepted_of l.next lines) g.history) names_are rest.history));
@@ -303,8 +265,9 @@ told_more s g k first lines sound l rest = by_refusal (is_refusal l.text) refl
         let kept = accepted_is ∙ ap (λ b. unless_refused b first (accepted_of l.next lines)) fine in
         let one = line_told s l.next first l.text sound (follow_read first) refl l.answer fine in
         record {
-          plan = rest.plan ∙ ap (λ ns. plan_by_lines ns (plan_of l.next) (accepted_of l.next lines)) names_are
-              ∙ ap (λ p. plan_by_lines s.names p (accepted_of l.next lines)) one.plan ∙ ap (plan_by_lines s.names (plan_of s)) (sym kept);
+          plan = rest.plan ∙ ap (λ ns. plan_by_lines ns (edited_network l.next) (accepted_of l.next lines)) names_are
+              ∙ ap (λ p. plan_by_lines s.names p (accepted_of l.next lines)) one.plan ∙ ap (plan_by_lines s.names (edited_network s)) (sym kept);
+          labels = rest.labels ∙ one.labels;
           history = subst (λ ls. IsHistoryByLines s.names s.history ls g.history) (sym kept)
               (l.next.history, one.history, subst (λ ns. IsHistoryByLines ns l.next.history (accepted_of l.next lines) g.history) names_are rest.history);
           fresh = (let more_fresh = rest.fresh in let here = one.fresh in omega arith);
@@ -317,7 +280,7 @@ lines_told s g k (first ∷ lines) sound is =
     told_more s g k first lines sound l (lines_told l.next g (k + 1) lines (next_sound canonical s l.next first l.text sound l.answer) l.rest)
 
 pub new_ids : (earlier s : Following) (k : ℕ) (lines : List (List ℕ)) → IsReached earlier → state_after follow_turn earlier k lines ≡ Some s
-    → IsNew (plan_of earlier) s.fresh
+    → IsNew earlier.network.base s.fresh
 new_ids earlier s k lines reached leads =
     let sound = reached_sound earlier reached in
     let upto = (lines_told earlier s k lines sound leads).fresh in

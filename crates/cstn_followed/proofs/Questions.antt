@@ -132,7 +132,7 @@ module _ (s : Following) (sound : IsSound s) (x : ℕ) (here : x < count s.netwo
             let can = yes_can s.network s.history s.fresh s.cap load sound.labelled sound.timely sound.above (sound.verdict ∙ ap Some is) in
             let both = last_found s.network s.history s.fresh x sound.labelled sound.timely sound.above room here none (left_here x none possible)
             s.cap can t found in
-            inl (t, record { can = both.0; last = both.1 }, refl)
+            inl (t, record { waits = both.0; last = both.1 }, refl)
         by_moment None full =
             let t = none_found (tried s.network s.history s.fresh x s.cap) 20 (record { low = s.history.now; high = s.network.base.deadline }) full in
             inr ((full, (t.0, said_full s.cap (lowered (rest_until s.network s.history s.fresh x t.0)) t.1)), refl)
@@ -181,11 +181,12 @@ blame_tells s (No load) sound is = (refl, by_ids (blamed s.network s.history s.f
     by_ids (Some ids) found = inl (
       ids,
       record {
-        own = found_own (said_by s.network s.history s.fresh s.cap) s.network.base ids found;
+        stuck = never;
         ascending = found_ascend s.network s.history s.fresh s.cap ids sound.labelled found;
         cannot = found_stops s.network s.history s.fresh sound.labelled sound.timely sound.above room s.cap ids found never;
         needed = found_needed s.network s.history s.fresh sound.labelled sound.timely sound.above room s.cap ids found;
       },
+      found_own (said_by s.network s.history s.fresh s.cap) s.network.base ids found,
       refl,
     )
     by_ids None full =

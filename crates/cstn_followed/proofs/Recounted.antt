@@ -1,8 +1,7 @@
 -- What is said to a line doesn't depend on how many lines were heard, unless the line is refused.
-use Rattle.std.proofs.Common.{ℕ, ℤ, ◌≡◌, Bool, true, false, List, ◌++◌, Option, Some, None, refl, inl, inr}
-use Rattle.std.specs.Prelude.{◌⊎◌, Result, Ok, Err, nat_lt, if◌then◌else◌, codes, decimal}
-use Rattle.cstn_label.specs.Labels.{Label}
-use Rattle.cstn_net.specs.Limits.{most_deadline}
+use Rattle.std.proofs.Common.{ℕ, ◌≡◌, Bool, true, false, List, Option, Some, None, refl, inl, inr}
+use Rattle.std.specs.Prelude.{◌⊎◌, Result, Ok, Err, nat_lt, if◌then◌else◌}
+use Rattle.cstn_net.specs.Limits.{most_constraints, most_deadline}
 use Rattle.cstn_text.specs.Names.{number_of}
 use Rattle.cstn_check.specs.declared.verdicts.Verdict.{Verdict}
 use Rattle.cstn_check.specs.declared.verdicts.Verdict.TheVariants.{Yes, No, Full}
@@ -10,9 +9,12 @@ use Rattle.cstn_history.specs.Histories.{History}
 use Rattle.cstn_history.specs.Facts.{FactRefusal, OutOfRange, is_beyond, now_refusal, told_refusal, expected_refusal, at_now, with_told, with_expected}
 use Rattle.cstn_lines.specs.EditLines.{Edit, added, removed, changed, asked}
 use Rattle.cstn_lines.specs.FollowLines.{Follow, done_at, came_at, now_at, awaited_at, edits, ends_by, asks_next, asks_by, asks_blame, asks_rest}
+use Rattle.cstn_change.specs.Changes.{Change, removes, revalues, Refusal, refusal, after}
+use Rattle.cstn_change.specs.ChangeLines.{addition}
+use Rattle.cstn_follow.specs.Replans.{with_due}
 use Rattle.cstn_follow.specs.Following.{Following, Heard, says, saves, verdict_now, verdict_within, on_verdict, follows, verdict_line}
 use Rattle.cstn_follow.specs.FactLines.{on_result, records, refuses, all_done, on_known, on_did, nodes_of, unknown_of, unless_refused, on_fact}
-use Rattle.cstn_follow.specs.PlanLines.{add_refusal, remove_refusal, change_refusal, on_edit, on_ends, on_deadline, with_added, with_removed, with_changed, replanned}
+use Rattle.cstn_follow.specs.PlanLines.{edited_network, replanned, on_refusal, on_edit, on_deadline}
 use Rattle.cstn_follow.specs.Questions.{next_after, check_after}
 use Rattle.cstn_follow.specs.Searches.{by_number, by_unless, by_after, by_refusal, blame_after}
 use Rattle.cstn_follow.specs.Hearing.{on_plan, on_other, on_line}
@@ -58,16 +60,13 @@ module _ (s : Following) (n : ℕ) where
   fact_same : (o : Option FactRefusal) (h : History) → on_fact Other o h ≡ recounted n (on_fact s o h)
   fact_same o h = result_same (unless_refused o (Ok h))
 
-  edit_same : (o : Option (List ℕ)) (text : List ℕ) (next : Following) → on_edit Other o text (with_count next n) ≡ recounted n (on_edit s o text next)
-  edit_same None text next = follows_same next (λ v. _)
-  edit_same (Some refusal) text next = refl
+  change_same : (change : Change) (o : Option Refusal) → on_refusal Other change o ≡ recounted n (on_refusal s change o)
+  change_same change (Some why) = refl
+  change_same change None = follows_same (replanned s (after (edited_network s) change)) (λ v. _)
 
-  ends_same : (from to : List ℕ) (most : ℤ) (a : Label) (one two : Option ℕ)
-      → on_ends Other from to most a one two ≡ recounted n (on_ends s from to most a one two)
-  ends_same from to most a None two = refl
-  ends_same from to most a (Some x) None = refl
-  ends_same from to most a (Some x) (Some y) =
-      edit_same (add_refusal s.network.base s.edits most a) (codes "added " ++ decimal s.fresh) (with_added s x y most a)
+  edit_same : (r : Result Change Refusal) → on_edit Other r ≡ recounted n (on_edit s r)
+  edit_same (Ok change) = change_same change (refusal most_constraints (edited_network s) change)
+  edit_same (Err why) = refl
 
   next_same : (v : Verdict) → next_after Other v ≡ recounted n (next_after s v)
   next_same (Yes load) = refl
@@ -98,18 +97,16 @@ module _ (s : Following) (n : ℕ) where
   by_same name (Some x) = unless_same x (by_refusal s x (s.history.done x))
 
   plan_same : (edit : Edit) → on_plan Other edit ≡ recounted n (on_plan s edit)
-  plan_same (added from to most a) = ends_same from to most a (number_of s.names from) (number_of s.names to)
-  plan_same (removed id) = edit_same (remove_refusal s.network.base s.edits id) (codes "removed " ++ decimal id) (with_removed s id)
-  plan_same (changed id most) =
-      edit_same (change_refusal s.network.base s.edits id most) (codes "changed " ++ decimal id) (with_changed s id most)
+  plan_same (added from to most a) = edit_same (addition s.names from to most a)
+  plan_same (removed id) = edit_same (Ok (removes id))
+  plan_same (changed id most) = edit_same (Ok (revalues id most))
   plan_same asked = check_same (verdict_now s)
 
   -- a line that is none of the session is refused by its number
   deadline_same : (deadline : ℕ) (late : Bool) → Refuses (if late then on_other s else on_deadline s deadline)
       ⊎ ((if late then on_other Other else on_deadline Other deadline) ≡ recounted n (if late then on_other s else on_deadline s deadline))
   deadline_same deadline true = inl refl
-  deadline_same deadline false =
-      inr (edit_same None (codes "deadline " ++ decimal deadline) (replanned s deadline s.network.base.constraints s.edits s.fresh))
+  deadline_same deadline false = inr (follows_same (replanned s (with_due (edited_network s) deadline)) (λ v. _))
 
   pub line_same : (o : Option Follow) → Refuses (on_line s o) ⊎ (on_line Other o ≡ recounted n (on_line s o))
   line_same None = inl refl

@@ -1,10 +1,9 @@
 -- A line that is refused changes nothing but the count of lines.
-use Rattle.std.proofs.Common.{ℕ, ℤ, ◌≡◌, Bool, true, false, List, [], ◌∷◌, ◌++◌, Option, Some, None, take, eqb, refl, sym, subst, ap, ◌∙◌}
-use Rattle.std.specs.Prelude.{nat_lt, slice_index_or, if◌then◌else◌, codes, decimal}
+use Rattle.std.proofs.Common.{ℕ, ◌≡◌, Bool, true, false, List, [], ◌∷◌, ◌++◌, Option, Some, None, take, eqb, refl, sym, subst, ap, ◌∙◌}
+use Rattle.std.specs.Prelude.{nat_lt, Result, Ok, Err, slice_index_or, if◌then◌else◌, codes, decimal}
 use Rattle.std.proofs.lemmas.Bool.{both_ways, eq-eqb}
 use Rattle.std.proofs.lemmas.Slice.Eq.{bytes_eq-Decides}
-use Rattle.cstn_label.specs.Labels.{Label}
-use Rattle.cstn_net.specs.Limits.{most_deadline}
+use Rattle.cstn_net.specs.Limits.{most_constraints, most_deadline}
 use Rattle.cstn_text.specs.Names.{number_of}
 use Rattle.cstn_check.specs.declared.verdicts.Verdict.{Verdict}
 use Rattle.cstn_check.specs.declared.verdicts.Verdict.TheVariants.{Yes, No, Full}
@@ -13,8 +12,11 @@ use Rattle.cstn_lines.specs.FollowLines.{Follow, follow_read, IsFollow, done_at,
 use Rattle.cstn_lines.proofs.FollowLemmas.{follow_is}
 use Rattle.cstn_reply.specs.Texts.{line}
 use Rattle.cstn_reply.specs.Sessions.{Turn, more, last, wrong}
+use Rattle.cstn_change.specs.Changes.{Change, adds, removes, revalues, Refusal, refusal, after}
+use Rattle.cstn_change.specs.ChangeLines.{addition, accepted_text}
+use Rattle.cstn_follow.specs.Replans.{with_due}
 use Rattle.cstn_follow.specs.Following.{Following, Heard, says, saves, verdict_now, verdict_within, on_verdict, follows, verdict_line}
-use Rattle.cstn_follow.specs.PlanLines.{add_refusal, remove_refusal, change_refusal, on_edit, on_ends, on_deadline, with_added, with_removed, with_changed, replanned}
+use Rattle.cstn_follow.specs.PlanLines.{edited_network, replanned, on_refusal, on_edit, on_deadline}
 use Rattle.cstn_follow.specs.Questions.{on_next, on_check}
 use Rattle.cstn_follow.specs.Searches.{on_by, on_blame}
 use Rattle.cstn_follow.specs.Hearing.{on_plan, on_other, on_line, counted, hear}
@@ -64,29 +66,30 @@ module _ (s : Following) where
       by_verdict None = λ refused. refl
       by_verdict (Some v) = λ refused. absurd (other v (refused_third (text v) refused))
 
-  edit_stays : (o : Option (List ℕ)) (text : List ℕ) (next : Following) → (third (line text) ≡ 102 → ⊥) → StaysRefused s (on_edit s o text next)
-  edit_stays (Some refusal) text next other = λ refused. refl
-  edit_stays None text next other = follows_stays next (λ v. line text) (λ v. other)
+  accepted_third : (change : Change) → third (line (accepted_text s.fresh change)) ≡ 102 → ⊥
+  accepted_third (adds x y most a) is = differs 100 refl is
+  accepted_third (removes id) is = differs 109 refl is
+  accepted_third (revalues id most) is = differs 97 refl is
 
-  ends_stays : (from to : List ℕ) (most : ℤ) (a : Label) (one two : Option ℕ) → StaysRefused s (on_ends s from to most a one two)
-  ends_stays from to most a None two = λ refused. refl
-  ends_stays from to most a (Some x) None = λ refused. refl
-  ends_stays from to most a (Some x) (Some y) =
-      edit_stays (add_refusal s.network.base s.edits most a) (codes "added " ++ decimal s.fresh) (with_added s x y most a) (λ is. differs 100 refl is)
+  change_stays : (change : Change) (o : Option Refusal) → StaysRefused s (on_refusal s change o)
+  change_stays change (Some why) = λ refused. refl
+  change_stays change None =
+      follows_stays (replanned s (after (edited_network s) change)) (λ v. line (accepted_text s.fresh change)) (λ v. accepted_third change)
+
+  edit_stays : (r : Result Change Refusal) → StaysRefused s (on_edit s r)
+  edit_stays (Ok change) = change_stays change (refusal most_constraints (edited_network s) change)
+  edit_stays (Err why) = λ refused. refl
 
   plan_stays : (edit : Edit) → StaysRefused s (on_plan s edit)
-  plan_stays (added from to most a) = ends_stays from to most a (number_of s.names from) (number_of s.names to)
-  plan_stays (removed id) = edit_stays (remove_refusal s.network.base s.edits id) (codes "removed " ++ decimal id) (with_removed s id)
-      (λ is. differs 109 refl is)
-  plan_stays (changed id most) =
-      edit_stays (change_refusal s.network.base s.edits id most) (codes "changed " ++ decimal id) (with_changed s id most)
-      (λ is. differs 97 refl is)
+  plan_stays (added from to most a) = edit_stays (addition s.names from to most a)
+  plan_stays (removed id) = edit_stays (Ok (removes id))
+  plan_stays (changed id most) = edit_stays (Ok (revalues id most))
   plan_stays asked = stays s (on_check s) (check_keeps s (verdict_now s))
 
   deadline_stays : (deadline : ℕ) (b : Bool) → StaysRefused s (if b then on_other s else on_deadline s deadline)
   deadline_stays deadline true = λ refused. refl
   deadline_stays deadline false =
-      follows_stays (replanned s deadline s.network.base.constraints s.edits s.fresh) (λ v. line (codes "deadline " ++ decimal deadline))
+      follows_stays (replanned s (with_due (edited_network s) deadline)) (λ v. line (codes "deadline " ++ decimal deadline))
       (λ v is. differs 97 refl is)
 
   fact_stays : (fact : Follow) → IsSound s → IsFact fact → IsFollow fact → StaysRefused s (on_line s (Some fact))

@@ -1,6 +1,6 @@
 -- What is answered to facts and questions in a session that follows, in the words of plans and histories.
 use Rattle.std.specs.Prelude.{ℕ, ◌≡◌, ◌<◌, ◌≤◌, ◌⊎◌, ◌↔◌, Bool, List, ◌++◌, Option, None, Some, codes}
-use Rattle.std.specs.List.{AllPairs, Contains}
+use Rattle.std.specs.List.{Contains}
 use Rattle.std.specs.List.Sorted.{IsStrictlyIncreasing}
 use Rattle.cstn_lift.specs.Labelled.{Labelled}
 use Rattle.cstn_lift.specs.Lowered.{lowered}
@@ -8,18 +8,19 @@ use Rattle.cstn_check.specs.Growth.{load_of}
 use Rattle.cstn_check.specs.declared.verdicts.Verdict.{Verdict}
 use Rattle.cstn_check.specs.declared.verdicts.Verdict.TheVariants.{Yes, No, Full}
 use Rattle.cstn_history.specs.Histories.{History}
-use Rattle.cstn_history.specs.Continuations.{Can, CanWait, IsNamed, IsAwaited, IsNext}
+use Rattle.cstn_history.specs.Continuations.{IsNamed, IsAwaited, IsNext}
 use Rattle.cstn_history.specs.Rest.{rest}
 use Rattle.cstn_next.specs.Next.{IsAllDone}
 use Rattle.cstn_lines.specs.FollowLines.{Follow}
 use Rattle.cstn_reply.specs.Texts.{line, full_line}
+use Rattle.cstn_follow.specs.Answers.{IsLatest, AreToBlame}
 use Rattle.cstn_follow.specs.Following.{Following, verdict_now, verdict_line}
 use Rattle.cstn_follow.specs.FactLines.{unknown_name}
 use Rattle.cstn_follow.specs.Hearing.{counted}
 use Rattle.cstn_follow.specs.Questions.{next_text}
 use Rattle.cstn_follow.specs.Searches.{by_refusal, by_line, ids_text}
 use Rattle.cstn_follow.specs.Waiting.{rest_until, waits_until}
-use Rattle.cstn_check.specs.Givers.{ids_of, is_of, but}
+use Rattle.cstn_check.specs.Givers.{ids_of}
 use Rattle.cstn_follow.specs.Blame.{alone, blamed}
 use Rattle.cstn_follow.specs.Recorded.{IsRecorded}
 use Rattle.cstn_follow.specs.Turns.{IsTrueOf}
@@ -55,11 +56,6 @@ AnswersNext s Full text = text ≡ verdict_line s.cap Full
 
 -- ---- until when
 
--- t is the last moment until which x can wait
-pub record IsLastOf (m : Labelled) (h : History) (x t : ℕ) : Type 0 where
-  pub can : CanWait m h x t
-  pub last : (u : ℕ) → CanWait m h x u → u ≤ t
-
 -- the search by halving tries x at some moment or later, and the log of what is left then has more entries than it may
 abbrev pub IsWaitFull : Following → ℕ → Type 0
 IsWaitFull s x =
@@ -69,7 +65,7 @@ IsWaitFull s x =
 -- after yes the text tells the last moment until which x can wait, or that a log is full; after no and full it is the line of the verdict
 abbrev pub AnswersWait : Following → ℕ → Verdict → List ℕ → Type 0
 AnswersWait s x (Yes load) text =
-    ((t : ℕ) × IsLastOf s.network s.history x t × (text ≡ by_line s.names t x)) ⊎ (IsWaitFull s x × (text ≡ full_line s.cap))
+    ((t : ℕ) × IsLatest s.network s.history x t × (text ≡ by_line s.names t x)) ⊎ (IsWaitFull s x × (text ≡ full_line s.cap))
 AnswersWait s x (No load) text = text ≡ verdict_line s.cap (No load)
 AnswersWait s x Full text = text ≡ verdict_line s.cap Full
 
@@ -85,13 +81,9 @@ AnswersBy s name (Some x) text = UnlessRefused s x (by_refusal s x (s.history.do
 
 -- ---- which constraints
 
--- These ids are to blame, in ascending order: by the constraints that have them alone no table continues what has happened, and by
--- these without any one of them some table does.
-pub record AreToBlame (m : Labelled) (h : History) (ids : List ℕ) : Type 0 where
-  pub own : (id : ℕ) → Contains ids id → Contains (ids_of m.base) id
-  pub ascending : AllPairs (λ a b. a < b) ids
-  pub cannot : Can (alone m (is_of ids)) h → ⊥
-  pub needed : (id : ℕ) → Contains ids id → Can (alone m (but id (is_of ids))) h
+-- each id is one of a constraint
+abbrev pub AreOwn : Labelled → List ℕ → Type 0
+AreOwn m ids = (id : ℕ) → Contains ids id → Contains (ids_of m.base) id
 
 -- the search that leaves out one id after the other tries some of the constraints alone, and the log of what is left by them has more
 -- entries than it may
@@ -104,5 +96,5 @@ IsBlameFull s =
 abbrev pub AnswersBlame : Following → Verdict → List ℕ → Type 0
 AnswersBlame s (Yes load) text = text ≡ verdict_line s.cap (Yes load)
 AnswersBlame s (No load) text =
-    ((ids : List ℕ) × AreToBlame s.network s.history ids × (text ≡ line (codes "blame" ++ ids_text ids))) ⊎ (IsBlameFull s × (text ≡ full_line s.cap))
+    ((ids : List ℕ) × AreToBlame s.network s.history ids × AreOwn s.network ids × (text ≡ line (codes "blame" ++ ids_text ids))) ⊎ (IsBlameFull s × (text ≡ full_line s.cap))
 AnswersBlame s Full text = text ≡ verdict_line s.cap Full

@@ -1,36 +1,18 @@
 -- What edits make of the plan, and facts of what has happened.
 use Rattle.std.specs.Prelude.{ℕ, ◌≡◌, ◌<◌, List, [], ◌∷◌, ◌++◌, Option, None, Some, Result, Ok, Err, codes, decimal}
 use Rattle.std.specs.List.{All}
-use Rattle.cstn_net.specs.Networks.{Constraint}
-use Rattle.cstn_lift.specs.Labelled.{Labelled}
-use Rattle.cstn_change.specs.Changes.{Change, removes, revalues, Refusal, constraints_after, fresh_after}
+use Rattle.cstn_net.specs.Networks.{Network, Constraint}
+use Rattle.cstn_change.specs.Changes.{EditedNetwork, Change, removes, revalues, Refusal, after}
 use Rattle.cstn_change.specs.ChangeLines.{addition, accepted_text}
-use Rattle.cstn_history.specs.Histories.{History, edited}
+use Rattle.cstn_history.specs.Histories.{History}
 use Rattle.cstn_lines.specs.EditLines.{Edit, added, removed, changed, asked}
 use Rattle.cstn_lines.specs.FollowLines.{Follow, follow_read, done_at, came_at, now_at, awaited_at, edits, ends_by, asks_next, asks_by, asks_blame, asks_rest}
 use Rattle.cstn_reply.specs.Texts.{line}
 use Rattle.cstn_follow.specs.Following.{Following}
+use Rattle.cstn_follow.specs.Hearing.{counted}
+use Rattle.cstn_follow.specs.PlanLines.{edited_network, replanned}
 use Rattle.cstn_follow.specs.Recorded.{IsRecorded}
-
--- a labelled network, and an id above all that were ever used
-pub record Plan : Type 0 where
-  pub network : Labelled
-  pub fresh : ℕ
-
--- the plan of a session
-abbrev pub plan_of : Following → Plan
-plan_of s = record { network = s.network; fresh = s.fresh }
-
--- the plan after a change, where a constraint that is added gets the id `fresh`
-abbrev pub changed_plan : Plan → Change → Plan
-changed_plan p change = record {
-  network = edited p.network p.network.base.deadline (constraints_after p.network.base.constraints p.fresh change);
-  fresh = fresh_after p.fresh change;
-}
-
--- the plan with another deadline
-abbrev pub plan_by : Plan → ℕ → Plan
-plan_by p deadline = record { network = edited p.network deadline p.network.base.constraints; fresh = p.fresh }
+use Rattle.cstn_follow.specs.Replans.{with_due}
 
 -- the change that an edit says, by the names of the time-points
 abbrev pub change_if : Result Change Refusal → Option Change
@@ -43,29 +25,29 @@ change_said names (removed id) = Some (removes id)
 change_said names (changed id most) = Some (revalues id most)
 change_said names asked = None
 
--- the plan after this change, if there is one
-abbrev pub plan_if : Plan → Option Change → Plan
-plan_if p (Some change) = changed_plan p change
-plan_if p None = p
+-- the network after this change, if there is one
+abbrev pub after_if : EditedNetwork → Option Change → EditedNetwork
+after_if e (Some change) = after e change
+after_if e None = e
 
--- what a line that is accepted makes of the plan: edits and deadlines change it
-abbrev pub plan_told : List (List ℕ) → Plan → Option Follow → Plan
-plan_told names p (Some (edits edit)) = plan_if p (change_said names edit)
-plan_told names p (Some (ends_by deadline)) = plan_by p deadline
-plan_told names p (Some (done_at t given)) = p
-plan_told names p (Some (came_at t q value)) = p
-plan_told names p (Some (now_at t)) = p
-plan_told names p (Some (awaited_at t q)) = p
-plan_told names p (Some asks_next) = p
-plan_told names p (Some (asks_by name)) = p
-plan_told names p (Some asks_blame) = p
-plan_told names p (Some asks_rest) = p
-plan_told names p None = p
+-- what a line that is accepted makes of the network: edits and deadlines change it, and a deadline counts no edit
+abbrev pub plan_told : List (List ℕ) → EditedNetwork → Option Follow → EditedNetwork
+plan_told names e (Some (edits edit)) = after_if e (change_said names edit)
+plan_told names e (Some (ends_by deadline)) = with_due e deadline
+plan_told names e (Some (done_at t given)) = e
+plan_told names e (Some (came_at t q value)) = e
+plan_told names e (Some (now_at t)) = e
+plan_told names e (Some (awaited_at t q)) = e
+plan_told names e (Some asks_next) = e
+plan_told names e (Some (asks_by name)) = e
+plan_told names e (Some asks_blame) = e
+plan_told names e (Some asks_rest) = e
+plan_told names e None = e
 
--- what lines that are accepted make of the plan, one after the other
-abbrev pub plan_by_lines : List (List ℕ) → Plan → List (List ℕ) → Plan
-plan_by_lines names p [] = p
-plan_by_lines names p (first ∷ lines) = plan_by_lines names (plan_told names p (follow_read first)) lines
+-- what lines that are accepted make of it, one after the other
+abbrev pub plan_by_lines : List (List ℕ) → EditedNetwork → List (List ℕ) → EditedNetwork
+plan_by_lines names e [] = e
+plan_by_lines names e (first ∷ lines) = plan_by_lines names (plan_told names e (follow_read first)) lines
 
 -- what a line that is accepted makes of what has happened: facts are recorded
 abbrev pub IsHistoryTold : List (List ℕ) → History → Option Follow → History → Type 0
@@ -115,14 +97,11 @@ IsAcceptedText names fresh (asks_by name) text = ⊥
 IsAcceptedText names fresh asks_blame text = ⊥
 IsAcceptedText names fresh asks_rest text = ⊥
 
--- the plan is the one edited, and nothing else changes but the counts of lines and of edits; the text says so
+-- the network is the one edited, and nothing else changes but the count of lines; the text says so
 pub record Edits (s : Following) (edit : Follow) (text : List ℕ) (next : Following) : Type 0 where
-  pub plan : plan_of next ≡ plan_told s.names (plan_of s) (Some edit)
-  pub history : next.history ≡ s.history
-  pub names : next.names ≡ s.names
-  pub cap : next.cap ≡ s.cap
+  pub next_is : next ≡ replanned (counted s) (plan_told s.names (edited_network s) (Some edit))
   pub text_is : IsAcceptedText s.names s.fresh edit text
 
--- no constraint of the plan has this id or a later one
-abbrev pub IsNew : Plan → ℕ → Type 0
-IsNew p id = All (λ (c : Constraint). c.id < id) p.network.base.constraints
+-- no constraint of the network has this id or a later one
+abbrev pub IsNew : Network → ℕ → Type 0
+IsNew net id = All (λ (c : Constraint). c.id < id) net.constraints

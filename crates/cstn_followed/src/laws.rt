@@ -8,6 +8,7 @@ ghost use Rattle.cstn_text.specs.Names.{number_of};
 ghost use Rattle.cstn_lift.specs.Labelled.{Labelled};
 ghost use Rattle.cstn_lift.specs.Lowered.{lowered};
 ghost use Rattle.cstn_lift.specs.WellFormed.{IsLabelled};
+ghost use Rattle.cstn_change.specs.Changes.{unedited};
 ghost use Rattle.cstn_history.specs.Histories.{AgreesWith, nothing_yet};
 ghost use Rattle.cstn_history.specs.Continuations.{Can};
 ghost use Rattle.cstn_next.specs.Next.{IsAllDone};
@@ -18,6 +19,7 @@ ghost use Rattle.cstn_reply.specs.Sessions.{more};
 ghost use Rattle.cstn_reply.specs.Reached.{state_after};
 ghost use Rattle.cstn_follow.specs.Following.{Following, begun, verdict_now, is_any_open, following_ending};
 ghost use Rattle.cstn_follow.specs.Hearing.{counted};
+ghost use Rattle.cstn_follow.specs.PlanLines.{edited_network};
 ghost use Rattle.cstn_follow.specs.Recorded.{IsFact};
 ghost use Rattle.cstn_follow.specs.Turns.{IsTrueOf};
 ghost use Rattle.cstn_followed.specs.Sessions.{IsReached, follow_turn};
@@ -26,7 +28,7 @@ ghost use Rattle.cstn_followed.specs.Plans.{IsRefusedBy, KeepToNext, KeepGoing};
 ghost use Rattle.cstn_followed.specs.Finished.{IsCarriedOut, AreAlike};
 ghost use Rattle.cstn_followed.specs.Journal.{is_refusal, texts_of, accepted_of, with_cap, AreAccepted, AreSameButCount, AreSameUnlessFull};
 ghost use Rattle.cstn_followed.specs.Order.{AllTellPast, IsHistoryOf, TellTheSame};
-ghost use Rattle.cstn_followed.specs.Edits.{plan_of, plan_by_lines, IsHistoryByLines, IsEditLine, Edits, IsNew};
+ghost use Rattle.cstn_followed.specs.Edits.{plan_by_lines, IsHistoryByLines, IsEditLine, Edits, IsNew};
 ghost use Rattle.cstn_followed.specs.End.{count_left, AreTurns};
 ghost use Rattle.cstn_check.specs.declared.verdicts.Verdict.TheVariants.{Full};
 
@@ -129,18 +131,21 @@ pub fn followed_plans_end()
         → (following_ending s ≡ say Good (codes "done")) ⊎ (verdict_now s ≡ Full) }
 {}
 
-/// An edit or a deadline is refused, with nothing changed but the count of lines, or the plan is the one edited by it, and nothing else
-/// changes but the counts of lines and of edits. So over all lines the plan is the one at the start as edited by the accepted edits, in
-/// their order, and what has happened is what the accepted facts say. The id of a constraint that is added was never used before: it is
-/// above all ids of each plan that the session had.
+/// An edit or a deadline is refused, with nothing changed but the count of lines, or the network is the one edited by it, and nothing
+/// else changes but the count of lines; an edit is counted, and a deadline isn't. So over all lines the network is the one at the start
+/// as edited by the accepted edits, in their order, with their count, and what has happened is what the accepted facts say. The id of a
+/// constraint that is added was never used before: it is above all ids of each network that the session had.
 pub fn edits_change_the_plan_alone()
     ensures answers { (s next : Following) (bytes text : List ℕ) (edit : Follow) → IsReached s → follow_read bytes ≡ Some edit → IsEditLine edit
         → follow_turn s bytes ≡ more text next → IsRefusedBy s text next ⊎ Edits s edit text next }
     ensures new { (earlier s : Following) (k : ℕ) (lines : List (List ℕ)) → IsReached earlier → state_after follow_turn earlier k lines ≡ Some s
-        → IsNew (plan_of earlier) s.fresh }
+        → IsNew earlier.network.base s.fresh }
     ensures plan { (cap : ℕ) (names : List (List ℕ)) (m : Labelled) (lines : List (List ℕ)) (s : Following) → IsLabelled m
         → length (lowered m).constraints ≤ most_constraints → length names ≡ count m.base → state_after follow_turn (begun cap names m) 0 lines ≡ Some s
-        → plan_of s ≡ plan_by_lines names (plan_of (begun cap names m)) (accepted_of (begun cap names m) lines) }
+        → edited_network s ≡ plan_by_lines names (unedited m.base) (accepted_of (begun cap names m) lines) }
+    ensures labels { (cap : ℕ) (names : List (List ℕ)) (m : Labelled) (lines : List (List ℕ)) (s : Following) → IsLabelled m
+        → length (lowered m).constraints ≤ most_constraints → length names ≡ count m.base → state_after follow_turn (begun cap names m) 0 lines ≡ Some s
+        → s.network.labels ≡ m.labels }
     ensures history { (cap : ℕ) (names : List (List ℕ)) (m : Labelled) (lines : List (List ℕ)) (s : Following) → IsLabelled m
         → length (lowered m).constraints ≤ most_constraints → length names ≡ count m.base → state_after follow_turn (begun cap names m) 0 lines ≡ Some s
         → IsHistoryByLines names nothing_yet (accepted_of (begun cap names m) lines) s.history }
