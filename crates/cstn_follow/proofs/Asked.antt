@@ -1,8 +1,8 @@
 -- What is said where it is asked why, and the names of what is left.
 use Rattle.std.proofs.Common.{ℕ, suc, ◌≡◌, ◌+◌, ◌≤◌, Bool, true, false, List, [], ◌∷◌, ◌++◌, Option, length, arith, refl, ap, sym, ◌∙◌}
 use Rattle.std.specs.Prelude.{map, nat_lt, if◌then◌else◌, codes}
-use Rattle.std.proofs.lemmas.List.{map-append, length-append}
-use Rattle.cstn_net.specs.Networks.{Network}
+use Rattle.std.proofs.lemmas.List.{map-append, length-append, length-map}
+use Rattle.cstn_net.specs.Networks.{Network, count}
 use Rattle.cstn_rules.specs.Derivations.{Entry}
 use Rattle.cstn_log.specs.Cuts.{part}
 use Rattle.cstn_refute.specs.Texts.{shown}
@@ -14,7 +14,7 @@ use Rattle.cstn_check.specs.Decisions.{verdict}
 use Rattle.cstn_check.specs.declared.verdicts.Verdict.{Verdict}
 use Rattle.cstn_check.specs.declared.verdicts.Verdict.TheVariants.{Yes, No, Full}
 use Rattle.cstn_history.specs.Histories.{History}
-use Rattle.cstn_history.specs.Rest.{is_left, left_upto}
+use Rattle.cstn_history.specs.Rest.{is_left, left, left_upto, sight_left}
 use Rattle.cstn_history.proofs.Lists.{passing_next}
 use Rattle.cstn_follow.specs.Following.{Following, says, left_now, name_at, names_left, verdict_now, verdict_line}
 use Rattle.cstn_follow.specs.Blame.{blamed}
@@ -46,6 +46,10 @@ names_few old new name x b few is =
     one_more : (t : Bool) → length (if t then name ∷ [] else []) ≤ 1
     one_more true = omega arith
     one_more false = omega arith
+
+-- each time-point that is left has a name
+pub names_long : (s : Following) → length (names_left s) ≡ count (left_now s).base
+names_long s = length-map (left s.network s.history) (name_at s.names) ∙ sym (length-map (left s.network s.history) (sight_left s.network s.history))
 
 -- after a no the load is that of the network
 pub no_load : (cap load : ℕ) (net : Network) → verdict cap net ≡ No load → load ≡ load_of net

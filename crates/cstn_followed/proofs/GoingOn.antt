@@ -2,7 +2,6 @@
 use Rattle.std.proofs.Common.{ℕ, ◌≡◌, ◌<◌, ◌≤◌, Bool, true, false, List, [], ◌∷◌, ◌++◌, length, Option, Some, None, arith, refl, sym, subst, ap, ◌∙◌, inl, inr}
 use Rattle.std.specs.Prelude.{◌⊎◌, Result, Ok, Err, if◌then◌else◌, codes}
 use Rattle.std.specs.List.{All}
-use Rattle.std.specs.Option.{option_map}
 use Rattle.std.proofs.lemmas.Bool.{cases_eq}
 use Rattle.std.proofs.lemmas.List.Elements.{All-head, All-tail, All-weaker}
 use Rattle.cstn_label.specs.declared.nodes.NodeId.{NodeId}
@@ -27,7 +26,7 @@ use Rattle.cstn_lines.proofs.FollowLemmas.{follow_is}
 use Rattle.cstn_reply.specs.Texts.{line, full_line}
 use Rattle.cstn_reply.specs.Reached.{state_after}
 use Rattle.cstn_follow.specs.Following.{Following, Heard, says, saves, begun, verdict_now, verdict_within, on_verdict, verdict_line}
-use Rattle.cstn_follow.specs.FactLines.{records, refuses, refused_fact, unless_refused, all_done, on_result, on_known, on_did, nodes_of, unknown_of, on_fact, on_now, on_saw}
+use Rattle.cstn_follow.specs.FactLines.{records, refuses, unless_refused, all_done, on_result, on_known, on_did, nodes_of, unknown_of, on_fact, on_now, on_saw}
 use Rattle.cstn_follow.specs.Hearing.{on_line, counted, hear}
 use Rattle.cstn_follow.specs.Progress.{HasRoomLeft, IsQuietUpto}
 use Rattle.cstn_follow.proofs.Going.{least_table, goes_on}

@@ -10,11 +10,11 @@ use crate::printing::{print_blame, print_event, print_latest, print_outlook};
 use anyhow::bail;
 use cstn_change::Change;
 use cstn_check::Verdict;
+use cstn_follow::{Outlook, Session};
 use cstn_label::NodeId;
 use cstn_lift::Labelled;
 use cstn_log::Cap;
 use cstn_net::{MAX_DEADLINE, Network};
-use cstn_follow::{Outlook, Session};
 use cstn_text::Names;
 use std::alloc::Global;
 

@@ -1,7 +1,7 @@
 use crate::events::Event;
+use cstn_follow::{Latest, Outlook, ToBlame};
 use cstn_label::{NodeId, Prop};
 use cstn_next::NextMoment;
-use cstn_follow::{Latest, Outlook, ToBlame};
 use cstn_text::Names;
 use std::io;
 

@@ -1,7 +1,6 @@
 // Questions to a session.
-ghost use Rattle.std.specs.Prelude.{◌≡◌, ◌<◌, ◌≤◌, ◌↔◌, None, IfOk, IfSome, IfNone, IsTrue};
-ghost use Rattle.std.specs.List.{All};
-ghost use Rattle.cstn_net.specs.Networks.{count};
+ghost use Rattle.std.specs.Prelude.{◌≡◌, None, IfOk, IfSome, IfNone};
+ghost use Rattle.std.specs.Option.{option_map};
 ghost use Rattle.cstn_net.specs.Read.{the_network};
 ghost use Rattle.cstn_lift.specs.Lowered.{lowered};
 ghost use Rattle.cstn_lift.specs.Read.{the_labelled};

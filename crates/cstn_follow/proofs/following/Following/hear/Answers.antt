@@ -6,12 +6,12 @@ use Rattle.cstn_follow.proofs.following.Following.hear.Goals as goal
 
 pub returns-in-Some-clause-names : goal.returns-in-Some-clause-names
 returns-in-Some-clause-names c =
-    heard_names c.args.self.now c.count_line.new.self c.answer.new.self (Some (the_follow c.in-Some.line)) c.answer.result c.count_line.ensures.following
+    heard_names c.args.self.now c.count_line.new.self c.answer.new.self (Some (the_follow c.in-Some.line)) c.answer.result c.is_in_order.ensures.following
     c.count_line.ensures.counted c.answer.ensures.same c.answer.ensures.heard
 
 pub returns-in-Some-clause-said : goal.returns-in-Some-clause-said
 returns-in-Some-clause-said c =
-    heard_said c.args.self.now c.count_line.new.self c.answer.new.self (Some (the_follow c.in-Some.line)) c.answer.result c.count_line.ensures.following
+    heard_said c.args.self.now c.count_line.new.self c.answer.new.self (Some (the_follow c.in-Some.line)) c.answer.result c.is_in_order.ensures.following
     c.count_line.ensures.counted c.answer.ensures.heard
 
 pub returns-in_ok-other-in-None-clause-said : goal.returns-in_ok-other-in-None-clause-said

@@ -17,7 +17,7 @@ returns c =
     let session = c.in_ok-session.ensures in
     let s = c.in_ok-session.session in
     let made : LabelledParts → History → ℕ → ℕ → ℕ → Following = λ l h cap edits fresh.
-        record { network = the_labelled l; names = c.args.names; history = h; cap = cap; edits = edits; fresh = fresh; lines = 0 } in
+    record { network = the_labelled l; names = c.args.names; history = h; cap = cap; edits = edits; fresh = fresh; lines = 0 } in
     record {
       start = ap (λ l. made l (the_history s.history) s.cap s.edits s.fresh) session.network
           ∙ ap (λ h. made c.args.network h s.cap s.edits s.fresh) session.nothing
