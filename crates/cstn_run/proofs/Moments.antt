@@ -1,7 +1,7 @@
 -- Which time-points are named after a moment that a guide accepts.
 use Rattle.std.proofs.Common.{ℕ, ◌≡◌, ◌⊎◌, inl, inr, ◌<◌, false, List, length, Some, None, arith, sym, ◌∙◌}
 use Rattle.std.specs.List.{Contains}
-use Rattle.std.proofs.lemmas.Bool.{cases_Bool, cond-true, cond-false, both_ways}
+use Rattle.std.proofs.lemmas.Bool.{cases_Bool, cond-false, both_ways}
 use Rattle.cstn_facts.proofs.Options.{some_or_none}
 use Rattle.cstn_facts.proofs.Places.{get_or_repeated, some_within}
 use Rattle.cstn_label.specs.Bounds.{Bound}

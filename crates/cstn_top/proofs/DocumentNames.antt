@@ -1,5 +1,5 @@
 -- The names of a document's time-points are names: different texts of 1 to 64 bytes.
-use Rattle.std.proofs.Common.{◌≡◌, ◌≢◌, ℕ, zero, suc, ◌<◌, ◌^◌, Bool, true, false, List, [], ◌∷◌, ◌++◌, length, map, refl, ap, sym, ◌∙◌, subst, arith, Option, Some, None, Result, Ok}
+use Rattle.std.proofs.Common.{◌≡◌, ◌≢◌, ℕ, zero, suc, ◌<◌, ◌^◌, Bool, true, false, List, [], ◌∷◌, ◌++◌, length, map, refl, ap, sym, ◌∙◌, subst, arith, Option, Some, None, Ok}
 use Rattle.std.specs.Prelude.{if◌then◌else◌, is_some, codes, not, nat_lt, nat_le, ◌&&◌}
 use Rattle.std.specs.List.{All, AllPairs, AllByRecursion, Contains, list_any}
 use Rattle.std.specs.Str.{IsAscii, IsUtf8, is_utf8}
@@ -23,7 +23,7 @@ use Rattle.cstn_element.specs.Results.{Refusal, ◌>>=◌, or_refused, demand}
 use Rattle.cstn_element.specs.Results.Refusal.{shape, bad_value, unknown_node, name_twice, label_text, no_deadline}
 use Rattle.cstn_element.specs.Contents.{Tag, Content, inner, outer, opened, closed_by, contents_by, contents, content_of}
 use Rattle.cstn_element.specs.Contents.Content.{done, cut, run, element}
-use Rattle.cstn_element.specs.Elements.{Reading, read_by, Datum, blank, passed, datum, data_of, datum_of, attribute, read_of, read_option, or_no_bytes}
+use Rattle.cstn_element.specs.Elements.{Reading, read_by, Datum, passed, datum, data_of, datum_of, attribute, read_of, read_option, or_no_bytes}
 use Rattle.cstn_graphml.specs.DrawnGraph.{Observation, observation, DrawnGraph, empty_graph, origin_name, node_of, with_node, with_constraint, with_deadline}
 use Rattle.cstn_graphml.specs.Judged.{judged_node, judged_edge, judged_deadline, with_pair, with_pairs, with_values, with_edge, is_kept, observed, reacting, labelled}
 use Rattle.cstn_graphml.specs.Document.{Parts, Part, graph_child, graph_reading, in_graph, root_child, root_reading, in_root, document_child, document_reading, in_document, part_of, drawn_parts, or_nothing, first_of_two, is_text, document}

@@ -1,16 +1,14 @@
 -- What an edit session says after no is accepted by a replay on the network as edited.
-use Rattle.std.proofs.Common.{◌≡◌, ℕ, ◌+◌, ◌-◌, ◌≤◌, ◌<◌, ◌^◌, Bool, true, false, List, [], ◌∷◌, length, get_or, Some, refl, sym, ap, subst, inl, inr, arith}
-use Rattle.std.specs.Prelude.{ℤ, nat_lt, nat_le, Result, Ok, Err, if◌then◌else◌, codes, pos, ◌≤ℤ◌, slice_get, Option, None}
+use Rattle.std.proofs.Common.{◌≡◌, ℕ, ◌+◌, ◌-◌, ◌≤◌, ◌<◌, ◌^◌, Bool, true, false, List, [], ◌∷◌, length, get_or, Some, refl, sym, ap, subst, arith}
+use Rattle.std.specs.Prelude.{ℤ, nat_le, Result, Ok, Err, if◌then◌else◌, pos, ◌≤ℤ◌, slice_get, Option, None}
 use Rattle.std.specs.List.{All}
 use Rattle.std.proofs.lemmas.Int.{ints}
 use Rattle.std.proofs.lemmas.Bool.{leb-false}
 use Rattle.std.proofs.lemmas.List.Elements.{All-contains}
 use Rattle.std.proofs.lemmas.Option.{slice_get_within, slice_get-get_or}
 use Rattle.cstn_label.specs.Bounds.{Bound}
-use Rattle.cstn_label.specs.Labels.{Label}
 use Rattle.cstn_net.specs.Limits.{most_load, most_edits, most_constraints}
 use Rattle.cstn_net.specs.Networks.{Network, Constraint, IsWellFormed, IsOnObserved, count, limit}
-use Rattle.cstn_text.specs.Limits.{most_text}
 use Rattle.cstn_net.proofs.Kept.{limit_in_time}
 use Rattle.cstn_rules.specs.declared.entries.Why.{Why}
 use Rattle.cstn_rules.specs.declared.entries.Why.TheVariants.{Base, Chain, Wait}
@@ -26,11 +24,8 @@ use Rattle.cstn_refute.specs.Texts.{Told, tells, told, shown}
 use Rattle.cstn_save.proofs.LawLemmas.{letters_alone}
 use Rattle.cstn_refute.specs.Written.{ArePlaces, IsPrintableStep, AreWritten}
 use Rattle.cstn_lines.specs.EditLines.{Edit, added, removed, changed, asked, edit_read}
-use Rattle.cstn_reply.specs.Texts.{say}
-use Rattle.cstn_top.specs.Plans.{Plan, replays, IsOutput}
 use Rattle.cstn_top.specs.commands.Replay.{replayed_steps, replayed}
 use Rattle.cstn_top.specs.Accepted.{IsAccepted, IsNoText, HasIds}
-use Rattle.cstn_reply.specs.declared.output.Outcome.TheVariants.{Good}
 use Rattle.cstn_change.specs.Changes.{EditedNetwork, Change, adds, removes, revalues, Refusal, EditLimit, unedited, refusal, after, if_accepted}
 use Rattle.cstn_change.specs.ChangeLines.{addition, after_change, after_edit, after_lines}
 use Rattle.cstn_change.proofs.IdLemmas.{above_small, one_id}

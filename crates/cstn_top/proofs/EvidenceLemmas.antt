@@ -11,7 +11,7 @@ use Rattle.cstn_check.proofs.Fewer.{some_well_formed}
 use Rattle.cstn_conflict.specs.Conflicts.{conflict_set}
 use Rattle.cstn_conflict.proofs.ConflictLemmas.{inconsistent, needed}
 use Rattle.cstn_tight.specs.Deadlines.{at_deadline, least_deadline}
-use Rattle.cstn_tight.proofs.LeastLemmas.{good_at_deadline, IsRefuted, IsFound, found}
+use Rattle.cstn_tight.proofs.LeastLemmas.{IsRefuted, IsFound, found}
 use Rattle.cstn_top.specs.Verdicts.{IsListed, IsRefutedByLog}
 use Rattle.cstn_top.specs.commands.Tight.{IsTight}
 use Rattle.cstn_top.specs.commands.Conflict.{IsConflict}

@@ -6,7 +6,6 @@ use Rattle.std.proofs.lemmas.Int.{ints}
 use Rattle.std.proofs.lemmas.List.Elements.{All-nil, All-cons, All-contains, Contains-get_or}
 use Rattle.std.proofs.lemmas.Option.{slice_get_within, slice_get-get_or}
 use Rattle.cstn_label.specs.Bounds.{Bound}
-use Rattle.cstn_label.specs.Labels.{Label}
 use Rattle.cstn_net.specs.Limits.{most_constraints, most_load}
 use Rattle.cstn_net.specs.Networks.{Network, Constraint, IsWellFormed, IsOnObserved, count, limit}
 use Rattle.cstn_net.specs.Strategies.{IsConsistent}

@@ -15,7 +15,7 @@ use Rattle.cstn_run.specs.hosted.Calls.{AskFile, AskNamed, Pass, FileIs, Told, D
 use Rattle.cstn_run.specs.hosted.Read.{the_denial}
 use Rattle.cstn_exec.specs.Running.{spaced, seen_text, due_text}
 use Rattle.cstn_run.specs.hosted.Sessions.{File, Case, HostSession, case_of, case_next, with_id, done_lines, told_text, names_in, due_in, said, session_after}
-use Rattle.cstn_run.specs.hosted.SessionRead.{HostSessionParts, the_files, the_case, the_host_session}
+use Rattle.cstn_run.specs.hosted.SessionRead.{HostSessionParts, the_case, the_host_session}
 use Rattle.cstn_run.proofs.hosts.PutLines.{nothing_after}
 use Rattle.cstn_run.proofs.hosts.Same.{case_same, file_same, files, said_told}
 
