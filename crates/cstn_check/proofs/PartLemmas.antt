@@ -21,6 +21,7 @@ use Rattle.cstn_check.specs.Growth.{log_of}
 use Rattle.cstn_check.specs.Kept.{IsKept, IsRanged}
 use Rattle.cstn_check.specs.Turns.{LastRefutes}
 use Rattle.cstn_check.proofs.Decides.{log_derived}
+use Rattle.cstn_check.proofs.FloorLemmas.{limit_in_time}
 use Rattle.cstn_check.proofs.GoodLemmas.{good_at}
 use Rattle.cstn_log.proofs.StepLemmas.{entry_read}
 
@@ -44,13 +45,9 @@ part_text net list r refuting load is few =
     record { load_low = omega arith; load_high = omega arith; few = omega arith }
 
 module _ (net : Network) (good : IsWellFormed net) (list : List Entry) (kept : IsKept net list) where
-  limit_in_time : (x : ℕ) → limit net x ≤ most_deadline
-  limit_in_time zero = omega arith
-  limit_in_time (suc x) = good.in_time
-
   ranged_step : (e : DeclaredEntry) → IsRanged net (the_entry e).bound → IsStep e
   ranged_step e r =
-      let most = limit_in_time e.bound.node.0 in
+      let most = limit_in_time net good e.bound.node.0 in
       let low = r.low in
       let high = r.high in
       record { low = low; high = omega (arith, ints) }
