@@ -1,5 +1,4 @@
-use Rattle.std.proofs.Common.{ℕ, ◌≡◌, ◌≤◌, false, length}
-use Rattle.std.specs.Prelude.{vec_capacity}
+use Rattle.std.proofs.Common.{ℕ, ◌≡◌, false, length}
 use Rattle.cstn_log.specs.Agendas.{has_place}
 use Rattle.cstn_log.proofs.agenda.empty_blocks.Given as goal
 

@@ -1,8 +1,8 @@
-use Rattle.std.proofs.Common.{ℕ, ◌≡◌, ◌+◌, ◌*◌, ◌<◌, true, false, List, length, refl, sym, ap, ◌∙◌}
+use Rattle.std.proofs.Common.{ℕ, ◌≡◌, ◌+◌, ◌*◌, false, refl, sym, ap, ◌∙◌}
 use Rattle.std.specs.Prelude.{slice_set}
 use Rattle.std.proofs.lemmas.Bool.{false≢true}
 use Rattle.cstn_log.specs.Blocks.{has_number}
-use Rattle.cstn_log.specs.Agendas.{has_place, block_at}
+use Rattle.cstn_log.specs.Agendas.{has_place}
 use Rattle.cstn_log.proofs.AgendaLemmas.{block_here, block_read, block_reread, some_inside, place_of, places_stay, none_below, used_on}
 use Rattle.cstn_log.proofs.agenda.Agenda.take_first.Goals.{in-None, in_default-first}
 use Rattle.cstn_log.proofs.agenda.Agenda.take_first.Goals as goal

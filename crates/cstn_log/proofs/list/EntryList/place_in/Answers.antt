@@ -1,7 +1,6 @@
-use Rattle.std.proofs.Common.{◌≡◌, ◌<◌, ◌∙◌, ℕ, Some, length, get_or, arith, sym, subst}
+use Rattle.std.proofs.Common.{◌≡◌, ◌∙◌, Some, arith, sym, subst}
 use Rattle.std.specs.Prelude.{slice_get}
 use Rattle.std.proofs.lemmas.Grind.{get_or_default_zero}
-use Rattle.cstn_log.specs.Kept.{IsIdAt}
 use Rattle.cstn_log.specs.Lists.{Listing}
 use Rattle.cstn_log.proofs.ListedLemmas.{id_filed}
 use Rattle.cstn_log.proofs.list.EntryList.place_in.Goals as goal

@@ -1,5 +1,6 @@
-use Rattle.std.proofs.Common.{ℕ, ◌≡◌, ◌⊎◌, ◌<◌, ◌≤◌, ◌*◌, ◌∙◌, true, List, length, arith, refl, sym, subst, ap}
+use Rattle.std.proofs.Common.{ℕ, ◌≡◌, ◌<◌, ◌≤◌, true, length, arith, sym, subst, rules, SFits, w32}
 use Rattle.std.specs.Prelude.{Some, slice_get}
+use Rattle.std.proofs.lemmas.Int.{to_z-of_z}
 use Rattle.std.proofs.lemmas.List.Elements.{All-weaker}
 use Rattle.cstn_label.specs.declared.bounds.Bound.{Bound}
 use Rattle.cstn_rules.specs.declared.entries.Entry.{Entry}
@@ -16,10 +17,12 @@ slots_above-requires c = record { room = omega (arith, c.self.invariant.kept.roo
 pub put_down-requires-clause-held : goal.put_down-requires-clause-held
 put_down-requires-clause-held c =
     let table = c.self.inside.minimal.table in
+    let fits : SFits w32 c.args.floor = search rules in
     rw c.deref.ensures.value
     (All-weaker (λ s. (e : ℕ × Bound) × IsPlaced table s e × IsSoughtAbove c.args.x.0 c.args.floor c.args.marking e.1)
     (λ s. (birth : ℕ) × (k : ℕ) × IsIdAt c.self.inside.list.ids s birth k)
-    (λ s from. let f = c.self.invariant.kept.tabled.placed s from.0 from.1 in (from.0.0, f.0, f.2)) c.slots_above.new.found.items c.slots_above.ensures.only)
+    (λ s from. let f = c.self.invariant.kept.tabled.placed s from.0 from.1 in (from.0.0, f.0, f.2)) c.slots_above.new.found.items
+    (rw (to_z-of_z w32 c.args.floor fits) at c.slots_above.ensures.only))
 
 pub put_down-requires-clause-room : goal.put_down-requires-clause-room
 put_down-requires-clause-room c =
@@ -44,9 +47,11 @@ invariant_of-self c =
 
 pub returns-clause-added : goal.returns-clause-added
 returns-clause-added c =
+    let fits : SFits w32 c.args.floor = search rules in
+    let all = rw (to_z-of_z w32 c.args.floor fits) at c.slots_above.ensures.all in
     subst (λ (v : State). (k : ℕ) (e : Entry) → slice_get v.entries k ≡ Some e → IsLive v.entries k → k ≤ c.args.upto
     → IsSoughtAbove c.args.x.0 c.args.floor c.args.marking e.bound → has_place c.put_down.new.agenda k ≡ true) c.self.view_is
     (λ k e there live low sought.
     let placed = placed_live _ _ _ _ _ _ k e c.self.invariant.kept there live in
     c.put_down.ensures.added placed.0.slot placed.0.birth k
-    (rw c.deref.ensures.value (c.slots_above.ensures.all placed.0.slot (placed.0.birth, e.bound) placed.2 sought)) (record { there = placed.1 }) low)
+    (rw c.deref.ensures.value (all placed.0.slot (placed.0.birth, e.bound) placed.2 sought)) (record { there = placed.1 }) low)

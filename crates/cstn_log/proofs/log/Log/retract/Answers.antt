@@ -1,4 +1,4 @@
-use Rattle.std.proofs.Common.{◌≡◌, ◌≤◌, ◌+◌, ◌-◌, ◌∙◌, ℕ, [], List, length, map, Some, false, arith, sym, subst, ap}
+use Rattle.std.proofs.Common.{◌≡◌, ◌+◌, ◌-◌, ◌∙◌, ℕ, [], List, length, map, Some, false, arith, sym, subst, ap}
 use Rattle.std.specs.Prelude.{slice_get}
 use Rattle.std.proofs.lemmas.List.{length-map, length-replicate}
 use Rattle.std.proofs.lemmas.Option.{slice_get_within}
@@ -8,7 +8,6 @@ use Rattle.cstn_rules.specs.Read.{the_entry}
 use Rattle.cstn_log.specs.Entries.{State, HasId, the_entries}
 use Rattle.cstn_log.specs.Kept.{AreLeft, IsPooled, renewed}
 use Rattle.cstn_log.specs.Cuts.{is_marked, rank, chosen, cut, marked_staying, dropped}
-use Rattle.cstn_log.proofs.KeptLemmas.{few}
 use Rattle.cstn_log.proofs.ChoiceLemmas.{rank_upto, length_chosen, chosen_all, all_marked}
 use Rattle.cstn_log.proofs.CutLemmas.{cut_all}
 use Rattle.cstn_log.proofs.LeftLemmas.{clash, left_pooled, none_gone, renewed_cut, length_left}
