@@ -1,29 +1,26 @@
 -- Least values up to which the conclusions of wait are dominated.
-use Rattle.std.proofs.Common.{ℕ, zero, suc, arith, ◌≡◌, ◌⊎◌, inl, inr, ◌+◌, ◌<◌, ◌≤◌, true, false, ◌&&◌, List, [], length, Option, Some, None, refl, sym, subst, ap, ◌∙◌}
-use Rattle.std.specs.Prelude.{ℤ, pos, ◌+ℤ◌, ◌≤ℤ◌, ◌<ℤ◌, ◌==◌, slice_get, slice_index_or}
-use Rattle.std.specs.Int.{int_min, int_lt}
+use Rattle.std.proofs.Common.{ℕ, zero, suc, arith, ◌≡◌, ◌⊎◌, inl, inr, ◌+◌, ◌<◌, ◌≤◌, true, false, Option, Some, None, refl, sym, subst, ap, ◌∙◌}
+use Rattle.std.specs.Prelude.{ℤ, pos, ◌+ℤ◌, ◌≤ℤ◌, ◌<ℤ◌, ◌==◌, int_lt, slice_get, slice_index_or}
+use Rattle.std.specs.Int.{int_min}
 use Rattle.std.proofs.lemmas.Int.{ints, clamps}
-use Rattle.std.proofs.lemmas.Bool.{cases_Bool, cond-true, cond-false, and_right, and_parts, eqb-true, false≢true}
+use Rattle.std.proofs.lemmas.Bool.{cases_Bool, cond-false, and_parts, eqb-true, false≢true}
 use Rattle.cstn_facts.proofs.Integers.{int_lt-true, int_lt-false}
-use Rattle.cstn_label.specs.declared.bounds.Bound.{Bound as DeclaredBound}
 use Rattle.cstn_label.specs.declared.marks.Mark.{Mark}
 use Rattle.cstn_label.specs.declared.marks.Mark.TheVariants.{Absent, Yes, No, Unknown}
-use Rattle.cstn_label.specs.Labels.{Label, IsMarked, IsMarkWithin, IsWithin, joined, joined_mark, without}
-use Rattle.cstn_label.specs.Bounds.{Bound, Dominates}
+use Rattle.cstn_label.specs.Labels.{Label, IsMarkWithin, IsWithin, joined, joined_mark, without}
+use Rattle.cstn_label.specs.Bounds.{Bound}
 use Rattle.cstn_label.specs.Read.{the_bound, marks}
 use Rattle.cstn_net.specs.Limits.{most_deadline}
 use Rattle.cstn_net.specs.Networks.{Network, Observes, IsWellFormed, count, limit}
 use Rattle.cstn_rules.specs.declared.entries.Entry.{Entry}
-use Rattle.cstn_rules.specs.Derivations.{Entry as TheEntry}
 use Rattle.cstn_rules.specs.Read.{the_entry}
 use Rattle.cstn_rules.specs.Rules.{IsWait, base, without_own}
 use Rattle.cstn_rules.specs.Tests.{wait_of}
-use Rattle.cstn_log.specs.Entries.{State, the_entries, IsLive}
-use Rattle.cstn_check.specs.Growth.{is_covered, is_live, premises_live, conclusion, of_two}
+use Rattle.cstn_log.specs.Entries.{State, the_entries}
+use Rattle.cstn_check.specs.Growth.{is_covered, is_live, conclusion, of_two}
 use Rattle.cstn_check.specs.Growth.Instance.{wait_at}
-use Rattle.cstn_check.specs.Spent.{IsSpent}
 use Rattle.cstn_check.specs.Turns.{IsOpen}
-use Rattle.cstn_check.specs.Waits.{HasBound, IsSpentWait}
+use Rattle.cstn_check.specs.Waits.{IsSpentWait}
 use Rattle.cstn_check.specs.Floors.{IsFloor}
 use Rattle.cstn_check.proofs.Lists.{covered_by}
 use Rattle.cstn_check.proofs.Bounded.{covered_at}
@@ -115,13 +112,13 @@ unmarked_spent net s i j e f at_i at_j none =
 -- the proposition
 pub seen_spent : (net : Network) (s : State) (i j p : ℕ) (e f : Entry) (floor : ℤ) → IsOpen net s → f.bound.node.0 < count net →
     slice_get s.entries i ≡ Some e → slice_get s.entries j ≡ Some f → Observes net e.bound.node.0 p →
-    IsFloor s.entries f.bound.node.0 (without (marks f.bound.label) p) floor → e.bound.least +ℤ pos (net.reaction p) ≤ℤ floor → IsSpentWait net s i j
+    IsFloor s.entries f.bound.node.0 (without (marks f.bound.label) p) floor → (e.bound.least +ℤ pos (net.reaction p)) ≤ℤ floor → IsSpentWait net s i j
 seen_spent net s i j p e f floor ready inside at_i at_j observes is low =
     wait_spent net s i j e f at_i at_j (λ q r w.
     let same : q ≡ p = (let a = w.observes.what in let b = observes.what in cc) in
     let x = f.bound.node.0 in
     let c = without (marks f.bound.label) q in
-    let low_q : e.bound.least +ℤ pos (net.reaction q) ≤ℤ floor = subst (λ n. e.bound.least +ℤ pos (net.reaction n) ≤ℤ floor) (sym same) low in
+    let low_q : (e.bound.least +ℤ pos (net.reaction q)) ≤ℤ floor = subst (λ n. (e.bound.least +ℤ pos (net.reaction n)) ≤ℤ floor) (sym same) low in
     let least = least_seen (e.bound.least +ℤ pos (net.reaction q)) f.bound.least (pos (limit net x + 1)) in
     let upto : int_min (int_min (e.bound.least +ℤ pos (net.reaction q)) f.bound.least) (pos (limit net x + 1)) ≤ℤ floor = omega (arith, ints, least, low_q) in
     under_floor net s x c floor r ready inside (subst (λ n. IsFloor s.entries x (without (marks f.bound.label) n) floor) (sym same) is)
@@ -135,7 +132,7 @@ seen_spent net s i j p e f floor ready inside at_i at_j observes is low =
 pub marking_spent : (net : Network) (s : State) (i j p : ℕ) (e f : Entry) (floor : ℤ) → IsOpen net s → f.bound.node.0 < count net →
     slice_get s.entries i ≡ Some e → slice_get s.entries j ≡ Some f → Observes net e.bound.node.0 p →
     IsFloor s.entries f.bound.node.0 (marks e.bound.label) floor →
-    (e.bound.least +ℤ pos (net.reaction p) ≤ℤ floor) ⊎ (f.bound.least ≤ℤ floor) → IsSpentWait net s i j
+    ((e.bound.least +ℤ pos (net.reaction p)) ≤ℤ floor) ⊎ (f.bound.least ≤ℤ floor) → IsSpentWait net s i j
 marking_spent net s i j p e f floor ready inside at_i at_j observes is low =
     wait_spent net s i j e f at_i at_j (λ q r w.
     let same : q ≡ p = (let a = w.observes.what in let b = observes.what in cc) in
@@ -144,7 +141,7 @@ marking_spent net s i j p e f floor ready inside at_i at_j observes is low =
     let a = e.bound.least +ℤ pos (net.reaction q) in
     let upto : int_min (int_min a f.bound.least) (pos (limit net x + 1)) ≤ℤ floor = elim low [
       | inl own ↦
-          let own_q : e.bound.least +ℤ pos (net.reaction q) ≤ℤ floor = subst (λ n. e.bound.least +ℤ pos (net.reaction n) ≤ℤ floor) (sym same) own in
+          let own_q : (e.bound.least +ℤ pos (net.reaction q)) ≤ℤ floor = subst (λ n. (e.bound.least +ℤ pos (net.reaction n)) ≤ℤ floor) (sym same) own in
           let least = least_seen (e.bound.least +ℤ pos (net.reaction q)) f.bound.least (pos (limit net x + 1)) in
           omega (arith, ints, least, own_q)
       | inr other ↦

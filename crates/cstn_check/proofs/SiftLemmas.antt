@@ -1,6 +1,6 @@
 -- The agenda of a turn: what sifting puts on it, and what is ahead of the turn by it.
-use Rattle.std.proofs.Common.{ℕ, arith, ◌≡◌, ◌⊎◌, inl, inr, ◌+◌, ◌<◌, ◌≤◌, true, false, List, length, Option, Some, None, refl, sym, subst, ap, ◌∙◌}
-use Rattle.std.specs.Prelude.{ℤ, pos, ◌+ℤ◌, ◌-ℤ◌, ◌≤ℤ◌, ◌<ℤ◌, slice_get, slice_index_or}
+use Rattle.std.proofs.Common.{ℕ, arith, ◌≡◌, ◌⊎◌, inl, inr, ◌+◌, ◌<◌, ◌≤◌, true, false, length, Option, Some, None, refl, sym, subst, ap, ◌∙◌}
+use Rattle.std.specs.Prelude.{ℤ, pos, ◌+ℤ◌, ◌-ℤ◌, ◌≤ℤ◌, slice_get, slice_index_or}
 use Rattle.std.proofs.lemmas.Int.{ints}
 use Rattle.std.proofs.lemmas.Bool.{cases_Bool, cases_eq, cases_lt, false≢true}
 use Rattle.std.proofs.lemmas.List.{length-map}
@@ -122,11 +122,10 @@ unmarked_seen net s j p own at none k e there upto observes =
 
 -- the places at the observer are put on the agenda, where the least value and the reaction are above the floor
 pub observer_sifted : (net : Network) (old new : State) (j p x : ℕ) (own : DeclaredBound) (floor low : ℤ) → IsOpen net old → IsBoundAt old.entries j own →
-    ((y : ℕ) → Observes net y p → y ≡ x) → IsFloor old.entries own.node.0 (without (marks own.label) p) floor → low ≡ floor -ℤ pos (net.reaction p) →
-    new ≡ record old { agenda = new.agenda } →
+    ((y : ℕ) → Observes net y p → y ≡ x) → IsFloor old.entries own.node.0 (without (marks own.label) p) floor → new ≡ record old { agenda = new.agenda } →
     ((k : ℕ) (e : Entry) → slice_get old.entries k ≡ Some e → IsLive old.entries k → k ≤ j → IsSoughtAbove x low None e.bound → has_place new.agenda k ≡ true) →
-    AreSeenOf net new j p
-observer_sifted net old new j p x own floor low ready at one is lower stays added =
+    low ≡ floor -ℤ pos (net.reaction p) → AreSeenOf net new j p
+observer_sifted net old new j p x own floor low ready at one is stays added lower =
     subst (λ (s : State). AreSeenOf net s j p) (sym stays) (λ k e there upto observes. elim (cases_Bool (is_live (the_entries old.entries) k)) [
       | inr dead ↦ inr (dead_spent net old k j (inl dead))
       | inl live ↦ elim (cases_above low e.bound.least) [
@@ -181,14 +180,14 @@ module _ (net : Network) (s : State) (j p x : ℕ) (own : DeclaredBound) (ready 
 
   module _ (floor : ℤ) (is : IsFloor s.entries x (marks own.label) floor) where
     up_to : (k : ℕ) (e : Entry) → slice_get s.entries k ≡ Some e → e.bound.node.0 ≡ x →
-        (own.least +ℤ pos (net.reaction p) ≤ℤ floor) ⊎ (e.bound.least ≤ℤ floor) → IsSpentWait net s j k
+        ((own.least +ℤ pos (net.reaction p)) ≤ℤ floor) ⊎ (e.bound.least ≤ℤ floor) → IsSpentWait net s j k
     up_to k e there node low =
         marking_spent net s j k p at.entry e floor ready (bound_of net s k e ready there).node at.there there seen
         (subst (λ (z : DeclaredBound). IsFloor s.entries e.bound.node.0 (marks z.label) floor) (sym at.is) (subst (λ n. IsFloor s.entries n (marks own.label) floor) (sym node) is))
-        (subst (λ (z : DeclaredBound). (z.least +ℤ pos (net.reaction p) ≤ℤ floor) ⊎ (e.bound.least ≤ℤ floor)) (sym at.is) low)
+        (subst (λ (z : DeclaredBound). ((z.least +ℤ pos (net.reaction p)) ≤ℤ floor) ⊎ (e.bound.least ≤ℤ floor)) (sym at.is) low)
 
     -- all entries at x are up to the floor
-    pub all_below : own.least +ℤ pos (net.reaction p) ≤ℤ floor → AreMarkingAt net s j x
+    pub all_below : (own.least +ℤ pos (net.reaction p)) ≤ℤ floor → AreMarkingAt net s j x
     all_below low k e there upto node = inr (up_to k e there node (inl low))
 
     -- the places at x are put on the agenda, where the label marks p and the least value is above the floor

@@ -14,11 +14,13 @@ sift_seen-requires-clause-place c = inside_past c.args.log.now c.clear_agenda.ne
 
 pub sift_marking-requires-clause-ready : goal.sift_marking-requires-clause-ready
 sift_marking-requires-clause-ready c =
-    open_on (the_network c.args.net.now) c.clear_agenda.new.self c.sift_seen.new.log c.sift_seen.ensures.sifted.stays (sift_seen-requires-clause-ready c)
+    open_on (the_network c.args.net.now) c.clear_agenda.new.self c.sift_seen.new.log c.sift_seen.ensures.sifted.stays
+    (open_on (the_network c.args.net.now) c.args.log.now c.clear_agenda.new.self c.clear_agenda.ensures.stays c.requires.ready)
 
 pub sift_marking-requires-clause-place : goal.sift_marking-requires-clause-place
 sift_marking-requires-clause-place c =
-    inside_on c.clear_agenda.new.self c.sift_seen.new.log c.args.j c.sift_seen.ensures.sifted (sift_seen-requires-clause-place c)
+    inside_on c.clear_agenda.new.self c.sift_seen.new.log c.args.j c.sift_seen.ensures.sifted
+    (inside_past c.args.log.now c.clear_agenda.new.self c.args.j c.clear_agenda.ensures.stays c.requires.place)
 
 pub sift_marking-requires-clause-bound : goal.sift_marking-requires-clause-bound
 sift_marking-requires-clause-bound c =

@@ -1,7 +1,5 @@
-use Rattle.std.proofs.Common.{◌≡◌, arith, ap, subst}
-use Rattle.std.specs.Prelude.{◌-ℤ◌}
+use Rattle.std.proofs.Common.{arith, subst}
 use Rattle.std.proofs.lemmas.Int.{ints}
-use Rattle.cstn_label.specs.Labels.{without}
 use Rattle.cstn_label.specs.Read.{marks}
 use Rattle.cstn_net.specs.Read.{the_network}
 use Rattle.cstn_check.specs.Floors.{IsFloor}
@@ -30,6 +28,7 @@ returns-clause-seen c =
     let own = c.args.own.now in
     let floor = c.floor-floor.result in
     let is = subst (λ l. IsFloor c.args.log.now.entries own.node.0 l floor) c.without.ensures.without c.floor-floor.ensures.floor in
+    let r = floor_ranged net c.args.log.now own.node.0 (marks c.without.result) floor c.network_is_well_formed.ensures c.requires.ready c.floor-floor.ensures.floor in
     observer_sifted net c.args.log.now c.put_down.new.self c.args.j c.args.p.index c.in-Some.x.0 own floor _ c.requires.ready c.requires.bound
     (λ y other. c.network_is_well_formed.ensures.network.one_observer y c.in-Some.x.0 c.args.p.index other c.in-Some.ensures.observer) is
-    (ap (λ z. floor -ℤ z) c.reaction.ensures.reaction) c.put_down.ensures.stays c.put_down.ensures.added
+    c.put_down.ensures.stays c.put_down.ensures.added (omega (arith, ints, r.0, r.1, c.reaction.ensures.reaction, c.reaction.ensures.range))

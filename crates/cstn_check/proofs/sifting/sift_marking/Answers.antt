@@ -1,5 +1,5 @@
-use Rattle.std.proofs.Common.{ℕ, ◌≡◌, ◌≤◌, ◌<◌, inl, inr, arith, sym, subst, ◌∙◌}
-use Rattle.std.proofs.lemmas.Bool.{cases_lt, cases_eq}
+use Rattle.std.proofs.Common.{inl, inr, arith, sym, subst}
+use Rattle.std.proofs.lemmas.Bool.{cases_eq}
 use Rattle.cstn_net.specs.Read.{the_network}
 use Rattle.cstn_check.specs.Waits.{AreMarkingAt}
 use Rattle.cstn_check.proofs.TurnLemmas.{bound_in}

@@ -11,29 +11,29 @@ use Rattle.cstn_check.proofs.waits.try_both.Goals as goal
 pub try_wait-requires-clause-seen_bound : goal.try_wait-requires-clause-seen_bound
 try_wait-requires-clause-seen_bound c = has_bound c.args.log.now.entries c.args.i c.bound.result c.bound.ensures.bound
 
-pub try_wait-in-Open-requires-clause-seen_bound : goal.try_wait-in-Open-requires-clause-seen_bound
-try_wait-in-Open-requires-clause-seen_bound c =
+pub try_wait-requires-in-Open-clause-seen_bound : goal.try_wait-requires-in-Open-clause-seen_bound
+try_wait-requires-in-Open-clause-seen_bound c =
     bound_on c.args.log.now.entries c.try_wait.new.log.entries c.args.own.place (the_bound c.args.own.bound)
     (taken_on (the_network c.args.net.now) c.args.log.now c.try_wait.new.log (wait_at c.args.i c.args.own.place ∷ []) _ c.in_ok-try_wait.ensures.outcome.taken)
     (omega (arith, size_is c.args.log.now, c.requires.place)) c.requires.bound
 
-pub try_wait-in-Open-requires-clause-bound : goal.try_wait-in-Open-requires-clause-bound
-try_wait-in-Open-requires-clause-bound c =
+pub try_wait-requires-in-Open-clause-bound : goal.try_wait-requires-in-Open-clause-bound
+try_wait-requires-in-Open-clause-bound c =
     bound_on c.args.log.now.entries c.try_wait.new.log.entries c.args.i (the_bound c.bound.result)
     (taken_on (the_network c.args.net.now) c.args.log.now c.try_wait.new.log (wait_at c.args.i c.args.own.place ∷ []) _ c.in_ok-try_wait.ensures.outcome.taken)
     (omega (arith, size_is c.args.log.now, c.requires.first)) (has_bound c.args.log.now.entries c.args.i c.bound.result c.bound.ensures.bound)
 
-pub try_wait-in-Open-requires-clause-ready : goal.try_wait-in-Open-requires-clause-ready
-try_wait-in-Open-requires-clause-ready c = c.in_ok-try_wait.ensures.outcome.ready c.in-Open.is
+pub try_wait-requires-in-Open-clause-ready : goal.try_wait-requires-in-Open-clause-ready
+try_wait-requires-in-Open-clause-ready c = c.in_ok-try_wait.ensures.outcome.ready c.in-Open.is
 
-pub try_wait-in-Open-requires-clause-seen : goal.try_wait-in-Open-requires-clause-seen
-try_wait-in-Open-requires-clause-seen c = omega (arith, c.requires.place, c.in_ok-try_wait.ensures.outcome.taken.longer.longer)
+pub try_wait-requires-in-Open-clause-seen : goal.try_wait-requires-in-Open-clause-seen
+try_wait-requires-in-Open-clause-seen c = omega (arith, c.requires.place, c.in_ok-try_wait.ensures.outcome.taken.longer.longer)
 
-pub try_wait-in-Open-requires-clause-place : goal.try_wait-in-Open-requires-clause-place
-try_wait-in-Open-requires-clause-place c = omega (arith, c.requires.first, c.in_ok-try_wait.ensures.outcome.taken.longer.longer)
+pub try_wait-requires-in-Open-clause-place : goal.try_wait-requires-in-Open-clause-place
+try_wait-requires-in-Open-clause-place c = omega (arith, c.requires.first, c.in_ok-try_wait.ensures.outcome.taken.longer.longer)
 
-pub try_wait-in-Open-requires-clause-node : goal.try_wait-in-Open-requires-clause-node
-try_wait-in-Open-requires-clause-node c =
+pub try_wait-requires-in-Open-clause-node : goal.try_wait-requires-in-Open-clause-node
+try_wait-requires-in-Open-clause-node c =
     (bound_had (the_network c.args.net.now) c.args.log.now c.args.own.place (the_bound c.args.own.bound) c.requires.ready c.requires.bound).node
 
 pub returns-in-Refuted-clause-outcome : goal.returns-in-Refuted-clause-outcome

@@ -36,8 +36,8 @@ loop-i-init c =
 pub next_place-i-requires : goal.next_place-i-requires
 next_place-i-requires c = record { place = inside_past c.args.log.now c.sift.new.log c.args.j c.sift.ensures.stays c.requires.place }
 
-pub next_place-i-in-Open-requires : goal.next_place-i-in-Open-requires
-next_place-i-in-Open-requires c = record {
+pub next_place-i-requires-in-Open : goal.next_place-i-requires-in-Open
+next_place-i-requires-in-Open c = record {
   place = omega (arith, c.requires.place, c.loop-i.invariant.taken.longer.longer, c.in_ok-try_both.ensures.outcome.taken.longer.longer);
 }
 
