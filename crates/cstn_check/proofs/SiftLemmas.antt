@@ -24,7 +24,8 @@ use Rattle.cstn_check.specs.Waits.{HasBound, IsSpentWait, AreSeen, AreSeenOf, Ar
 use Rattle.cstn_check.proofs.Lists.{Extends}
 use Rattle.cstn_check.proofs.Grows.{spent_kept}
 use Rattle.cstn_check.proofs.Reading.{true_live, dead_false}
-use Rattle.cstn_check.proofs.TurnLemmas.{bound_of, entry_there}
+use Rattle.cstn_check.proofs.SpentLemmas.{waits_to}
+use Rattle.cstn_check.proofs.TurnLemmas.{idle, bound_of, entry_there}
 use Rattle.cstn_check.proofs.FloorLemmas.{dead_spent, unmarked_spent, seen_spent, marking_spent, cases_above, cases_marked}
 
 -- ---- another agenda
@@ -216,6 +217,13 @@ pub marking_all : (net : Network) (s : State) (j : ℕ) → IsOpen net s → j <
 marking_all net s j ready inside each k upto =
     let e = entry_there s.entries k (omega (arith, upto, inside)) in
     each e.0.bound.node.0 (bound_of net s k e.0 ready e.1).node k e.0 e.1 upto refl
+
+-- the waits of a dead entry add nothing
+pub waits_dead : (net : Network) (s : State) (j : ℕ) → IsOpen net s → ¬ IsLive s.entries j →
+    IsTaken net s s (tried net (the_entries s.entries) (waits_below (j + 1) j)) false
+waits_dead net s j ready dead =
+    let off = dead_false s.entries j dead in
+    waits_to net s s j 0 (j + 1) (omega arith) (λ k low high. (dead_spent net s k j (inr off), dead_spent net s j k (inl off))) (idle net s _ ready refl)
 
 -- ---- what is ahead
 

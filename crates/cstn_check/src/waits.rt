@@ -142,6 +142,9 @@ pub fn try_waits(net: &Network, log: &mut Log, j: u32, tries: &mut Tries) -> Res
 {
     network_is_well_formed(net);
     log_is_well_formed(log);
+    if !log.live(j) {
+        return Ok(Step::Open);
+    }
     let own = Placed {
         place: j,
         bound: log.bound(j),

@@ -1,4 +1,5 @@
 use Rattle.std.proofs.Common.{rules, ℕ, suc, ◌≡◌, ◌<◌, ◌+◌, [], ◌∷◌, length, false, arith, refl, sym, ap, subst}
+use Rattle.std.proofs.lemmas.Bool.{false≢true}
 use Rattle.cstn_net.specs.Read.{the_network}
 use Rattle.cstn_check.specs.Growth.{tried, waits_below}
 use Rattle.cstn_check.specs.Turns.{IsTaken}
@@ -11,8 +12,14 @@ use Rattle.cstn_log.specs.Entries.{the_entries}
 use Rattle.cstn_check.specs.Tries.{concludes_with}
 use Rattle.cstn_check.proofs.TryLemmas.{total_upto, pairs_step, taken_on, size_is}
 use Rattle.cstn_label.specs.Read.{the_bound}
-use Rattle.cstn_check.proofs.SiftLemmas.{open_on, inside_past, past, had_on, ahead_on}
+use Rattle.cstn_check.proofs.SiftLemmas.{waits_dead, open_on, inside_past, past, had_on, ahead_on}
 use Rattle.cstn_check.proofs.waits.try_waits.Goals as goal
+
+pub returns-then-not-live-clause-outcome : goal.returns-then-not-live-clause-outcome
+returns-then-not-live-clause-outcome c =
+    open_step _ _ _ _
+    (waits_dead (the_network c.args.net.now) c.args.log.now c.args.j c.requires.ready (λ live. false≢true (c.if-not-live.ensures.live.1 live)))
+    c.requires.ready
 
 pub loop-i-init : goal.loop-i-init
 loop-i-init c =
