@@ -1,14 +1,15 @@
 //! Looking through one row of records for all that may be of use, and not for one alone.
-ghost use Rattle.std.specs.Prelude.{◌≡◌, ◌⊎◌, ◌<◌, ◌≤◌, ◌+◌, ◌++◌, ◌∷◌, [], ◌<ℤ◌, ◌≤ℤ◌, pos, ℕ, List, Some, IfSome, All, false, length, slice_get, vec_capacity};
+ghost use Rattle.std.specs.Prelude.{◌≡◌, ◌⊎◌, ◌<◌, ◌≤◌, ◌+◌, ◌++◌, ◌∷◌, [], ◌<ℤ◌, ◌≤ℤ◌, pos, ℕ, List, Some, IfSome, All, true, false, length, slice_get, slice_index_or, vec_capacity};
 ghost use Rattle.std.specs.List.{Contains};
 ghost use Rattle.cstn_label.specs.Read.{marks};
-ghost use Rattle.cstn_label.specs.Labels.{IsMarked};
+ghost use Rattle.cstn_label.specs.Labels.{IsMarked, without};
+ghost use Rattle.cstn_label.specs.Words.{has_bit};
 ghost use Rattle.cstn_minset.specs.declared.columns.Record.{Record as TheRecord};
 ghost use Rattle.cstn_minset.specs.Pages.{IsPage, held};
 ghost use Rattle.cstn_minset.specs.Columns.{AreThose};
-ghost use Rattle.cstn_minset.specs.Sets.{IsRecordAbove, IsRecordOf, AreSlotsOf, IsRecordAt, IsNoneOf, IsNoneOn};
+ghost use Rattle.cstn_minset.specs.Sets.{IsRecordAbove, AreSlotsOf, IsRecordAt, IsNoneOf, IsNoneOn, IsRaisedOn, IsFloorIn};
 
-use crate::bits::{first_bit_from, first_bits};
+use crate::bits::{bits_without, first_bit_from, first_bits};
 use crate::columns::{Columns, Record};
 use crate::page::{Page, higher};
 use crate::rows::Rows;
@@ -16,7 +17,7 @@ use cstn_label::{Label, NodeId, Prop};
 
 /// The greatest least value of a record of the row whose label is within this one, or 0 where that is lower.
 pub fn greatest_within(rows: &Rows, node: NodeId, label: Label) -> i32
-    ensures { (result ≡ pos 0) ⊎ ((k i : ℕ) × (r : TheRecord) × IsRecordAt rows.now.pages node.0 k i r × IsRecordOf (marks label) result r) }
+    ensures { IsFloorIn rows.now.pages node.0 (marks label) result }
 {
     let mut greatest = 0;
     let mut place = rows.first(node.0 as u32);
@@ -29,21 +30,67 @@ pub fn greatest_within(rows: &Rows, node: NodeId, label: Label) -> i32
 
 // The greatest least value of a record of a page whose label is within this one, or the floor where that is lower.
 fn greatest_on_page(page: &Page, label: Label, floor: i32) -> i32
-    ensures { (result ≡ floor) ⊎ ((i : ℕ) × (r : TheRecord) × (slice_get page.now.records.items i ≡ Some r) × IsRecordOf (marks label) result r) }
+    ensures { IsRaisedOn page.now.records.items (marks label) floor result }
 {
     if page.high <= floor {
         return floor;
     }
+    greatest_among(page, page.records.within(label), floor)
+}
+
+// The greatest least value of the records that are told by bits, or the floor where that is lower.
+fn greatest_among(page: &Page, bits: u64, floor: i32) -> i32
+    requires inside { (i : ℕ) → has_bit bits i ≡ true → (r : TheRecord) × (slice_get page.now.records.items i ≡ Some r) }
+    ensures { (result ≡ floor) ⊎ ((i : ℕ) × (r : TheRecord) × (slice_get page.now.records.items i ≡ Some r) × (has_bit bits i ≡ true) × (r.least ≡ result)) }
+{
     let records = page.records.as_slice();
-    let within = page.records.within(label);
     let mut greatest = floor;
     let mut from = 0;
-    while let Some(i) = first_bit_from(within, from) {
+    while let Some(i) = first_bit_from(bits, from) {
         let kept = records[i as usize];
         greatest = higher(greatest, kept.least);
         from = i + 1;
     }
     greatest
+}
+
+/// For each proposition that the label marks, the greatest least value of a record of the row whose label is within this one
+/// without the proposition, or 0 where that is lower; and 0 for the others.
+pub fn greatest_without(rows: &Rows, node: NodeId, label: Label) -> [i32; 52]
+    ensures { (p : ℕ) → p < 52 → IsFloorIn rows.now.pages node.0 (without (marks label) p) (slice_index_or result p (pos 0)) }
+{
+    let mut greatest = no_floors();
+    let mut place = rows.first(node.0 as u32);
+    while let Some(number) = place {
+        raise_on_page(rows.page(number), label, &mut greatest);
+        place = rows.next(number);
+    }
+    greatest
+}
+
+// 0 for each proposition.
+fn no_floors() -> [i32; 52]
+    ensures { (p : ℕ) → p < 52 → slice_index_or result p (pos 0) ≡ pos 0 }
+{
+    [0; 52]
+}
+
+// Raises what is told of each proposition by the records of a page.
+fn raise_on_page(page: &Page, label: Label, greatest: &mut [i32; 52])
+    ensures { (p : ℕ) → p < 52
+        → IsRaisedOn page.now.records.items (without (marks label) p) (slice_index_or greatest.old p (pos 0)) (slice_index_or greatest.new p (pos 0)) }
+{
+    let within = page.records.within(label);
+    if within == 0 {
+        return;
+    }
+    let mut index = 0;
+    while let Some(p) = label.first_marked_from(index) {
+        let unmarked = bits_without(within, page.records.marking(p));
+        let at = p.index as usize;
+        greatest[at] = greatest_among(page, unmarked, greatest[at]);
+        index = p.index + 1;
+    }
 }
 
 /// What is looked for in a row: the records with least values above the floor, and among them those whose labels mark the
