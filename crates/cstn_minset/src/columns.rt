@@ -1,4 +1,5 @@
-ghost use Rattle.std.specs.Prelude.{◌≡◌, ◌<◌, ◌≤◌, ◌++◌, ◌∷◌, [], ◌==◌, length, slice_index_or};
+ghost use Rattle.std.specs.Prelude.{◌≡◌, ◌<◌, ◌≤◌, ◌++◌, ◌∷◌, [], ◌==◌, Some, length, slice_get, slice_index_or};
+ghost use Rattle.cstn_minset.specs.declared.columns.Record.{Record as TheRecord};
 ghost use Rattle.std.specs.List.{swap_remove};
 ghost use Rattle.cstn_label.specs.Labels.{IsMarked, IsWithin};
 ghost use Rattle.cstn_label.specs.Read.{marks};
@@ -81,6 +82,14 @@ impl Columns {
         ensures few { length result.now ≤ 64 }
     {
         self.records.as_slice()
+    }
+
+    /// The least value of a record.
+    pub fn least(&self, index: u32) -> i32
+        requires { index < length self.now.items }
+        ensures { (r : TheRecord) → slice_get self.now.items index ≡ Some r → result ≡ r.least }
+    {
+        self.records.as_slice()[index as usize].least
     }
 
     /// The records alone.

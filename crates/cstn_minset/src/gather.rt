@@ -1,5 +1,5 @@
 //! Looking through one row of records for all that may be of use, and not for one alone.
-ghost use Rattle.std.specs.Prelude.{◌≡◌, ◌⊎◌, ◌<◌, ◌≤◌, ◌+◌, ◌++◌, ◌∷◌, [], ◌<ℤ◌, ◌≤ℤ◌, pos, ℕ, List, Some, IfSome, All, true, false, length, slice_get, slice_index_or, vec_capacity};
+ghost use Rattle.std.specs.Prelude.{◌≡◌, ◌⊎◌, ◌<◌, ◌≤◌, ◌+◌, ◌++◌, ◌∷◌, [], ◌<ℤ◌, ◌≤ℤ◌, pos, ℕ, List, Some, IfSome, All, false, true, length, slice_get, slice_index_or, vec_capacity};
 ghost use Rattle.std.specs.List.{Contains};
 ghost use Rattle.cstn_label.specs.Read.{marks};
 ghost use Rattle.cstn_label.specs.Labels.{IsMarked, without};
@@ -38,28 +38,27 @@ fn greatest_on_page(page: &Page, label: Label, floor: i32) -> i32
     greatest_among(page, page.records.within(label), floor)
 }
 
-// The greatest least value of the records that are told by bits, or the floor where that is lower.
+// The greatest least value of a record of a page whose bit is set, or the floor where that is lower.
 fn greatest_among(page: &Page, bits: u64, floor: i32) -> i32
-    requires inside { (i : ℕ) → has_bit bits i ≡ true → (r : TheRecord) × (slice_get page.now.records.items i ≡ Some r) }
+    requires { (i : ℕ) → has_bit bits i ≡ true → i < length page.now.records.items }
     ensures { (result ≡ floor) ⊎ ((i : ℕ) × (r : TheRecord) × (slice_get page.now.records.items i ≡ Some r) × (has_bit bits i ≡ true) × (r.least ≡ result)) }
 {
-    let records = page.records.as_slice();
     let mut greatest = floor;
     let mut from = 0;
     while let Some(i) = first_bit_from(bits, from) {
-        let kept = records[i as usize];
-        greatest = higher(greatest, kept.least);
+        greatest = higher(greatest, page.records.least(i));
         from = i + 1;
     }
     greatest
 }
 
-/// For each proposition that the label marks, the greatest least value of a record of the row whose label is within this one
-/// without the proposition, or 0 where that is lower; and 0 for the others.
+/// For each proposition, the greatest least value of a record of the row whose label is within this one and doesn't mark it, or 0
+/// where that is lower. It is 0 also for those that the label doesn't mark.
 pub fn greatest_without(rows: &Rows, node: NodeId, label: Label) -> [i32; 52]
-    ensures { (p : ℕ) → p < 52 → IsFloorIn rows.now.pages node.0 (without (marks label) p) (slice_index_or result p (pos 0)) }
+    ensures { (p : ℕ) → p < 52 → (slice_index_or result p (pos 0) ≡ pos 0) ⊎ ((k i : ℕ) × (r : TheRecord) × IsRecordAt rows.now.pages node.0 k i r
+        × IsRecordOf (without (marks label) p) (slice_index_or result p (pos 0)) r) }
 {
-    let mut greatest = no_floors();
+    let mut greatest = [0; 52];
     let mut place = rows.first(node.0 as u32);
     while let Some(number) = place {
         raise_on_page(rows.page(number), label, &mut greatest);
@@ -68,17 +67,11 @@ pub fn greatest_without(rows: &Rows, node: NodeId, label: Label) -> [i32; 52]
     greatest
 }
 
-// 0 for each proposition.
-fn no_floors() -> [i32; 52]
-    ensures { (p : ℕ) → p < 52 → slice_index_or result p (pos 0) ≡ pos 0 }
-{
-    [0; 52]
-}
-
-// Raises what is told of each proposition by the records of a page.
+// Raises each of these to the greatest least value of a record of a page whose label is within this one and doesn't mark the
+// proposition, where that is higher.
 fn raise_on_page(page: &Page, label: Label, greatest: &mut [i32; 52])
-    ensures { (p : ℕ) → p < 52
-        → IsRaisedOn page.now.records.items (without (marks label) p) (slice_index_or greatest.old p (pos 0)) (slice_index_or greatest.new p (pos 0)) }
+    ensures { (p : ℕ) → p < 52 → (slice_index_or greatest.new p (pos 0) ≡ slice_index_or greatest.old p (pos 0))
+        ⊎ ((i : ℕ) × (r : TheRecord) × (slice_get page.now.records.items i ≡ Some r) × IsRecordOf (without (marks label) p) (slice_index_or greatest.new p (pos 0)) r) }
 {
     let within = page.records.within(label);
     if within == 0 {
@@ -86,9 +79,10 @@ fn raise_on_page(page: &Page, label: Label, greatest: &mut [i32; 52])
     }
     let mut index = 0;
     while let Some(p) = label.first_marked_from(index) {
-        let unmarked = bits_without(within, page.records.marking(p));
         let at = p.index as usize;
-        greatest[at] = greatest_among(page, unmarked, greatest[at]);
+        let unmarked = bits_without(within, page.records.marking(p));
+        let floor = greatest[at];
+        greatest[at] = greatest_among(page, unmarked, floor);
         index = p.index + 1;
     }
 }

@@ -234,7 +234,7 @@ impl MinSet {
     }
 
     /// For each proposition that the label marks, the greatest least value of an entry at the time-point whose label is within this
-    /// one without the proposition, or 0 where that is lower; and 0 for the others.
+    /// one without that mark, or 0 where that is lower.
     pub fn floors(&self, node: NodeId, label: Label) -> [i32; 52]
         ensures floors { (p : ℕ) → p < 52 → (slice_index_or result p (pos 0) ≡ pos 0)
             ⊎ HasLeast self.now.table node.0 (without (marks label) p) (slice_index_or result p (pos 0)) }

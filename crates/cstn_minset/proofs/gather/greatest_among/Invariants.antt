@@ -5,7 +5,7 @@ use Rattle.cstn_minset.specs.declared.columns.Record.{Record}
 use Rattle.cstn_minset.proofs.gather.greatest_among.Given as goal
 
 abbrev pub invariant-loop-i : goal.invariant-loop-i
-invariant-loop-i l = (l.greatest ≡ l.fn.floor) ⊎ ((i : ℕ) × (r : Record) × (slice_get l.page.records.items i ≡ Some r) × (has_bit l.fn.bits i ≡ true) × (r.least ≡ l.greatest))
+invariant-loop-i l = (l.greatest ≡ l.fn.floor) ⊎ ((i : ℕ) × (r : Record) × (slice_get l.page.records.items i ≡ Some r) × (has_bit l.bits i ≡ true) × (r.least ≡ l.greatest))
 
 abbrev pub decreases-loop-i : goal.decreases-loop-i
 decreases-loop-i l = 64 - l.from

@@ -1,17 +1,17 @@
 use Rattle.std.proofs.Common.{inl, refl, sym, ◌∙◌, ap}
-use Rattle.std.specs.Prelude.{pos, slice_index_or}
+use Rattle.std.specs.Prelude.{pos}
+use Rattle.std.proofs.lemmas.List.{get_or-replicate}
 use Rattle.std.proofs.lemmas.Option.{slice_get_within, same_Some}
-use Rattle.cstn_label.specs.Labels.{without}
 use Rattle.cstn_label.specs.Read.{marks}
 use Rattle.cstn_minset.specs.Pages.{most_pages}
-use Rattle.cstn_minset.proofs.GatherLemmas.{floor_raised}
+use Rattle.cstn_minset.proofs.FloorLemmas.{floors_next}
 use Rattle.cstn_minset.proofs.HomeLemmas.{page_of_in, pages_are_numbers}
 use Rattle.cstn_minset.proofs.NumberLemmas.{nearer}
 use Rattle.cstn_minset.proofs.ScanLemmas.{scanned_start, scanned_page, scanned_more}
 use Rattle.cstn_minset.proofs.gather.greatest_without.Goals as goal
 
 pub loop-place-init : goal.loop-place-init
-loop-place-init c = record { scan = scanned_start _ _ _ _ c.first-place.ensures.first; floors = λ p small. inl (c.no_floors-greatest.ensures p small) }
+loop-place-init c = record { scan = scanned_start _ _ _ _ c.first-place.ensures.first; floors = λ p small. inl (get_or-replicate 52 p (pos 0) (pos 0) small) }
 
 pub page-requires : goal.page-requires
 page-requires c =
@@ -39,6 +39,8 @@ loop-place-preserved c =
     let head = ap (λ x. x.head) (same_Some _ _ (c.page.ensures.page ∙ here.1)) ∙ here.2 in
     record {
       scan = scanned_more rows h c.in-Some.number (λ r. ⊥) c.next-place.result c.page.result.now scan page (λ i r at no'. no') (c.next-place.ensures h here);
-      floors = λ p small. floor_raised rows.pages h c.in-Some.number (without (marks c.args.label) p) c.page.result.now (slice_index_or c.loop-place.greatest p (pos 0)) _ page head
-          (c.loop-place.invariant.floors p small) (c.raise_on_page.ensures p small);
+      floors = floors_next rows.pages h c.in-Some.number c.page.result.now (marks c.args.label) _ _ page head c.loop-place.invariant.floors c.raise_on_page.ensures;
     }
+
+pub returns : goal.returns
+returns c = c.loop-place.invariant.floors

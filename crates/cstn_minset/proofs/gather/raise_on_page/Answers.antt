@@ -1,48 +1,47 @@
-use Rattle.std.proofs.Common.{◌≡◌, inl, inr, sym, ◌∙◌, subst, arith, rules, SFits, w32, to_z, of_z}
-use Rattle.std.specs.Prelude.{ℤ, pos, slice_index_or, slice_set}
+use Rattle.std.proofs.Common.{◌≡◌, ◌⊎◌, ◌<◌, inl, inr, ℕ, length, refl, ◌∙◌, arith, rules, SFits, w32}
+use Rattle.std.specs.Prelude.{pos, Some, slice_get, slice_index_or}
 use Rattle.std.proofs.lemmas.Int.{to_z-of_z}
-use Rattle.std.proofs.lemmas.Bool.{cases_eq}
-use Rattle.std.proofs.Math.ListN.{length-set}
-use Rattle.std.proofs.lemmas.List.{get_or-set_same, get_or-set_other}
+use Rattle.std.proofs.lemmas.List.{length-set}
 use Rattle.cstn_label.specs.Labels.{without}
 use Rattle.cstn_label.specs.Read.{marks}
-use Rattle.cstn_minset.specs.Sets.{IsRaisedOn}
-use Rattle.cstn_minset.proofs.GatherLemmas.{told_without, raised_by, raised_on}
+use Rattle.cstn_minset.specs.declared.columns.Record.{Record}
+use Rattle.cstn_minset.specs.Sets.{IsRecordOf}
+use Rattle.cstn_minset.proofs.FloorLemmas.{raised_start, raised_next, left_without}
 use Rattle.cstn_minset.proofs.gather.raise_on_page.Goals as goal
 
-pub greatest_among-requires : goal.greatest_among-requires
-greatest_among-requires c = record {
-  inside = λ i set.
-      let told = told_without c.args.page.now.records.items (marks c.args.label) c.in-Some.p.index c.within-within.result c.marking.result c.bits_without-unmarked.result
-      c.within-within.ensures c.marking.ensures c.bits_without-unmarked.ensures i set in
-      (told.0, told.1);
-}
+pub loop-p-init : goal.loop-p-init
+loop-p-init c = record { size = refl; raised = raised_start c.args.page.now.records.items (marks c.args.label) c.args.greatest.now }
+
+pub loop-p-smaller : goal.loop-p-smaller
+loop-p-smaller c = omega (arith, c.in-Some.ensures.from, c.in-Some.p.in_range)
 
 pub loop-p-preserved : goal.loop-p-preserved
 loop-p-preserved c =
     let items = c.args.page.now.records.items in
     let p = c.in-Some.p.index in
-    let without_p = without (marks c.args.label) p in
-    let mid = c.loop-p.greatest in
-    let greatest = c.greatest_among.result in
-    let new = to_z w32 (of_z w32 greatest) in
-    let fits : SFits w32 greatest = search rules in
-    let first : SFits w32 (slice_index_or mid p (pos 0)) = search rules in
-    let was = c.loop-p.invariant in
-    let at : slice_index_or (slice_set mid p new) p (pos 0) ≡ greatest = get_or-set_same mid p new (pos 0) (omega (arith, was.size, c.in-Some.p.in_range)) ∙ to_z-of_z w32 greatest fits in
-    let more = raised_by items without_p c.bits_without-unmarked.result (slice_index_or mid p (pos 0)) greatest
-    (told_without items (marks c.args.label) p c.within-within.result c.marking.result c.bits_without-unmarked.result c.within-within.ensures c.marking.ensures c.bits_without-unmarked.ensures)
-    (rw (to_z-of_z w32 (slice_index_or mid p (pos 0)) first) at c.greatest_among.ensures) in
-    let both = raised_on items without_p (slice_index_or c.args.greatest.now p (pos 0)) (slice_index_or mid p (pos 0)) greatest (was.raised p c.in-Some.p.in_range) more in
-    record {
-      small = omega (arith, c.in-Some.p.in_range);
-      size = length-set mid p new ∙ was.size;
-      raised = λ q small. elim (cases_eq q p) [
-        | inl same ↦
-            subst (λ n. IsRaisedOn items (without (marks c.args.label) n) (slice_index_or c.args.greatest.now n (pos 0)) (slice_index_or (slice_set mid p new) n (pos 0))) (sym same)
-            (subst (λ (z : ℤ). IsRaisedOn items without_p (slice_index_or c.args.greatest.now p (pos 0)) z) (sym at) both)
-        | inr other ↦
-            subst (λ (z : ℤ). IsRaisedOn items (without (marks c.args.label) q) (slice_index_or c.args.greatest.now q (pos 0)) z)
-            (sym (get_or-set_other mid p q new (pos 0) other)) (was.raised q small)
-      ];
-    }
+    let was = slice_index_or c.loop-p.greatest p (pos 0) in
+    let next = c.greatest_among.result in
+    let fits : SFits w32 next = search rules in
+    let fitted : SFits w32 was = search rules in
+    let size : length c.args.greatest.now ≡ 52 = search rules in
+    let inside : p < length c.loop-p.greatest = omega (arith, size, c.loop-p.invariant.size, c.in-Some.p.in_range) in
+    let told : (next ≡ was) ⊎ ((i : ℕ) × (r : Record) × (slice_get items i ≡ Some r) × IsRecordOf (without (marks c.args.label) p) next r) = elim c.greatest_among.ensures [
+      | inl same ↦ inl (same ∙ to_z-of_z w32 was fitted)
+      | inr found ↦ inr (
+        found.0,
+        found.1,
+        found.2,
+        (
+          found.4,
+          left_without items (marks c.args.label) p c.within-within.result c.marking.result c.bits_without-unmarked.result found.0 found.1
+              c.within-within.ensures c.marking.ensures c.bits_without-unmarked.ensures found.2 found.3,
+        ),
+      )
+    ] in
+    rw (to_z-of_z w32 next fits) (record {
+      size = length-set c.loop-p.greatest p next ∙ c.loop-p.invariant.size;
+      raised = raised_next items (marks c.args.label) c.args.greatest.now c.loop-p.greatest p next inside c.loop-p.invariant.raised told;
+    })
+
+pub returns : goal.returns
+returns c = c.loop-p.invariant.raised
