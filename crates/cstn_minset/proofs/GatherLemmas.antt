@@ -1,24 +1,21 @@
 -- A row of records, gathered page by page.
-use Rattle.std.proofs.Common.{◌≡◌, inl, inr, ◌⊎◌, ℕ, zero, suc, ◌+◌, ◌<◌, ◌≤◌, ◌++◌, List, [], ◌∷◌, length, take, get_or, true, false, not, ◌&&◌, refl, ap, sym, ◌∙◌, subst, arith, length-append, append-nil, append_assoc}
+use Rattle.std.proofs.Common.{◌≡◌, inl, inr, ◌⊎◌, ℕ, zero, suc, ◌+◌, ◌<◌, ◌≤◌, ◌++◌, List, [], ◌∷◌, length, take, get_or, true, false, refl, ap, sym, ◌∙◌, subst, arith, length-append, append-nil, append_assoc}
 use Rattle.std.specs.Prelude.{ℤ, ◌<ℤ◌, ◌≤ℤ◌, Option, None, Some, IfSome, All, slice_get}
 use Rattle.std.specs.List.{Contains}
-use Rattle.std.proofs.lemmas.Bool.{cases_eq, cases_lt, and_parts, false≢true}
+use Rattle.std.proofs.lemmas.Bool.{cases_eq, cases_lt, false≢true}
 use Rattle.std.proofs.lemmas.Int.{ints}
 use Rattle.std.proofs.lemmas.List.Elements.{All-append, Contains-append_left, Contains-append_right, Contains-get_or}
 use Rattle.std.proofs.lemmas.Option.{none-some, same_Some, slice_get_within}
 use Rattle.cstn_label.specs.declared.props.Prop.{Prop}
-use Rattle.cstn_label.specs.declared.marks.Mark.TheVariants.{Absent}
-use Rattle.cstn_label.specs.Labels.{Label, IsMarked, IsMarkWithin, IsWithin, without}
+use Rattle.cstn_label.specs.Labels.{IsMarked}
 use Rattle.cstn_label.specs.Read.{marks}
 use Rattle.cstn_label.specs.Words.{has_bit}
-use Rattle.cstn_label.proofs.LabelLemmas.{without_other}
-use Rattle.cstn_label.proofs.MarkLemmas.{absent_or_not}
 use Rattle.cstn_minset.specs.declared.columns.Record.{Record}
 use Rattle.cstn_minset.specs.declared.page.Page.{Page}
 use Rattle.cstn_minset.specs.Chains.{IsFirstKey}
 use Rattle.cstn_minset.specs.Columns.{AreThose}
 use Rattle.cstn_minset.specs.Pages.{Paged, IsPage, IsPageOf, on_page, held, numbered, most_pages}
-use Rattle.cstn_minset.specs.Sets.{IsRecordAbove, IsRecordAt, AreSlotsOf, IsRaisedOn, IsFloorIn}
+use Rattle.cstn_minset.specs.Sets.{IsRecordAbove, IsRecordAt, AreSlotsOf}
 use Rattle.cstn_minset.proofs.BoundLemmas.{least_or_not}
 use Rattle.cstn_minset.proofs.HeldLemmas.{page_size}
 use Rattle.cstn_minset.proofs.HomeLemmas.{first_page, page_of_in, pages_are_numbers}
@@ -218,46 +215,3 @@ none_sought page floor marking is low = record {
   where
     away : (a b c : ℤ) → a ≤ℤ b → b ≤ℤ c → c <ℤ a → ⊥
     away a b c p q r = omega (arith, ints)
-
--- a label within another, which doesn't mark a proposition, is within the other without that one
-within_without : (a b : Label) (p : ℕ) → IsWithin a b → a p ≡ Absent → IsWithin a (without b p)
-within_without a b p within none = λ q. elim (cases_eq q p) [
-  | inl same ↦ subst (λ m. IsMarkWithin m (without b p q)) (sym (ap a same ∙ none)) tt
-  | inr other ↦ subst (IsMarkWithin (a q)) (sym (without_other b p q other)) (within q)
-]
-
--- the value is raised by records whose labels are within the other
-pub raised_by : (records : List Record) (label : Label) (bits : ℕ) (old new : ℤ) →
-    ((i : ℕ) → has_bit bits i ≡ true → (r : Record) × (slice_get records i ≡ Some r) × IsWithin (marks r.label) label) →
-    (new ≡ old) ⊎ ((i : ℕ) × (r : Record) × (slice_get records i ≡ Some r) × (has_bit bits i ≡ true) × (r.least ≡ new)) → IsRaisedOn records label old new
-raised_by records label bits old new each (inl same) = inl same
-raised_by records label bits old new each (inr (i, r, there, set, least)) =
-    let told = each i set in
-    inr (i, r, there, (least, subst (λ (x : Record). IsWithin (marks x.label) label) (same_Some told.0 r (sym told.1 ∙ there)) told.2))
-
--- the records within a label that don't mark a proposition are within the label without it
-pub told_without : (records : List Record) (label : Label) (p : ℕ) (within marking bits : ℕ) → AreThose (λ r. IsWithin (marks r.label) label) records within →
-    AreThose (λ r. IsMarked (marks r.label) p) records marking → ((i : ℕ) → has_bit bits i ≡ (has_bit within i && not (has_bit marking i))) →
-    (i : ℕ) → has_bit bits i ≡ true → (r : Record) × (slice_get records i ≡ Some r) × IsWithin (marks r.label) (without label p)
-told_without records label p within marking bits of_within of_marking without_is i set =
-    let both = and_parts (has_bit within i) (not (has_bit marking i)) (sym (without_is i) ∙ set) in
-    let told = (of_within i).0 both.0 in (
-      told.0,
-      told.1,
-      within_without (marks told.0.label) label p told.2 (elim (absent_or_not (marks told.0.label p)) [
-        | inl none ↦ none
-        | inr marked ↦ absurd (false≢true (sym (ap not ((of_marking i).1 (told.0, told.1, marked))) ∙ both.1))
-      ]),
-    )
-
--- what was raised is raised further
-pub raised_on : (records : List Record) (label : Label) (old mid new : ℤ) → IsRaisedOn records label old mid → IsRaisedOn records label mid new → IsRaisedOn records label old new
-raised_on records label old mid new one (inr found) = inr found
-raised_on records label old mid new (inl same) (inl again) = inl (again ∙ same)
-raised_on records label old mid new (inr (i, r, there, of)) (inl again) = inr (i, r, there, (of.0 ∙ sym again, of.1))
-
--- what was a floor is raised to a floor by a page of the row
-pub floor_raised : (pages : List Page) (h k : ℕ) (label : Label) (page : Page) (old new : ℤ) → slice_get pages k ≡ Some page → page.head ≡ h → IsFloorIn pages h label old →
-    IsRaisedOn page.records.items label old new → IsFloorIn pages h label new
-floor_raised pages h k label page old new here head was (inl same) = subst (IsFloorIn pages h label) (sym same) was
-floor_raised pages h k label page old new here head was (inr (i, r, there, of)) = inr (k, i, r, (page, here, head, there), of)

@@ -1,5 +1,5 @@
 -- Minimal sets of bounds, each bound in a slot with its birth.
-use Rattle.std.specs.Prelude.{◌≡◌, ◌≢◌, ◌⊎◌, ℕ, suc, ◌+◌, ◌<◌, ◌≤◌, ◌^◌, ◌≤ℤ◌, ◌<ℤ◌, ℤ, pos, IfSome, List, [], ◌∷◌, length, Option, None, Some, slice_index_or, MatchOption, option_map, All, sum_by, slice_get, ◌==◌, if◌then◌else◌}
+use Rattle.std.specs.Prelude.{◌≡◌, ◌≢◌, ◌⊎◌, ℕ, suc, ◌+◌, ◌<◌, ◌≤◌, ◌^◌, ◌≤ℤ◌, ◌<ℤ◌, ℤ, IfSome, List, [], ◌∷◌, length, Option, None, Some, slice_index_or, MatchOption, option_map, All, sum_by, slice_get, ◌==◌, if◌then◌else◌}
 use Rattle.std.specs.List.{Contains}
 use Rattle.cstn_label.specs.declared.bounds.Bound.{Bound}
 use Rattle.cstn_label.specs.Bounds.{Dominates}
@@ -158,14 +158,6 @@ IsRecordOf label least r = (r.least ≡ least) × IsWithin (marks r.label) label
 -- the record lies at the place i of page k, which is one of the row
 abbrev pub IsRecordAt : List Page → ℕ → ℕ → ℕ → Record → Type 0
 IsRecordAt pages h k i r = (page : Page) × (slice_get pages k ≡ Some page) × (page.head ≡ h) × (slice_get page.records.items i ≡ Some r)
-
--- the value is the old one, or the least value of one of the records, whose label is within this one
-abbrev pub IsRaisedOn : List Record → TheLabel → ℤ → ℤ → Type 0
-IsRaisedOn records label old new = (new ≡ old) ⊎ ((i : ℕ) × (r : Record) × (slice_get records i ≡ Some r) × IsRecordOf label new r)
-
--- the value is 0, or the least value of a record of the row, whose label is within this one
-abbrev pub IsFloorIn : List Page → ℕ → TheLabel → ℤ → Type 0
-IsFloorIn pages h label floor = (floor ≡ pos 0) ⊎ ((k i : ℕ) × (r : Record) × IsRecordAt pages h k i r × IsRecordOf label floor r)
 
 -- no record of the row is of the kind, and none of the page
 abbrev pub IsNoneOf : List Page → ℕ → (Record → Type 0) → Type 0

@@ -7,7 +7,7 @@ ghost use Rattle.cstn_label.specs.Words.{has_bit};
 ghost use Rattle.cstn_minset.specs.declared.columns.Record.{Record as TheRecord};
 ghost use Rattle.cstn_minset.specs.Pages.{IsPage, held};
 ghost use Rattle.cstn_minset.specs.Columns.{AreThose};
-ghost use Rattle.cstn_minset.specs.Sets.{IsRecordAbove, AreSlotsOf, IsRecordAt, IsNoneOf, IsNoneOn, IsRaisedOn, IsFloorIn};
+ghost use Rattle.cstn_minset.specs.Sets.{IsRecordAbove, IsRecordOf, AreSlotsOf, IsRecordAt, IsNoneOf, IsNoneOn};
 
 use crate::bits::{bits_without, first_bit_from, first_bits};
 use crate::columns::{Columns, Record};
@@ -17,7 +17,7 @@ use cstn_label::{Label, NodeId, Prop};
 
 /// The greatest least value of a record of the row whose label is within this one, or 0 where that is lower.
 pub fn greatest_within(rows: &Rows, node: NodeId, label: Label) -> i32
-    ensures { IsFloorIn rows.now.pages node.0 (marks label) result }
+    ensures { (result ≡ pos 0) ⊎ ((k i : ℕ) × (r : TheRecord) × IsRecordAt rows.now.pages node.0 k i r × IsRecordOf (marks label) result r) }
 {
     let mut greatest = 0;
     let mut place = rows.first(node.0 as u32);
@@ -30,7 +30,7 @@ pub fn greatest_within(rows: &Rows, node: NodeId, label: Label) -> i32
 
 // The greatest least value of a record of a page whose label is within this one, or the floor where that is lower.
 fn greatest_on_page(page: &Page, label: Label, floor: i32) -> i32
-    ensures { IsRaisedOn page.now.records.items (marks label) floor result }
+    ensures { (result ≡ floor) ⊎ ((i : ℕ) × (r : TheRecord) × (slice_get page.now.records.items i ≡ Some r) × IsRecordOf (marks label) result r) }
 {
     if page.high <= floor {
         return floor;

@@ -4,7 +4,8 @@ use Rattle.std.proofs.lemmas.Int.{to_z-of_z}
 use Rattle.std.proofs.lemmas.Option.{same_Some}
 use Rattle.cstn_label.specs.Labels.{IsWithin}
 use Rattle.cstn_label.specs.Read.{marks}
-use Rattle.cstn_minset.proofs.GatherLemmas.{raised_by}
+use Rattle.cstn_minset.specs.declared.columns.Record.{Record}
+use Rattle.cstn_minset.specs.Sets.{IsRecordOf}
 use Rattle.cstn_minset.proofs.gather.greatest_on_page.Goals as goal
 
 pub returns : goal.returns

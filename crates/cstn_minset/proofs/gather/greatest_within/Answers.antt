@@ -1,10 +1,11 @@
-use Rattle.std.proofs.Common.{inl, inr, refl, sym, ◌∙◌, ap, subst, rules, SFits, w32}
-use Rattle.std.specs.Prelude.{ℤ}
+use Rattle.std.proofs.Common.{◌≡◌, ◌⊎◌, inl, inr, ℕ, refl, sym, ◌∙◌, ap, subst, rules, SFits, w32}
+use Rattle.std.specs.Prelude.{ℤ, pos}
 use Rattle.std.proofs.lemmas.Int.{to_z-of_z}
 use Rattle.std.proofs.lemmas.Option.{slice_get_within, same_Some}
 use Rattle.cstn_label.specs.Read.{marks}
+use Rattle.cstn_minset.specs.declared.columns.Record.{Record}
 use Rattle.cstn_minset.specs.Pages.{most_pages}
-use Rattle.cstn_minset.specs.Sets.{IsFloorIn}
+use Rattle.cstn_minset.specs.Sets.{IsRecordAt, IsRecordOf}
 use Rattle.cstn_minset.proofs.HomeLemmas.{page_of_in, pages_are_numbers}
 use Rattle.cstn_minset.proofs.NumberLemmas.{nearer}
 use Rattle.cstn_minset.proofs.ScanLemmas.{scanned_start, scanned_page, scanned_more}
@@ -39,8 +40,8 @@ loop-place-preserved c =
     let head = ap (λ x. x.head) (same_Some _ _ (c.page.ensures.page ∙ here.1)) ∙ here.2 in
     let next = c.greatest_on_page-greatest.result in
     let fits : SFits w32 next = search rules in
-    let told : IsFloorIn rows.pages h (marks c.args.label) next = elim c.greatest_on_page-greatest.ensures [
-      | inl same ↦ subst (λ (g : ℤ). IsFloorIn rows.pages h (marks c.args.label) g) (sym same) c.loop-place.invariant.floor
+    let told : (next ≡ pos 0) ⊎ ((k i : ℕ) × (r : Record) × IsRecordAt rows.pages h k i r × IsRecordOf (marks c.args.label) next r) = elim c.greatest_on_page-greatest.ensures [
+      | inl same ↦ subst (λ (g : ℤ). (g ≡ pos 0) ⊎ ((k i : ℕ) × (r : Record) × IsRecordAt rows.pages h k i r × IsRecordOf (marks c.args.label) g r)) (sym same) c.loop-place.invariant.floor
       | inr found ↦ inr (c.in-Some.number, found.0, found.1, (c.page.result.now, page, head, found.2), found.3)
     ] in
     record {
