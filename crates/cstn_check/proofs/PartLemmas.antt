@@ -1,13 +1,13 @@
 -- The last entry of a list with its ancestors, as steps of a refutation.
-use Rattle.std.proofs.Common.{ℕ, zero, suc, ◌≡◌, ◌-◌, ◌<◌, ◌≤◌, List, length, get_or, Some, arith, sym, subst, ap, ◌∙◌}
+use Rattle.std.proofs.Common.{ℕ, ◌≡◌, ◌-◌, ◌<◌, ◌≤◌, List, length, get_or, Some, arith, sym, subst, ap, ◌∙◌}
 use Rattle.std.specs.Prelude.{slice_get}
 use Rattle.std.specs.List.{All}
 use Rattle.std.proofs.lemmas.Int.{ints}
 use Rattle.std.proofs.lemmas.List.{length-map}
 use Rattle.std.proofs.lemmas.Option.{slice_get_within, slice_get-get_or}
 use Rattle.cstn_label.specs.Bounds.{Bound}
-use Rattle.cstn_net.specs.Limits.{most_deadline, most_load}
-use Rattle.cstn_net.specs.Networks.{Network, IsWellFormed, count, limit}
+use Rattle.cstn_net.specs.Limits.{most_load}
+use Rattle.cstn_net.specs.Networks.{Network, IsWellFormed, count}
 use Rattle.cstn_rules.specs.declared.entries.Entry.{Entry as DeclaredEntry}
 use Rattle.cstn_rules.specs.Derivations.{Entry, IsRefutation}
 use Rattle.cstn_rules.specs.Read.{the_entry}
