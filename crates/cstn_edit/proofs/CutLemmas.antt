@@ -1,5 +1,6 @@
 -- `IsSession` still holds after a constraint is taken out or changed, and its entries are dropped from the log.
-use Rattle.std.proofs.Common.{ℕ, zero, suc, ◌≡◌, ◌+◌, ◌<◌, ◌≤◌, inl, inr, Bool, true, false, List, [], ◌∷◌, ◌++◌, length, map, Option, Some, None, arith, refl, sym, subst, ap, ◌∙◌, length-append}
+use Rattle.std.proofs.Common.{ℕ, zero, suc, ◌≡◌, ◌+◌, ◌<◌, ◌≤◌, inl, inr, Bool, true, false, List, [], ◌∷◌, ◌++◌, length, map, Option, Some, None, arith, refl}
+use Rattle.std.proofs.Common.{sym, subst, ap, ◌∙◌, length-append}
 use Rattle.std.specs.Option.{is_some}
 use Rattle.std.specs.Prelude.{IfSome, IsNone, ◌↔◌, ℤ, slice_get, slice_index_or, nat_lt, if◌then◌else◌}
 use Rattle.std.specs.List.{All, AllPairs, Contains}

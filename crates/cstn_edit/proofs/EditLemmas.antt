@@ -75,11 +75,12 @@ others_of v id f = with_edited (record { net = record (the_network v.net) { cons
 
 -- what contracts see of it
 pub others_seen : (v : SessionParts) (old new : NetworkParts) (log left : State) (cs : List Constraint)
-    (f : List TheConstraint → List TheConstraint) (room edits id spare tries next : ℕ) (last : Option Outcome) (fresh : List ℕ) (settled : Bool) →
-    record { net = old; entries = log.entries; cap = log.cap; room = room; edits = edits; next = next; last = last; tries = tries; fresh = fresh; settled = settled } ≡ v →
+    (f : List TheConstraint → List TheConstraint) (room edits id spare tries next : ℕ) (last : Option Outcome)
+    (fresh : List ℕ) (settled : Bool) →
+    record { net = old; entries = log.entries; ids = log.ids; cap = log.cap; room = room; edits = edits; next = next; last = last; tries = tries; fresh = fresh; settled = settled } ≡ v →
     new ≡ record old { constraints = cs; spare = spare } → map the_constraint cs ≡ f (map the_constraint old.constraints) →
     left.cap ≡ log.cap → the_entries left.entries ≡ dropped (the_entries log.entries) id →
-    the_session (record { net = new; entries = left.entries; cap = left.cap; room = room; edits = edits + 1; next = next; last = None; tries = tries; fresh = fresh; settled = settled })
+    the_session (record { net = new; entries = left.entries; ids = left.ids; cap = left.cap; room = room; edits = edits + 1; next = next; last = None; tries = tries; fresh = fresh; settled = settled })
     ≡ others_of v id f
 others_seen v old new log left cs f room edits id spare tries next last fresh settled same is changed cap list =
     let left_as : Network → List Entry → Session = λ n k. record { net = n; kept = k; edits = edits + 1; next = next; last = None } in

@@ -1,5 +1,6 @@
 -- The fresh ids of a session through its edits.
-use Rattle.std.proofs.Common.{ℕ, ℤ, suc, ◌≡◌, inl, inr, ◌+◌, ◌<◌, ◌≤◌, Bool, true, false, not, ◌&&◌, ◌||◌, ◌==◌, List, [], ◌∷◌, ◌++◌, length, map, take, get_or, Some, arith, refl, sym, subst, ap, ◌∙◌}
+use Rattle.std.proofs.Common.{ℕ, ℤ, suc, ◌≡◌, inl, inr, ◌+◌, ◌<◌, ◌≤◌, Bool, true, false, not, ◌&&◌, ◌||◌, ◌==◌, List, [], ◌∷◌, ◌++◌, length, map, take, get_or}
+use Rattle.std.proofs.Common.{Some, arith, refl, sym, subst, ap, ◌∙◌}
 use Rattle.std.specs.Prelude.{slice_get, ◌↔◌}
 use Rattle.std.specs.List.{All, Contains, filter}
 use Rattle.std.proofs.lemmas.Bool.{cases_Bool, cond-true, cond-false, false≢true}
@@ -8,6 +9,7 @@ use Rattle.std.proofs.lemmas.List.Elements.{All-filter, All-map, All-contains, A
 use Rattle.cstn_net.specs.declared.constraints.Constraint.{Constraint as DeclaredConstraint}
 use Rattle.cstn_net.specs.Networks.{Network, Constraint}
 use Rattle.cstn_net.specs.Read.{NetworkParts, the_network, the_constraint}
+use Rattle.cstn_rules.specs.declared.entries.Entry.{Entry as DeclaredEntry}
 use Rattle.cstn_rules.specs.Derivations.{Entry}
 use Rattle.cstn_check.specs.Spent.{AreSpent, is_fresh, fresh_count}
 use Rattle.cstn_change.specs.Changes.{with_value, without}
@@ -211,16 +213,16 @@ added_freshened old new c log room fresh more settled held spare wide n was belo
     }))
 
 -- `IsFreshened` holds after a constraint is taken out or changed
-pub cut_freshened : (old new : NetworkParts) (log left : State) (room id gone : ℕ) (fresh more : List ℕ) (settled now : Bool) (held spare : ℕ) (wide list : ℕ) → IsFreshened old log room fresh settled held spare →
+pub cut_freshened : (old new : NetworkParts) (log left : State) (room id : ℕ) (fresh more : List ℕ) (settled now : Bool) (held spare : ℕ) (wide list : ℕ) → IsFreshened old log room fresh settled held spare →
     the_network new ≡ record (the_network old) { constraints = map the_constraint new.constraints } → ((c : Constraint) → Contains (map the_constraint new.constraints) c → (c.id ≡ id → ⊥) → Contains (map the_constraint old.constraints) c) →
-    more ≡ fresh_with id fresh (ids_of new.constraints) → (now ≡ true ↔ ((settled ≡ true) × (gone ≡ 0))) → (gone ≡ 0 → left ≡ log) → room ≤ wide → room ≤ list → IsFreshened new left room more now wide list
-cut_freshened old new log left room id gone fresh more settled now held spare wide list was is others longer stays same for_fresh for_list =
+    more ≡ fresh_with id fresh (ids_of new.constraints) → (now ≡ true ↔ ((settled ≡ true) × (left.entries ≡ log.entries))) → room ≤ wide → room ≤ list → IsFreshened new left room more now wide list
+cut_freshened old new log left room id fresh more settled now held spare wide list was is others longer stays for_fresh for_list =
     rw longer (record {
       some = some_with id fresh (ids_of new.constraints);
       spent = λ t.
           let both = stays.0 t in
           let spent = spent_with (the_network old) (the_entries log.entries) fresh (length log.entries) (was.spent both.0) id new.constraints others in
-          subst (λ (s : State). AreSpent (the_network new) (the_entries s.entries) (fresh_with id fresh (ids_of new.constraints)) (length s.entries)) (sym (same both.1))
+          subst (λ (es : List DeclaredEntry). AreSpent (the_network new) (the_entries es) (fresh_with id fresh (ids_of new.constraints)) (length es)) (sym both.1)
           (subst (λ (n : Network). AreSpent n (the_entries log.entries) (fresh_with id fresh (ids_of new.constraints)) (length log.entries)) (sym is) spent);
       for_fresh = for_fresh;
       for_list = for_list;

@@ -75,7 +75,7 @@ begun_same given net kept next same list is =
 
 pub started_seen : (given net : NetworkParts) (log : State) (room tries next : ℕ) → net ≡ record given { spare = net.spare } →
     the_entries log.entries ≡ first_entries (the_network net) log.cap → next ≡ id_above (the_network net).constraints →
-    the_session (record { net = net; entries = log.entries; cap = log.cap; room = room; edits = 0; next = next; last = None; tries = tries; fresh = []; settled = false })
+    the_session (record { net = net; entries = log.entries; ids = log.ids; cap = log.cap; room = room; edits = 0; next = next; last = None; tries = tries; fresh = []; settled = false })
     ≡ begun (the_network given)
 started_seen given net log room tries next same start is =
     begun_same given net (kept_list (the_network net) log.cap (the_entries log.entries)) next same

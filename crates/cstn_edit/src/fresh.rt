@@ -52,13 +52,6 @@ fn is_known(fresh: &[u32], id: u32) -> bool
     fresh.iter().any(|known| *known == id)
 }
 
-// Whether a list stays settled when `gone` of its entries are taken out.
-pub fn stays_settled(settled: bool, gone: u32) -> bool
-    ensures { (result ≡ true) ↔ ((settled ≡ true) × (gone ≡ 0)) }
-{
-    settled && gone == 0
-}
-
 pub fn is_yes(outcome: Outcome) -> bool
     ensures { (result ≡ true) ↔ ((load : ℕ) × (outcome.verdict ≡ Verdict.Yes load)) }
 {

@@ -18,7 +18,8 @@ pub fn sessions_stay_sound()
     ensures added { (room : ℕ) (s : Session) (x y : ℕ) (most : ℤ) (a : Label) → room ≤ most_constraints → ((p : ℕ) → 52 ≤ p → a p ≡ Absent) → x < count s.net
         → y < count s.net → refusal room (edited_of s) (adds x y most a) ≡ None → IsSound s → IsSound (with_change s (adds x y most a)) }
     ensures removed { (s : Session) (id : ℕ) → IsSound s → IsSound (with_change s (removes id)) }
-    ensures changed { (room : ℕ) (s : Session) (id : ℕ) (most : ℤ) → refusal room (edited_of s) (revalues id most) ≡ None → IsSound s → IsSound (with_change s (revalues id most)) }
+    ensures changed { (room : ℕ) (s : Session) (id : ℕ) (most : ℤ) → refusal room (edited_of s) (revalues id most) ≡ None → IsSound s
+        → IsSound (with_change s (revalues id most)) }
     ensures verdict { (cap : ℕ) (s : Session) → IsSound s → IsSound (with_verdict cap s) }
     ensures grows { (s : Session) → IsSound s → IsKept s.net s.kept }
 {}

@@ -16,7 +16,8 @@ use Rattle.cstn_check.specs.Growth.{log_of, live_bounds}
 use Rattle.cstn_check.specs.declared.verdicts.Verdict.{Verdict}
 use Rattle.cstn_check.specs.declared.verdicts.Verdict.TheVariants.{Yes, No, Full}
 use Rattle.cstn_history.specs.Histories.{History, allows}
-use Rattle.cstn_history.specs.Facts.{FactRefusal, OutOfRange, Done, Undecided, is_beyond, now_refusal, told_refusal, expected_refusal, at_now, with_told, with_expected}
+use Rattle.cstn_history.specs.Facts.{FactRefusal, OutOfRange, Done, Undecided, is_beyond, now_refusal, told_refusal, expected_refusal, at_now, with_told}
+use Rattle.cstn_history.specs.Facts.{with_expected}
 use Rattle.cstn_history.specs.Rest.{is_left, left, sight_left}
 use Rattle.cstn_next.specs.Next.{next_moment, named, awaited}
 use Rattle.cstn_text.specs.Names.{number_of}

@@ -13,7 +13,7 @@ use Rattle.cstn_refute.specs.Refutations.{RefutationParts}
 use Rattle.cstn_check.specs.Growth.{log_of, live_bounds}
 use Rattle.cstn_check.specs.Decisions.{verdict}
 use Rattle.cstn_check.specs.declared.verdicts.Verdict.{Verdict}
-use Rattle.cstn_check.specs.declared.verdicts.Verdict.TheVariants.{Yes, No, Full}
+use Rattle.cstn_check.specs.declared.verdicts.Verdict.TheVariants.{Yes, No}
 use Rattle.cstn_history.specs.declared.errors.RestError.{RestError}
 use Rattle.cstn_history.specs.declared.errors.RestError.TheVariants.{TooManyConstraints}
 use Rattle.cstn_history.specs.Handed.{HasRoom, IsRestRefusal, rest_number}
@@ -28,9 +28,9 @@ use Rattle.cstn_follow.specs.Answers.{IsLeftRefuted, SaidYes, SaidNo}
 use Rattle.cstn_follow.specs.Findings.{verdict_of, IsFindingOn}
 use Rattle.cstn_follow.specs.Following.{verdict_left}
 use Rattle.cstn_follow.specs.Waiting.{HasRoomToWait}
-use Rattle.cstn_follow.specs.Sessions.{SessionParts, IsFollowed, IsRightVerdict, IsSession, execution_of, followed}
+use Rattle.cstn_follow.specs.Sessions.{SessionParts, IsFollowed, IsRightNow, IsSession, execution_of, followed}
 use Rattle.cstn_follow.proofs.Edited.{left_fits, left_many}
-use Rattle.cstn_follow.proofs.GoesOn.{left_says, left_labelled, yes_can, no_cannot, full_is_above}
+use Rattle.cstn_follow.proofs.GoesOn.{left_says, left_labelled, verdict_right}
 
 -- the verdict of a finding is the one on the network
 pub finding_verdict : (cap : ℕ) (net : Network) (f : Finding) → IsFindingOn cap net f → verdict cap net ≡ verdict_of f
@@ -76,19 +76,13 @@ timely : (e : ExecutionParts) → IsExecution e → IsTimelyHistory (the_labelle
 timely e good = record { history = good.kept.history; in_time = good.kept.in_time }
 
 -- the verdict of a session is right
-pub right_verdict : (s : SessionParts) (v : Verdict) → IsSession s → s.verdict ≡ v → IsRightVerdict s v
-right_verdict s (Yes load) good is =
-    yes_can (the_labelled s.network) (the_history s.history) s.fresh s.cap load good.execution.labelled (timely (execution_of s) good.execution)
-    good.execution.above (good.verdict ∙ ap (λ v. Some v) is)
-right_verdict s (No load) good is =
-    no_cannot (the_labelled s.network) (the_history s.history) s.fresh s.cap load good.execution.labelled (timely (execution_of s) good.execution)
-    good.execution.above (good.verdict ∙ ap (λ v. Some v) is)
-right_verdict s Full good is =
-    full_is_above (the_labelled s.network) (the_history s.history) s.fresh s.cap good.execution.labelled (timely (execution_of s) good.execution)
-    good.execution.above (good.verdict ∙ ap (λ v. Some v) is)
+pub right_verdict : (s : SessionParts) (v : Verdict) → IsSession s → s.verdict ≡ v → IsRightNow s v
+right_verdict s v good is =
+    verdict_right (the_labelled s.network) (the_history s.history) s.fresh s.cap v good.execution.labelled (timely (execution_of s) good.execution)
+    good.execution.above (good.verdict ∙ ap Some is)
 
 pub found_right : (e : ExecutionParts) (cap edits : ℕ) (f : Finding) (v : Verdict) → IsFollowed e cap edits f → v ≡ verdict_of f
-    → IsRightVerdict (followed e cap edits f) v
+    → IsRightNow (followed e cap edits f) v
 found_right e cap edits f v good is = right_verdict (followed e cap edits f) v (followed_session e cap edits f good) (sym is)
 
 -- there is room for what is left

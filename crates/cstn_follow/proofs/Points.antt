@@ -9,7 +9,8 @@ use Rattle.cstn_history.specs.Histories.{History}
 use Rattle.cstn_change.specs.Changes.{Change, removes, revalues, Refusal, refusal, after}
 use Rattle.cstn_change.specs.ChangeLines.{addition}
 use Rattle.cstn_lines.specs.EditLines.{Edit, added, removed, changed, asked}
-use Rattle.cstn_lines.specs.FollowLines.{Follow, follow_read, IsFollow, done_at, came_at, now_at, awaited_at, edits, ends_by, asks_next, asks_by, asks_blame, asks_rest}
+use Rattle.cstn_lines.specs.FollowLines.{Follow, follow_read, IsFollow, done_at, came_at, now_at, awaited_at, edits, ends_by, asks_next, asks_by, asks_blame}
+use Rattle.cstn_lines.specs.FollowLines.{asks_rest}
 use Rattle.cstn_lines.proofs.FollowLemmas.{follow_is}
 use Rattle.cstn_reply.specs.Sessions.{Turn, more, last, wrong}
 use Rattle.cstn_reply.specs.Reached.{state_after}

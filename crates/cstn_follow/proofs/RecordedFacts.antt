@@ -1,5 +1,6 @@
 -- How facts are refused, and what has happened once they are recorded.
-use Rattle.std.proofs.Common.{ℕ, zero, suc, ◌≡◌, ◌≤◌, Bool, false, max, List, [], ◌∷◌, ◌++◌, length, Option, Some, None, arith, refl, sym, subst, ap, ◌∙◌, inl, inr}
+use Rattle.std.proofs.Common.{ℕ, zero, suc, ◌≡◌, ◌≤◌, Bool, false, max, List, [], ◌∷◌, ◌++◌, length, Option, Some, None, arith, refl, sym, subst, ap, ◌∙◌, inl}
+use Rattle.std.proofs.Common.{inr}
 use Rattle.std.specs.Prelude.{◌⊎◌, cond, Result, Ok, nat_lt, nat_le, codes, decimal}
 use Rattle.std.specs.List.{Contains, cons_option}
 use Rattle.std.specs.Option.{option_map, is_none}
@@ -13,7 +14,8 @@ use Rattle.cstn_text.specs.PrintedNames.{printed_name}
 use Rattle.cstn_lift.specs.Labelled.{Labelled}
 use Rattle.cstn_history.specs.Histories.{History}
 use Rattle.cstn_history.specs.Facts.{FactRefusal, Past, OutOfRange, NoSuch, Done, Undecided, NotObserved, Told}
-use Rattle.cstn_history.specs.Facts.{is_beyond, again_refusal, done_refusal, now_refusal, told_refusal, told_after, again_told, expected_refusal, expected_after, again_expected, observed_since, at_now, with_done, with_told, with_expected}
+use Rattle.cstn_history.specs.Facts.{is_beyond, again_refusal, done_refusal, now_refusal, told_refusal, told_after, again_told, expected_refusal}
+use Rattle.cstn_history.specs.Facts.{expected_after, again_expected, observed_since, at_now, with_done, with_told, with_expected}
 use Rattle.cstn_history.proofs.Recorded.{put_there, put_other, put_kept}
 use Rattle.cstn_lines.specs.LiveLines.{printed_truth}
 use Rattle.cstn_reply.specs.Texts.{line}

@@ -1,6 +1,7 @@
 -- Until when a time-point can wait is found by halving.
-use Rattle.std.proofs.Common.{ℕ, zero, suc, ◌≡◌, inl, inr, ◌+◌, ◌-◌, ◌*◌, ◌^◌, ◌<◌, ◌≤◌, Bool, true, false, List, [], ◌∷◌, ◌++◌, Option, Some, None, length, arith, refl, sym, subst, ap, ◌∙◌}
-use Rattle.std.specs.Prelude.{◌↔◌, ◌/◌, map, nat_lt, pos, ◌-ℤ◌, if◌then◌else◌}
+use Rattle.std.proofs.Common.{ℕ, zero, suc, ◌≡◌, inl, inr, ◌+◌, ◌-◌, ◌<◌, ◌≤◌, Bool, true, false, List, [], ◌∷◌, ◌++◌, Some, None, length, arith, refl, sym}
+use Rattle.std.proofs.Common.{subst, ap, ◌∙◌}
+use Rattle.std.specs.Prelude.{◌↔◌, pos, ◌-ℤ◌, if◌then◌else◌}
 use Rattle.std.specs.List.{All, filter_map}
 use Rattle.std.proofs.lemmas.Int.{ints}
 use Rattle.std.proofs.lemmas.Bool.{both_ways}

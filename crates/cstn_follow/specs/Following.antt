@@ -1,14 +1,17 @@
 -- Following what happens: a labelled network is told facts and edits, and asked what is next.
-use Rattle.std.specs.Prelude.{ℕ, zero, suc, Bool, false, ◌&&◌, ◌||◌, nat_le, List, [], ◌++◌, length, map, slice_index_or, Option, None, Some, if◌then◌else◌, codes, decimal}
+use Rattle.std.specs.Prelude.{ℕ, zero, suc, ◌<◌, Bool, false, ◌&&◌, ◌||◌, nat_le, List, [], ◌++◌, length, map, slice_index_or, Option, None, Some}
+use Rattle.std.specs.Prelude.{if◌then◌else◌, codes, decimal}
 use Rattle.std.specs.Option.{is_some}
 use Rattle.cstn_net.specs.Limits.{most_constraints}
 use Rattle.cstn_net.specs.Networks.{Network, count}
 use Rattle.cstn_lift.specs.Labelled.{Labelled}
 use Rattle.cstn_lift.specs.Completion.{completed_label}
 use Rattle.cstn_lift.specs.Lowered.{lowered}
+use Rattle.cstn_check.specs.Growth.{load_of}
 use Rattle.cstn_check.specs.Decisions.{verdict}
 use Rattle.cstn_check.specs.declared.verdicts.Verdict.{Verdict}
 use Rattle.cstn_check.specs.declared.verdicts.Verdict.TheVariants.{Yes, No, Full as IsFull}
+use Rattle.cstn_history.specs.Continuations.{Can}
 use Rattle.cstn_history.specs.Histories.{History, nothing_yet, is_done, allows}
 use Rattle.cstn_history.specs.Rest.{left, rest, sight_left}
 use Rattle.cstn_change.specs.Changes.{id_above}
@@ -63,6 +66,13 @@ fits m h fresh = has_few (lowered m) && (has_few (rest m h fresh).base && has_fe
 -- the verdict on what is left, where there are no more constraints than that
 abbrev pub verdict_left : Labelled → History → ℕ → ℕ → Option Verdict
 verdict_left m h fresh cap = if fits m h fresh then Some (verdict cap (lowered (rest m h fresh))) else None
+
+-- a verdict on what is left is right: some table continues what has happened, or none does, or the log of what is left, lowered, has
+-- more entries than it may
+abbrev pub IsRightVerdict : Labelled → History → ℕ → ℕ → Verdict → Type 0
+IsRightVerdict m h fresh cap (Yes load) = Can m h
+IsRightVerdict m h fresh cap (No load) = Can m h → ⊥
+IsRightVerdict m h fresh cap IsFull = cap < load_of (lowered (rest m h fresh))
 
 abbrev pub verdict_within : Following → Option Verdict
 verdict_within s = verdict_left s.network s.history s.fresh s.cap

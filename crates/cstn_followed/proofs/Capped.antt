@@ -1,5 +1,6 @@
 -- With a larger cap the same is said, but where a log had more entries than the smaller one.
-use Rattle.std.proofs.Common.{ℕ, zero, suc, ◌≡◌, ◌+◌, ◌-◌, ◌≤◌, Bool, true, false, List, [], ◌∷◌, ◌++◌, Option, Some, None, arith, refl, sym, subst, ap, ◌∙◌, inl, inr}
+use Rattle.std.proofs.Common.{ℕ, zero, suc, ◌≡◌, ◌+◌, ◌-◌, ◌≤◌, Bool, true, false, List, [], ◌∷◌, ◌++◌, Option, Some, None, arith, refl, sym, subst, ap, ◌∙◌}
+use Rattle.std.proofs.Common.{inl, inr}
 use Rattle.std.specs.Prelude.{◌⊎◌, Result, Ok, Err, nat_lt, if◌then◌else◌, option_and_then, codes, decimal}
 use Rattle.std.specs.Option.{option_map}
 use Rattle.std.proofs.lemmas.Option.{same_Some}

@@ -35,7 +35,8 @@ use Rattle.cstn_followed.specs.Sessions.{IsReached, follow_turn}
 use Rattle.cstn_followed.specs.Answers.{Accepts}
 use Rattle.cstn_followed.specs.Plans.{IsRefusedBy}
 use Rattle.cstn_followed.specs.Journal.{is_refusal, accepted_of, unless_refused}
-use Rattle.cstn_followed.specs.Edits.{change_if, change_said, after_if, IsAcceptedText, plan_told, plan_by_lines, IsHistoryTold, IsHistoryByLines, IsEditLine, Edits, IsNew}
+use Rattle.cstn_followed.specs.Edits.{change_if, change_said, after_if, IsAcceptedText, plan_told, plan_by_lines, IsHistoryTold, IsHistoryByLines, IsEditLine}
+use Rattle.cstn_followed.specs.Edits.{Edits, IsNew}
 use Rattle.cstn_followed.proofs.Verdicts.{reached_sound, fact_accepted}
 use Rattle.cstn_followed.proofs.Refusals.{refusal_stays}
 use Rattle.cstn_followed.proofs.Journals.{accepted_more}

@@ -21,7 +21,8 @@ use Rattle.cstn_history.specs.Facts.{FactRefusal, OutOfRange, is_beyond, now_ref
 use Rattle.cstn_history.proofs.Followed.{step_is_done}
 use Rattle.cstn_history.proofs.NextMoment.{quiet_upto}
 use Rattle.cstn_history.proofs.Recorded.{put_there, put_other, timely_done}
-use Rattle.cstn_lines.specs.FollowLines.{Follow, follow_read, IsFollow, done_at, came_at, now_at, awaited_at, edits, ends_by, asks_next, asks_by, asks_blame, asks_rest}
+use Rattle.cstn_lines.specs.FollowLines.{Follow, follow_read, IsFollow, done_at, came_at, now_at, awaited_at, edits, ends_by, asks_next, asks_by, asks_blame}
+use Rattle.cstn_lines.specs.FollowLines.{asks_rest}
 use Rattle.cstn_lines.proofs.FollowLemmas.{follow_is}
 use Rattle.cstn_reply.specs.Texts.{line, full_line}
 use Rattle.cstn_reply.specs.Reached.{state_after}
@@ -30,7 +31,7 @@ use Rattle.cstn_follow.specs.FactLines.{records, refuses, unless_refused, all_do
 use Rattle.cstn_follow.specs.Hearing.{on_line, counted, hear}
 use Rattle.cstn_follow.specs.Progress.{HasRoomLeft, IsQuietUpto}
 use Rattle.cstn_follow.proofs.Going.{least_table, goes_on}
-use Rattle.cstn_follow.proofs.GoesOn.{left_says, no_cannot}
+use Rattle.cstn_follow.proofs.GoesOn.{left_says, verdict_right}
 use Rattle.cstn_save.specs.Canonical.{canonical}
 use Rattle.cstn_follow.specs.Turns.{heard_by}
 use Rattle.cstn_followed.specs.Plans.{KeepsToNext, KeepToNext, AreNamed, IsYes, KeepsGoing, KeepGoing}
@@ -118,7 +119,7 @@ module _ (s : Following) (sound : IsSound s) (can : Can s.network s.history) whe
           → Answer s (on_verdict s (record s { history = h }) (verdict_line s.cap) o)
       by_verdict None is = refused (codes "F8")
       by_verdict (Some (Yes load)) is = (inr (inl (load, refl)), later.1)
-      by_verdict (Some (No load)) is = absurd (no_cannot s.network h s.fresh s.cap load sound.labelled later.0 sound.above is later.1)
+      by_verdict (Some (No load)) is = absurd (verdict_right s.network h s.fresh s.cap (No load) sound.labelled later.0 sound.above is later.1)
       by_verdict (Some Full) is = (inr (inr refl), later.1)
 
   did_goes : (t : ℕ) (given : List (List ℕ)) → IsQuietUpto s.network s.history t → AreNamed s t given → Answer s (on_did s t given)

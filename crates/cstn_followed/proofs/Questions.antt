@@ -1,5 +1,6 @@
 -- What is answered to the questions of a session that follows is true of what has happened.
-use Rattle.std.proofs.Common.{ℕ, zero, suc, ◌≡◌, ◌-◌, ◌<◌, Bool, true, false, not, ◌&&◌, List, [], length, Option, Some, None, arith, refl, sym, subst, ap, ◌∙◌, inl, inr}
+use Rattle.std.proofs.Common.{ℕ, zero, suc, ◌≡◌, ◌-◌, ◌<◌, Bool, true, false, not, ◌&&◌, List, [], length, Option, Some, None, arith, refl, sym, subst, ap, ◌∙◌}
+use Rattle.std.proofs.Common.{inl, inr}
 use Rattle.std.specs.Prelude.{◌↔◌, if◌then◌else◌, bytes_eq}
 use Rattle.std.specs.Option.{is_some}
 use Rattle.std.proofs.lemmas.Bool.{cases_eq, and_parts, or_from, or_parts, both_ways, ltb-true}
@@ -36,7 +37,8 @@ use Rattle.cstn_lines.specs.FollowLines.{Follow, follow_read, asks_next, asks_by
 use Rattle.cstn_reply.specs.Texts.{line}
 use Rattle.cstn_reply.specs.Sessions.{Turn, more, last, wrong}
 use Rattle.cstn_history.specs.Facts.{Undecided}
-use Rattle.cstn_follow.specs.Following.{Following, Heard, says, saves, left_now, verdict_now, verdict_within, verdict_line, too_many, is_open, any_below, is_any_open}
+use Rattle.cstn_follow.specs.Following.{Following, Heard, says, saves, left_now, verdict_now, verdict_within, verdict_line, too_many, is_open, any_below}
+use Rattle.cstn_follow.specs.Following.{is_any_open}
 use Rattle.cstn_follow.specs.FactLines.{refused_fact}
 use Rattle.cstn_follow.specs.Hearing.{counted, hear}
 use Rattle.cstn_follow.specs.Questions.{next_at, next_after}
@@ -47,7 +49,7 @@ use Rattle.cstn_check.proofs.Said.{said_full}
 use Rattle.cstn_follow.specs.Waiting.{HasRoomToWait, rest_until, tried, waits_until}
 use Rattle.cstn_follow.specs.Blame.{alone, said_by, blamed}
 use Rattle.cstn_follow.proofs.Blamed.{found_stops, found_needed, found_ascend}
-use Rattle.cstn_follow.proofs.GoesOn.{left_says, left_labelled, yes_can, no_cannot}
+use Rattle.cstn_follow.proofs.GoesOn.{left_says, left_labelled, verdict_right}
 use Rattle.cstn_follow.proofs.Until.{last_found}
 use Rattle.cstn_save.specs.Canonical.{canonical}
 use Rattle.cstn_follow.specs.Turns.{heard_by}
@@ -72,7 +74,7 @@ planned s load sound is =
     let room = (left_says s.network s.history s.fresh s.cap (Yes load) within).0 in
     let net = lowered (left_now s) in
     let good = lowered_well_formed (left_now s) left room.lowered in
-    let can = yes_can s.network s.history s.fresh s.cap load sound.labelled sound.timely sound.above within in
+    let can = verdict_right s.network s.history s.fresh s.cap (Yes load) sound.labelled sound.timely sound.above within in
     let consistent = (equivalent (left_now s) left).consistent.0 ((can_both s.network s.history s.fresh sound.labelled sound.timely.history).0 can) in
     record {
       labelled = sound.labelled;
@@ -129,7 +131,7 @@ module _ (s : Following) (sound : IsSound s) (x : ℕ) (here : x < count s.netwo
       where
         by_moment : (o : Option ℕ) → waits_until s.network s.history s.fresh x s.cap ≡ o → AnswersWait s x (Yes load) (by_text (counted s) x o)
         by_moment (Some t) found =
-            let can = yes_can s.network s.history s.fresh s.cap load sound.labelled sound.timely sound.above (sound.verdict ∙ ap Some is) in
+            let can = verdict_right s.network s.history s.fresh s.cap (Yes load) sound.labelled sound.timely sound.above (sound.verdict ∙ ap Some is) in
             let both = last_found s.network s.history s.fresh x sound.labelled sound.timely sound.above room here none (left_here x none possible)
             s.cap can t found in
             inl (t, record { waits = both.0; last = both.1 }, refl)
@@ -175,7 +177,7 @@ blame_tells s (No load) sound is = (refl, by_ids (blamed s.network s.history s.f
     room = (left_says s.network s.history s.fresh s.cap (No load) within).0
 
     never : Can s.network s.history → ⊥
-    never = no_cannot s.network s.history s.fresh s.cap load sound.labelled sound.timely sound.above within
+    never = verdict_right s.network s.history s.fresh s.cap (No load) sound.labelled sound.timely sound.above within
 
     by_ids : (o : Option (List ℕ)) → blamed s.network s.history s.fresh s.cap ≡ o → AnswersBlame s (No load) (blame_text s.cap o)
     by_ids (Some ids) found = inl (

@@ -96,5 +96,6 @@ IsBlameFull s =
 abbrev pub AnswersBlame : Following → Verdict → List ℕ → Type 0
 AnswersBlame s (Yes load) text = text ≡ verdict_line s.cap (Yes load)
 AnswersBlame s (No load) text =
-    ((ids : List ℕ) × AreToBlame s.network s.history ids × AreOwn s.network ids × (text ≡ line (codes "blame" ++ ids_text ids))) ⊎ (IsBlameFull s × (text ≡ full_line s.cap))
+    ((ids : List ℕ) × AreToBlame s.network s.history ids × AreOwn s.network ids × (text ≡ line (codes "blame" ++ ids_text ids)))
+    ⊎ (IsBlameFull s × (text ≡ full_line s.cap))
 AnswersBlame s Full text = text ≡ verdict_line s.cap Full

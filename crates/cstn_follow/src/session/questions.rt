@@ -7,7 +7,6 @@ ghost use Rattle.cstn_lift.specs.Read.{the_labelled};
 ghost use Rattle.cstn_plan.specs.Plans.{the_bounds};
 ghost use Rattle.cstn_check.specs.Growth.{log_of, live_bounds};
 ghost use Rattle.cstn_history.specs.Read.{the_history, the_fact_refusal};
-ghost use Rattle.cstn_history.specs.Rest.{is_left};
 ghost use Rattle.cstn_follow.specs.Answers.{IsRightOutlook, TellsOutlook, IsLeftRefuted, IsRightLatest, TellsLatest, IsRightBlame, TellsBlame};
 ghost use Rattle.cstn_follow.specs.Answers.{SaidNo, SaidYes, wait_refusal, HasRoomLeftToWait};
 ghost use Rattle.cstn_follow.specs.Executions.{left_of};

@@ -1,9 +1,11 @@
-use Rattle.std.proofs.Common.{rules, ℕ, ◌≡◌, ◌≤◌, ◌+◌, ◌++◌, true, arith, length, sym, subst}
+use Rattle.std.proofs.Common.{rules, ℕ, ◌≡◌, ◌≤◌, ◌+◌, [], ◌++◌, true, arith, length, sym, subst}
+use Rattle.std.proofs.lemmas.List.{append-nil}
 use Rattle.cstn_net.specs.Strategies.{IsConsistent}
 use Rattle.cstn_net.specs.Read.{the_network}
 use Rattle.cstn_log.specs.Entries.{the_entries}
 use Rattle.cstn_edit.specs.Sessions.{SessionParts, Refuted, kept_of, kept_list}
 use Rattle.cstn_check.specs.Spent.{most_tries}
+use Rattle.cstn_check.specs.Turns.{KeepIds}
 use Rattle.cstn_edit.specs.Fresh.{ids_of}
 use Rattle.cstn_edit.proofs.FreshLemmas.{some_none, count_some}
 use Rattle.cstn_edit.proofs.RefutationLemmas.{kept_load}
@@ -47,6 +49,13 @@ returns-clause-prefix c = λ not.
       subst (λ (v : SessionParts). kept_of v ++ p.0 ≡ kept_list net c.answer-outcome.new.log.cap new) c.self.view_is
           (subst (λ k. kept_list net cap old ++ p.0 ≡ kept_list net k new) (sym c.answer-outcome.ensures.size) p.1),
     )
+
+pub returns-clause-ids : goal.returns-clause-ids
+returns-clause-ids c = λ not.
+    subst (λ (v : SessionParts). KeepIds v.ids c.answer-outcome.new.log.ids) c.self.view_is (c.answer-outcome.ensures.ids not)
+
+pub returns-in-Some-clause-ids : goal.returns-in-Some-clause-ids
+returns-in-Some-clause-ids c = λ not. record { more = []; is = append-nil _ }
 
 pub invariant_of-self : goal.invariant_of-self
 invariant_of-self c = (
