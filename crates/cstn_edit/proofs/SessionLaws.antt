@@ -44,14 +44,14 @@ use Rattle.cstn_change.specs.Changes.{Refusal, NotObserved, adds, removes, reval
 use Rattle.cstn_change.proofs.IdLemmas.{above_each, value_id}
 use Rattle.cstn_change.proofs.RefusalLemmas.{true_value, on_observed, none_mapped}
 use Rattle.cstn_edit.specs.Sessions.{kept_after, outcome_of, verdict_by}
-use Rattle.cstn_edit.specs.Edits.{Session, begun, edited_of, with_edited, with_change, outcome_at, kept_at, with_verdict}
-use Rattle.cstn_edit.specs.Sound.{AreApart, IsTrueOf, IsLastTrue, IsSound}
+use Rattle.cstn_edit.specs.Edits.{Session, begun_session, edited_of, with_edited, with_change, outcome_at, kept_at, with_verdict}
+use Rattle.cstn_edit.specs.Sound.{NoneDominated, IsTrueOf, IsLastTrue, IsSound}
 use Rattle.cstn_edit.proofs.CutLemmas.{dropped_front, dropped_last}
 use Rattle.cstn_edit.proofs.VerdictLemmas.{outcome_when, after_grown, after_log, after_bases}
 use Rattle.cstn_label.specs.OnLetters.{IsOnLetters}
 
 -- a session starts soundly
-pub begun_is_sound : (net : Network) → IsWellFormed net → IsSound (begun net)
+pub begun_is_sound : (net : Network) → IsWellFormed net → IsSound (begun_session net)
 begun_is_sound net good =
     let on = bases_go_on net good.network good.letters in
     record {
@@ -126,7 +126,7 @@ added_is_sound room s x y most a few small from to none sound =
     }
 
 -- where no entry is dominated by an earlier one, this holds of the entries that stay as well
-dropped_apart : (list : List Entry) (id : ℕ) → AreApart list → AreApart (dropped list id)
+dropped_apart : (list : List Entry) (id : ℕ) → NoneDominated list → NoneDominated (dropped list id)
 dropped_apart list id a = record {
   apart = λ i j e f before at_i at_j over.
       let marks = marked_staying id [] list in

@@ -2,7 +2,7 @@
 ghost use Rattle.std.specs.Prelude.{◌≡◌, ◌≤◌, ◌↔◌, true, [], length, vec_capacity};
 ghost use Rattle.cstn_log.specs.Entries.{the_entries};
 ghost use Rattle.cstn_log.specs.Cuts.{chosen, dropped, marked_staying};
-ghost use Rattle.cstn_edit.specs.Fresh.{fresh_with, ids_of};
+ghost use Rattle.cstn_edit.specs.Fresh.{fresh_with, constraint_ids};
 
 use crate::fresh::freshen;
 use cstn_log::Log;
@@ -25,7 +25,7 @@ pub fn forget(
     ensures births { log.new.births ≡ log.old.births }
     ensures size { (log.new.cap ≡ log.old.cap) × (log.new.nodes ≡ log.old.nodes) }
     ensures short { length log.old.entries ≤ log.old.cap }
-    ensures fresh { fresh.new.items ≡ fresh_with id fresh.old.items (ids_of net.now.constraints) }
+    ensures fresh { fresh.new.items ≡ fresh_with id fresh.old.items (constraint_ids net.now.constraints) }
     ensures room { (vec_capacity list.old ≤ vec_capacity fresh.new) × (vec_capacity list.new ≡ vec_capacity fresh.old) }
     ensures settled { (result ≡ true) ↔ ((settled ≡ true) × (log.new.entries ≡ log.old.entries)) }
 {

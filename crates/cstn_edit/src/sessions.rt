@@ -16,12 +16,12 @@ ghost use Rattle.cstn_check.specs.Growth.{grow, load_of};
 ghost use Rattle.cstn_refute.specs.Refutations.{FitsText, the_steps};
 ghost use Rattle.cstn_check.specs.Spent.{most_tries};
 ghost use Rattle.cstn_check.specs.Turns.{KeepIds};
-ghost use Rattle.cstn_edit.specs.Fresh.{fresh_with, ids_of};
+ghost use Rattle.cstn_edit.specs.Fresh.{fresh_with, constraint_ids};
 ghost use Rattle.cstn_change.specs.Changes.{adds, removes, revalues, id_above, refusal};
 ghost use Rattle.cstn_change.specs.Read.{refusal_of};
 ghost use Rattle.cstn_change.specs.declared.errors.EditError.{EditError};
 ghost use Rattle.cstn_edit.specs.Sessions.{kept_of, kept_after, outcome_of};
-ghost use Rattle.cstn_edit.specs.Edits.{the_session, edited_of, begun, with_change, outcome_at, with_verdict};
+ghost use Rattle.cstn_edit.specs.Edits.{the_session, edited_of, begun_session, with_change, outcome_at, with_verdict};
 
 use crate::answers::answer;
 use crate::cuts::forget;
@@ -60,9 +60,9 @@ pub struct Session {
 impl Model for Session {
     ghost use Rattle.std.specs.Prelude.{vec_capacity};
     ghost use Rattle.cstn_edit.specs.Fresh.{IsFreshened};
-    ghost use Rattle.cstn_edit.specs.Sessions.{SessionParts, IsSession};
+    ghost use Rattle.cstn_edit.specs.Sessions.{EditSessionParts, IsEditSession};
 
-    ghost Value = { SessionParts };
+    ghost Value = { EditSessionParts };
 
     ghost view = { λ s. record {
       net = s.net;
@@ -78,7 +78,7 @@ impl Model for Session {
       settled = s.settled;
     } };
 
-    ghost invariant = { λ s. IsSession s.net s.log s.room s.edits s.next s.last
+    ghost invariant = { λ s. IsEditSession s.net s.log s.room s.edits s.next s.last
         × IsFreshened s.net s.log s.room s.fresh.items s.settled (vec_capacity s.fresh) (vec_capacity s.list) };
 }
 
@@ -97,7 +97,7 @@ impl Session {
         ensures next { IfOk result (λ s. s.next ≡ id_above (the_network net).constraints) }
         ensures last { IfOk result (λ s. s.last ≡ None) }
         ensures fresh { IfOk result (λ s. (s.fresh ≡ []) × (s.settled ≡ false)) }
-        ensures session { IfOk result (λ s. the_session s ≡ begun (the_network net)) }
+        ensures session { IfOk result (λ s. the_session s ≡ begun_session (the_network net)) }
     {
         let mut net = net;
         net.reserve(room)?;
@@ -192,7 +192,7 @@ impl Session {
               ids = self.new.ids;
               edits = self.old.edits + 1;
               last = None;
-              fresh = fresh_with id self.old.fresh (ids_of self.new.net.constraints);
+              fresh = fresh_with id self.old.fresh (constraint_ids self.new.net.constraints);
               settled = self.new.settled;
             } }
         ensures kept { IsOk result → kept_of self.new ≡ dropped (kept_of self.old) id }
@@ -236,7 +236,7 @@ impl Session {
               ids = self.new.ids;
               edits = self.old.edits + 1;
               last = None;
-              fresh = fresh_with id self.old.fresh (ids_of self.new.net.constraints);
+              fresh = fresh_with id self.old.fresh (constraint_ids self.new.net.constraints);
               settled = self.new.settled;
             } }
         ensures kept { IsOk result → kept_of self.new ≡ dropped (kept_of self.old) id }

@@ -23,12 +23,12 @@ use Rattle.cstn_history.specs.Read.{HistoryParts, the_history}
 use Rattle.cstn_history.specs.Rest.{rest}
 use Rattle.cstn_follow.specs.declared.findings.Finding.{Finding}
 use Rattle.cstn_follow.specs.declared.findings.Finding.TheVariants.{Planned, Refuted, Unknown}
-use Rattle.cstn_follow.specs.Executions.{ExecutionParts, IsExecution, left_of}
+use Rattle.cstn_follow.specs.Executions.{ExecutionParts, IsExecution, execution_left}
 use Rattle.cstn_follow.specs.Answers.{IsLeftRefuted, SaidYes, SaidNo}
 use Rattle.cstn_follow.specs.Findings.{verdict_of, IsFindingOn}
 use Rattle.cstn_follow.specs.Following.{verdict_left}
 use Rattle.cstn_follow.specs.Waiting.{HasRoomToWait}
-use Rattle.cstn_follow.specs.Sessions.{SessionParts, IsFollowed, IsRightNow, IsSession, execution_of, followed}
+use Rattle.cstn_follow.specs.Sessions.{SessionParts, IsFollowed, IsRightNow, IsSession, execution_of, session_parts}
 use Rattle.cstn_follow.proofs.Edited.{left_fits, left_many}
 use Rattle.cstn_follow.proofs.GoesOn.{left_says, left_labelled, verdict_right}
 
@@ -52,7 +52,7 @@ module _ (m : Labelled) (h : History) (fresh cap : ℕ) where
   ]
 
 -- what is true of the session with these parts
-pub followed_session : (e : ExecutionParts) (cap edits : ℕ) (finding : Finding) → IsFollowed e cap edits finding → IsSession (followed e cap edits finding)
+pub followed_session : (e : ExecutionParts) (cap edits : ℕ) (finding : Finding) → IsFollowed e cap edits finding → IsSession (session_parts e cap edits finding)
 followed_session e cap edits finding good = record {
   execution = good.execution;
   few_edits = good.few_edits;
@@ -62,13 +62,13 @@ followed_session e cap edits finding good = record {
 
 -- what is carried out, with what was found of what is left of it, is followed as it is to be
 pub is_followed : (e y : ExecutionParts) (cap edits : ℕ) (f : Finding) → y ≡ e → IsExecution y → edits ≤ most_edits → e.fresh ≤ 2 ^ 31 + edits
-    → IsFindingOn cap (lowered (left_of e)) f → verdict_left (the_labelled e.network) (the_history e.history) e.fresh cap ≡ Some (verdict_of f)
+    → IsFindingOn cap (lowered (execution_left e)) f → verdict_left (the_labelled e.network) (the_history e.history) e.fresh cap ≡ Some (verdict_of f)
     → IsFollowed y cap edits f
 is_followed e y cap edits f is execution few low found verdict = record {
   execution = execution;
   few_edits = few;
   low = subst (λ (z : ExecutionParts). z.fresh ≤ 2 ^ 31 + edits) (sym is) low;
-  found = subst (λ (z : ExecutionParts). IsFindingOn cap (lowered (left_of z)) f) (sym is) found;
+  found = subst (λ (z : ExecutionParts). IsFindingOn cap (lowered (execution_left z)) f) (sym is) found;
   verdict = subst (λ (z : ExecutionParts). verdict_left (the_labelled z.network) (the_history z.history) z.fresh cap ≡ Some (verdict_of f)) (sym is) verdict;
 }
 
@@ -82,8 +82,8 @@ right_verdict s v good is =
     good.execution.above (good.verdict ∙ ap Some is)
 
 pub found_right : (e : ExecutionParts) (cap edits : ℕ) (f : Finding) (v : Verdict) → IsFollowed e cap edits f → v ≡ verdict_of f
-    → IsRightNow (followed e cap edits f) v
-found_right e cap edits f v good is = right_verdict (followed e cap edits f) v (followed_session e cap edits f good) (sym is)
+    → IsRightNow (session_parts e cap edits f) v
+found_right e cap edits f v good is = right_verdict (session_parts e cap edits f) v (followed_session e cap edits f good) (sym is)
 
 -- there is room for what is left
 pub room_left : (s : SessionParts) → IsSession s → HasRoom (rest (the_labelled s.network) (the_history s.history) s.fresh)
@@ -91,26 +91,26 @@ room_left s good = (left_says (the_labelled s.network) (the_history s.history) s
 
 -- what a plan, or a refutation, that was found says of what is left
 pub planned_says : (e : ExecutionParts) (cap edits : ℕ) (f : Finding) (load : ℕ) (plan : PlanParts) → IsFollowed e cap edits f → f ≡ Planned load plan
-    → (verdict_of f ≡ Yes load) × (the_network plan.net ≡ lowered (left_of e)) × (the_bounds plan.bounds ≡ live_bounds (log_of (lowered (left_of e))))
+    → (verdict_of f ≡ Yes load) × (the_network plan.net ≡ lowered (execution_left e)) × (the_bounds plan.bounds ≡ live_bounds (log_of (lowered (execution_left e))))
 planned_says e cap edits f load plan good is =
-    let found = subst (λ (g : Finding). IsFindingOn cap (lowered (left_of e)) g) is good.found in
+    let found = subst (λ (g : Finding). IsFindingOn cap (lowered (execution_left e)) g) is good.found in
     (ap verdict_of is, found.1, found.2)
 
 pub refuted_says : (e : ExecutionParts) (cap edits : ℕ) (f : Finding) (r : RefutationParts) → IsFollowed e cap edits f → f ≡ Refuted r
-    → IsLeftRefuted (followed e cap edits f) r
+    → IsLeftRefuted (session_parts e cap edits f) r
 refuted_says e cap edits f r good is =
-    let found = subst (λ (g : Finding). IsFindingOn cap (lowered (left_of e)) g) is good.found in
+    let found = subst (λ (g : Finding). IsFindingOn cap (lowered (execution_left e)) g) is good.found in
     (ap verdict_of is, found.1, found.2)
 
 -- what is left is a labelled network in order
-pub left_in_order : (s : SessionParts) → IsSession s → IsLabelled (left_of (execution_of s))
+pub left_in_order : (s : SessionParts) → IsSession s → IsLabelled (execution_left (execution_of s))
 left_in_order s good =
     left_labelled (the_labelled s.network) (the_history s.history) s.fresh s.cap s.verdict good.verdict good.execution.labelled
     (timely (execution_of s) good.execution) good.execution.above
 
 -- a plan of what is left is one for the parts of the session
 pub planned_left : (s : SessionParts) (network : LabelledParts) (history : HistoryParts) (net : Network) → IsSession s → network ≡ s.network
-    → history ≡ s.history → net ≡ lowered (left_of (execution_of s)) → (fresh : ℕ) × IsLabelled (rest (the_labelled network) (the_history history) fresh)
+    → history ≡ s.history → net ≡ lowered (execution_left (execution_of s)) → (fresh : ℕ) × IsLabelled (rest (the_labelled network) (the_history history) fresh)
     × (net ≡ lowered (rest (the_labelled network) (the_history history) fresh))
 planned_left s network history net good is_network is_history is =
     subst (λ (h : HistoryParts). (fresh : ℕ) × IsLabelled (rest (the_labelled network) (the_history h) fresh)

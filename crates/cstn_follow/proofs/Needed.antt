@@ -17,11 +17,11 @@ use Rattle.cstn_check.proofs.Fewer.{map_next}
 use Rattle.cstn_lift.specs.Labelled.{Labelled}
 use Rattle.cstn_lift.specs.Completion.{full_label}
 use Rattle.cstn_lift.specs.Lowered.{is_plain, with_full_label}
-use Rattle.cstn_follow.specs.Needs.{HasSources, Settles}
+use Rattle.cstn_follow.specs.Needs.{HasSources, NeedsNoOther}
 
 -- without constraints whose sources aren't needed a check says no, too
 pub settled : (cap : ℕ) (net : Network) (sources numbers needed : List ℕ) → Stands (said cap) net numbers →
-    HasSources sources needed numbers → Settles cap net sources needed
+    HasSources sources needed numbers → NeedsNoOther cap net sources needed
 settled cap net sources numbers needed stands at test idle =
     stands test (λ id need. by id (test id) refl need)
   where

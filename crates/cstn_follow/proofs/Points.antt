@@ -15,7 +15,7 @@ use Rattle.cstn_lines.proofs.FollowLemmas.{follow_is}
 use Rattle.cstn_reply.specs.Sessions.{Turn, more, last, wrong}
 use Rattle.cstn_reply.specs.Reached.{state_after}
 use Rattle.cstn_reply.proofs.Sessions.{first_leads}
-use Rattle.cstn_follow.specs.Following.{Following, Heard, says, saves, verdict_now, verdict_within, on_verdict, follows, verdict_line}
+use Rattle.cstn_follow.specs.Following.{Following, Heard, says, saves, verdict_now, verdict_within, on_left_verdict, follows, verdict_line}
 use Rattle.cstn_follow.specs.FactLines.{records}
 use Rattle.cstn_follow.specs.PlanLines.{edited_network, replanned, on_refusal, on_edit, on_deadline}
 use Rattle.cstn_follow.specs.Replans.{with_due}
@@ -40,7 +40,7 @@ through s t u a b = record { names = b.names ∙ a.names; observes = b.observes 
 follows_keeps : (s next : Following) (text : Verdict → List ℕ) → KeepsPoints s next → KeepsPoints s (next_of (follows s next text))
 follows_keeps s next text keeps = by_verdict (verdict_within next)
   where
-    by_verdict : (o : Option Verdict) → KeepsPoints s (next_of (on_verdict s next text o))
+    by_verdict : (o : Option Verdict) → KeepsPoints s (next_of (on_left_verdict s next text o))
     by_verdict None = same s
     by_verdict (Some v) = keeps
 

@@ -36,7 +36,7 @@ use Rattle.cstn_reply.specs.Texts.{line}
 use Rattle.cstn_reply.specs.Sessions.{Turn, more, last, wrong}
 use Rattle.cstn_reply.specs.Reached.{state_after}
 use Rattle.cstn_reply.proofs.Sessions.{first_leads}
-use Rattle.cstn_follow.specs.Following.{Following, Heard, says, saves, begun, verdict_now, verdict_within, on_verdict, follows, verdict_line}
+use Rattle.cstn_follow.specs.Following.{Following, Heard, says, saves, begun, verdict_now, verdict_within, on_left_verdict, follows, verdict_line}
 use Rattle.cstn_follow.specs.FactLines.{on_result, records, refuses, refused_fact, unknown_name, unless_refused, all_done, on_known, on_did, nodes_of}
 use Rattle.cstn_follow.specs.FactLines.{unknown_of, on_fact, on_now, on_saw, on_await}
 use Rattle.cstn_follow.specs.PlanLines.{edited_network, on_refusal, on_edit, on_add, on_deadline}
@@ -69,7 +69,7 @@ follows_sound : (s next : Following) (text : Verdict → List ℕ) → IsSound s
     → IsTimelyHistory next.network next.history → All (λ (c : Constraint). c.id < next.fresh) next.network.base.constraints → IsSound (next_of (follows s next text))
 follows_sound s next text sound labelled named timely above = by_verdict (verdict_within next) refl
   where
-    by_verdict : (o : Option Verdict) → verdict_within next ≡ o → IsSound (next_of (on_verdict s next text o))
+    by_verdict : (o : Option Verdict) → verdict_within next ≡ o → IsSound (next_of (on_left_verdict s next text o))
     by_verdict None is = sound
     by_verdict (Some v) is = record { labelled = labelled; named = named; timely = timely; above = above; verdict = is ∙ ap Some (within_is next v is) }
 

@@ -60,12 +60,12 @@ verdict_now s = verdict s.cap (lowered (left_now s))
 abbrev pub has_few : Network → Bool
 has_few net = nat_le (length net.constraints) most_constraints
 
-abbrev pub fits : Labelled → History → ℕ → Bool
-fits m h fresh = has_few (lowered m) && (has_few (rest m h fresh).base && has_few (lowered (rest m h fresh)))
+abbrev pub is_within_limits : Labelled → History → ℕ → Bool
+is_within_limits m h fresh = has_few (lowered m) && (has_few (rest m h fresh).base && has_few (lowered (rest m h fresh)))
 
 -- the verdict on what is left, where there are no more constraints than that
 abbrev pub verdict_left : Labelled → History → ℕ → ℕ → Option Verdict
-verdict_left m h fresh cap = if fits m h fresh then Some (verdict cap (lowered (rest m h fresh))) else None
+verdict_left m h fresh cap = if is_within_limits m h fresh then Some (verdict cap (lowered (rest m h fresh))) else None
 
 -- a verdict on what is left is right: some table continues what has happened, or none does, or the log of what is left, lowered, has
 -- more entries than it may
@@ -94,12 +94,12 @@ abbrev pub too_many : List ℕ
 too_many = line (codes "refused F8")
 
 -- the session that follows, of which this is said by its verdict, if it has one
-abbrev pub on_verdict : Following → Following → (Verdict → List ℕ) → Option Verdict → Heard
-on_verdict s next text None = says too_many s
-on_verdict s next text (Some v) = says (text v) next
+abbrev pub on_left_verdict : Following → Following → (Verdict → List ℕ) → Option Verdict → Heard
+on_left_verdict s next text None = says too_many s
+on_left_verdict s next text (Some v) = says (text v) next
 
 abbrev pub follows : Following → Following → (Verdict → List ℕ) → Heard
-follows s next text = on_verdict s next text (verdict_within next)
+follows s next text = on_left_verdict s next text (verdict_within next)
 
 -- the time-point is left to be executed, or its outcome is left to be told
 abbrev pub is_open : Labelled → History → ℕ → Bool

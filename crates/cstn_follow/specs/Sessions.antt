@@ -9,7 +9,7 @@ use Rattle.cstn_history.specs.declared.errors.RestError.TheVariants.{TooManyCons
 use Rattle.cstn_history.specs.Facts.{FactRefusal}
 use Rattle.cstn_history.specs.Histories.{History}
 use Rattle.cstn_history.specs.Read.{HistoryParts, the_history, the_fact_refusal}
-use Rattle.cstn_follow.specs.Executions.{ExecutionParts, IsExecution, left_of}
+use Rattle.cstn_follow.specs.Executions.{ExecutionParts, IsExecution, execution_left}
 use Rattle.cstn_follow.specs.Findings.{verdict_of, IsFindingOn}
 use Rattle.cstn_follow.specs.Following.{verdict_left, IsRightVerdict}
 use Rattle.cstn_follow.specs.declared.errors.FollowError.{FollowError}
@@ -31,8 +31,8 @@ abbrev pub execution_of : SessionParts → ExecutionParts
 execution_of s = record { network = s.network; history = s.history; fresh = s.fresh }
 
 -- the parts of what is carried out, with how many entries a log may have, how many edits were accepted, and what was found
-abbrev pub followed : ExecutionParts → ℕ → ℕ → Finding → SessionParts
-followed e cap edits finding = record {
+abbrev pub session_parts : ExecutionParts → ℕ → ℕ → Finding → SessionParts
+session_parts e cap edits finding = record {
   network = e.network;
   history = e.history;
   cap = cap;
@@ -46,7 +46,7 @@ pub record IsFollowed (e : ExecutionParts) (cap edits : ℕ) (finding : Finding)
   pub execution : IsExecution e
   pub few_edits : edits ≤ most_edits
   pub low : e.fresh ≤ 2 ^ 31 + edits
-  pub found : IsFindingOn cap (lowered (left_of e)) finding
+  pub found : IsFindingOn cap (lowered (execution_left e)) finding
   pub verdict : verdict_left (the_labelled e.network) (the_history e.history) e.fresh cap ≡ Some (verdict_of finding)
 
 -- what is true of each session

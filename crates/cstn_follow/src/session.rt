@@ -38,11 +38,11 @@ pub struct Session {
 }
 
 impl Model for Session {
-    ghost use Rattle.cstn_follow.specs.Sessions.{SessionParts, IsFollowed, followed};
+    ghost use Rattle.cstn_follow.specs.Sessions.{SessionParts, IsFollowed, session_parts};
 
     ghost Value = { SessionParts };
 
-    ghost view = { λ f. followed f.execution f.cap.entries f.edits f.finding };
+    ghost view = { λ f. session_parts f.execution f.cap.entries f.edits f.finding };
 
     ghost invariant = { λ f. IsFollowed f.execution f.cap.entries f.edits f.finding };
 }

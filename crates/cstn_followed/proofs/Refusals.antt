@@ -16,7 +16,7 @@ use Rattle.cstn_reply.specs.Sessions.{Turn, more, last, wrong}
 use Rattle.cstn_change.specs.Changes.{Change, adds, removes, revalues, Refusal, refusal, after}
 use Rattle.cstn_change.specs.ChangeLines.{addition, accepted_text}
 use Rattle.cstn_follow.specs.Replans.{with_due}
-use Rattle.cstn_follow.specs.Following.{Following, Heard, says, saves, verdict_now, verdict_within, on_verdict, follows, verdict_line}
+use Rattle.cstn_follow.specs.Following.{Following, Heard, says, saves, verdict_now, verdict_within, on_left_verdict, follows, verdict_line}
 use Rattle.cstn_follow.specs.PlanLines.{edited_network, replanned, on_refusal, on_edit, on_deadline}
 use Rattle.cstn_follow.specs.Questions.{on_next, on_check}
 use Rattle.cstn_follow.specs.Searches.{on_by, on_blame}
@@ -63,7 +63,7 @@ module _ (s : Following) where
   follows_stays : (next : Following) (text : Verdict → List ℕ) → ((v : Verdict) → third (text v) ≡ 102 → ⊥) → StaysRefused s (follows s next text)
   follows_stays next text other = by_verdict (verdict_within next)
     where
-      by_verdict : (o : Option Verdict) → StaysRefused s (on_verdict s next text o)
+      by_verdict : (o : Option Verdict) → StaysRefused s (on_left_verdict s next text o)
       by_verdict None = λ refused. refl
       by_verdict (Some v) = λ refused. absurd (other v (refused_third (text v) refused))
 

@@ -12,7 +12,7 @@ use Rattle.cstn_change.specs.Changes.{revalues, refusal, with_value}
 use Rattle.cstn_change.specs.Read.{the_refusal}
 use Rattle.cstn_change.specs.declared.errors.EditError.TheVariants.{NoSuch, ValueRange}
 use Rattle.cstn_change.proofs.IdLemmas.{with_most_seen}
-use Rattle.cstn_edit.specs.Sessions.{SessionParts, IsSession, kept_of, kept_list}
+use Rattle.cstn_edit.specs.Sessions.{EditSessionParts, IsEditSession, kept_of, kept_list}
 use Rattle.cstn_edit.specs.Edits.{with_change, the_session}
 use Rattle.cstn_edit.specs.Fresh.{IsFreshened}
 use Rattle.cstn_edit.proofs.EditLemmas.{refusal_seen, refused_where, taken_where, others_seen}
@@ -28,7 +28,7 @@ invariant_of-self c =
     let new : NetworkParts = record inside.net { constraints = map (with_most c.args.id (to_z w32 (of_z w32 c.args.most))) cs } in
     let long = length-map cs (with_most c.args.id (to_z w32 (of_z w32 c.args.most))) in
     let made = rw c.set_most-self-inside.ensures.set at c.forget-self-inside.ensures.fresh in
-    subst (λ (n : NetworkParts). IsSession n c.forget-self-inside.new.log inside.room (inside.edits + 1) inside.next None × IsFreshened n c.forget-self-inside.new.log inside.room c.forget-self-inside.new.fresh.items c.forget-self-inside.result (vec_capacity c.forget-self-inside.new.fresh) (vec_capacity c.forget-self-inside.new.list)) (sym c.set_most-self-inside.ensures.set) (
+    subst (λ (n : NetworkParts). IsEditSession n c.forget-self-inside.new.log inside.room (inside.edits + 1) inside.next None × IsFreshened n c.forget-self-inside.new.log inside.room c.forget-self-inside.new.fresh.items c.forget-self-inside.result (vec_capacity c.forget-self-inside.new.fresh) (vec_capacity c.forget-self-inside.new.list)) (sym c.set_most-self-inside.ensures.set) (
       cut_session inside.net new inside.log c.forget-self-inside.new.log inside.room inside.edits c.args.id inside.next inside.last old
           c.in_default.ensures.below
           c.forget-self-inside.ensures.short refl
@@ -45,7 +45,7 @@ returns-clause-kept c = λ ok.
     let inside = c.self.inside in
     let points : count (the_network c.set_most-self-inside.new.self) ≡ count (the_network inside.net) =
     ap (λ (n : NetworkParts). count (the_network n)) c.set_most-self-inside.ensures.set in
-    subst (λ (v : SessionParts). kept_list (the_network c.set_most-self-inside.new.self) c.forget-self-inside.new.log.cap (the_entries c.forget-self-inside.new.log.entries) ≡ dropped (kept_of v) c.args.id)
+    subst (λ (v : EditSessionParts). kept_list (the_network c.set_most-self-inside.new.self) c.forget-self-inside.new.log.cap (the_entries c.forget-self-inside.new.log.entries) ≡ dropped (kept_of v) c.args.id)
     c.self.view_is
     (kept_dropped (the_network inside.net) (the_network c.set_most-self-inside.new.self) inside.log c.forget-self-inside.new.log c.args.id points
     c.forget-self-inside.ensures.size.0 c.forget-self-inside.ensures.dropped)
@@ -68,12 +68,12 @@ forget-self-inside-requires c =
 
 pub returns-clause-settled : goal.returns-clause-settled
 returns-clause-settled c = λ ok.
-    subst (λ (v : SessionParts). (c.forget-self-inside.result ≡ true) ↔ ((v.settled ≡ true) × (c.forget-self-inside.new.log.entries ≡ v.entries))) c.self.view_is
+    subst (λ (v : EditSessionParts). (c.forget-self-inside.result ≡ true) ↔ ((v.settled ≡ true) × (c.forget-self-inside.new.log.entries ≡ v.entries))) c.self.view_is
     c.forget-self-inside.ensures.settled
 
 pub returns-clause-ids : goal.returns-clause-ids
 returns-clause-ids c = λ ok.
-    subst (λ (v : SessionParts). c.forget-self-inside.new.log.ids ≡ chosen (marked_staying c.args.id [] (the_entries v.entries)) v.ids) c.self.view_is
+    subst (λ (v : EditSessionParts). c.forget-self-inside.new.log.ids ≡ chosen (marked_staying c.args.id [] (the_entries v.entries)) v.ids) c.self.view_is
     c.forget-self-inside.ensures.ids
 
 pub returns-in-Some-clause-refusal : goal.returns-in-Some-clause-refusal
@@ -89,18 +89,18 @@ returns-clause-refusal c =
 pub returns-in-Some-clause-none : goal.returns-in-Some-clause-none
 returns-in-Some-clause-none c = λ other.
     refused_where _ c.args.self.now c.in-Some.error (NoSuch other)
-    (λ (s : SessionParts). (s.edits < most_edits) × All (λ d. d.id ≢ c.args.id) s.net.constraints × (other ≡ c.args.id)) c.self.view_is
+    (λ (s : EditSessionParts). (s.edits < most_edits) × All (λ d. d.id ≢ c.args.id) s.net.constraints × (other ≡ c.args.id)) c.self.view_is
     (c.in-Some.ensures.none other)
 
 pub returns-in-Some-clause-value : goal.returns-in-Some-clause-value
 returns-in-Some-clause-value c = λ v.
     refused_where _ c.args.self.now c.in-Some.error (ValueRange v)
-    (λ (s : SessionParts). (s.edits < most_edits) × (All (λ d. d.id ≢ c.args.id) s.net.constraints → ⊥) × (IsValue c.args.most → ⊥)
+    (λ (s : EditSessionParts). (s.edits < most_edits) × (All (λ d. d.id ≢ c.args.id) s.net.constraints → ⊥) × (IsValue c.args.most → ⊥)
     × (v ≡ c.args.most)) c.self.view_is
     (rw (to_z-of_z w32 c.args.most c.ranges.most) at (c.in-Some.ensures.value v))
 
 pub returns-clause-none : goal.returns-clause-none
 returns-clause-none c = λ other.
     taken_where _ c.args.self.now _ (NoSuch other)
-    (λ (s : SessionParts). (s.edits < most_edits) × All (λ d. d.id ≢ c.args.id) s.net.constraints × (other ≡ c.args.id)) c.self.view_is
+    (λ (s : EditSessionParts). (s.edits < most_edits) × All (λ d. d.id ≢ c.args.id) s.net.constraints × (other ≡ c.args.id)) c.self.view_is
     (c.in_default.ensures.none other)

@@ -11,7 +11,7 @@ use Rattle.cstn_change.specs.Changes.{removes, without}
 use Rattle.cstn_change.specs.Read.{the_refusal}
 use Rattle.cstn_change.specs.declared.errors.EditError.TheVariants.{NoSuch}
 use Rattle.cstn_change.proofs.IdLemmas.{without_seen}
-use Rattle.cstn_edit.specs.Sessions.{SessionParts, IsSession, kept_of, kept_list}
+use Rattle.cstn_edit.specs.Sessions.{EditSessionParts, IsEditSession, kept_of, kept_list}
 use Rattle.cstn_edit.specs.Fresh.{IsFreshened}
 use Rattle.cstn_edit.proofs.EditLemmas.{refusal_seen, refused_where, others_seen}
 use Rattle.cstn_edit.proofs.FreshLemmas.{cut_freshened, left_there}
@@ -32,7 +32,7 @@ invariant_of-self c =
     let left : NetworkParts = record inside.net { constraints = without_id c.args.id cs; spare = inside.net.spare + 1 } in
     let made = rw (gone c) at c.forget-self-inside.ensures.fresh in
     let size = without_few c.args.id cs in
-    subst (λ (n : NetworkParts). IsSession n c.forget-self-inside.new.log inside.room (inside.edits + 1) inside.next None × IsFreshened n c.forget-self-inside.new.log inside.room c.forget-self-inside.new.fresh.items c.forget-self-inside.result (vec_capacity c.forget-self-inside.new.fresh) (vec_capacity c.forget-self-inside.new.list)) (sym (gone c)) (
+    subst (λ (n : NetworkParts). IsEditSession n c.forget-self-inside.new.log inside.room (inside.edits + 1) inside.next None × IsFreshened n c.forget-self-inside.new.log inside.room c.forget-self-inside.new.fresh.items c.forget-self-inside.result (vec_capacity c.forget-self-inside.new.fresh) (vec_capacity c.forget-self-inside.new.list)) (sym (gone c)) (
       cut_session inside.net left inside.log c.forget-self-inside.new.log inside.room inside.edits c.args.id inside.next inside.last old
           c.in_default.ensures.below
           c.forget-self-inside.ensures.short refl
@@ -49,7 +49,7 @@ pub returns-clause-kept : goal.returns-clause-kept
 returns-clause-kept c = λ ok.
     let inside = c.self.inside in
     let points : count (the_network c.take_out.new.self) ≡ count (the_network inside.net) = ap (λ (n : NetworkParts). count (the_network n)) (gone c) in
-    subst (λ (v : SessionParts). kept_list (the_network c.take_out.new.self) c.forget-self-inside.new.log.cap (the_entries c.forget-self-inside.new.log.entries) ≡ dropped (kept_of v) c.args.id)
+    subst (λ (v : EditSessionParts). kept_list (the_network c.take_out.new.self) c.forget-self-inside.new.log.cap (the_entries c.forget-self-inside.new.log.entries) ≡ dropped (kept_of v) c.args.id)
     c.self.view_is
     (kept_dropped (the_network inside.net) (the_network c.take_out.new.self) inside.log c.forget-self-inside.new.log c.args.id points
     c.forget-self-inside.ensures.size.0 c.forget-self-inside.ensures.dropped)
@@ -69,12 +69,12 @@ forget-self-inside-requires c =
 
 pub returns-clause-settled : goal.returns-clause-settled
 returns-clause-settled c = λ ok.
-    subst (λ (v : SessionParts). (c.forget-self-inside.result ≡ true) ↔ ((v.settled ≡ true) × (c.forget-self-inside.new.log.entries ≡ v.entries))) c.self.view_is
+    subst (λ (v : EditSessionParts). (c.forget-self-inside.result ≡ true) ↔ ((v.settled ≡ true) × (c.forget-self-inside.new.log.entries ≡ v.entries))) c.self.view_is
     c.forget-self-inside.ensures.settled
 
 pub returns-clause-ids : goal.returns-clause-ids
 returns-clause-ids c = λ ok.
-    subst (λ (v : SessionParts). c.forget-self-inside.new.log.ids ≡ chosen (marked_staying c.args.id [] (the_entries v.entries)) v.ids) c.self.view_is
+    subst (λ (v : EditSessionParts). c.forget-self-inside.new.log.ids ≡ chosen (marked_staying c.args.id [] (the_entries v.entries)) v.ids) c.self.view_is
     c.forget-self-inside.ensures.ids
 
 pub returns-in-Some-clause-refusal : goal.returns-in-Some-clause-refusal
@@ -90,5 +90,5 @@ returns-clause-refusal c =
 pub returns-in-Some-clause-none : goal.returns-in-Some-clause-none
 returns-in-Some-clause-none c = λ other.
     refused_where _ c.args.self.now c.in-Some.error (NoSuch other)
-    (λ (s : SessionParts). (s.edits < most_edits) × All (λ d. d.id ≢ c.args.id) s.net.constraints × (other ≡ c.args.id)) c.self.view_is
+    (λ (s : EditSessionParts). (s.edits < most_edits) × All (λ d. d.id ≢ c.args.id) s.net.constraints × (other ≡ c.args.id)) c.self.view_is
     (c.in-Some.ensures.none other)
