@@ -1,6 +1,7 @@
 -- What a check of what is left found, and what its verdict says.
-use Rattle.std.proofs.Common.{ℕ, Bool, true, false, refl, ◌≡◌, ◌<◌, ◌≤◌, ◌+◌, ◌^◌, inl, inr, Some, None, length, ap, sym, subst, ◌∙◌, arith}
+use Rattle.std.proofs.Common.{ℕ, true, ◌≡◌, ◌<◌, ◌≤◌, ◌+◌, ◌^◌, inl, inr, Some, None, length, ap, sym, subst, ◌∙◌, arith}
 use Rattle.std.specs.Prelude.{◌&&◌, nat_lt}
+use Rattle.std.proofs.lemmas.Bool.{and_parts}
 use Rattle.cstn_net.specs.Limits.{most_constraints, most_edits}
 use Rattle.cstn_net.specs.Networks.{Network}
 use Rattle.cstn_net.specs.Read.{the_network}
@@ -125,11 +126,6 @@ can_go_on s good said = right_verdict s (Yes said.0) good said.1
 pub cannot_go_on : (s : SessionParts) → IsSession s → SaidNo s → Can (the_labelled s.network) (the_history s.history) → ⊥
 cannot_go_on s good said = right_verdict s (No said.0) good said.1
 
-both_hold : (a b : Bool) → (a && b) ≡ true → (a ≡ true) × (b ≡ true)
-both_hold true true is = (refl, refl)
-both_hold true false is = absurd (cc)
-both_hold false b is = absurd (cc)
-
 lt_is : (n : ℕ) → nat_lt n most_constraints ≡ true → n < most_constraints
 lt_is n is = grind arith
 
@@ -137,7 +133,7 @@ lt_is n is = grind arith
 pub room_to_wait : (m : Labelled) (h : History) (fresh : ℕ) (l : Labelled) → l ≡ rest m h fresh
     → (nat_lt (length l.base.constraints) most_constraints && nat_lt (length (lowered l).constraints) most_constraints) ≡ true → HasRoomToWait m h fresh
 room_to_wait m h fresh l same is =
-    let two = both_hold _ _ is in
+    let two = and_parts _ _ is in
     record {
       base = subst (λ (k : Labelled). length k.base.constraints < most_constraints) same (lt_is (length l.base.constraints) two.0);
       lowered = subst (λ (k : Labelled). length (lowered k).constraints < most_constraints) same (lt_is (length (lowered l).constraints) two.1);
