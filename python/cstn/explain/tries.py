@@ -83,7 +83,8 @@ class Least(NamedTuple):
 
 def least_values(live: Live, values: dict[int, int], deadline: int, later: int | None) -> Iterator[Least]:
     """For each limit of a value other than 0, those above 0 first and twelve at most, the least value with which a
-    yes stands if all else stays. Where there is none up to the deadline, and a later one is named, it is tried with that."""
+    yes stands if all else stays. Where there is none up to the deadline, and a later one is named, it is tried with
+    that."""
     for number, value in sorted((it for it in values.items() if it[1]), key=lambda it: it[1] < 0)[:MOST_LIMITS]:
         found = least_value(live, number, value, deadline if value > 0 else 0)
         if later is not None and found.least is None and found.said is False and value > 0:
