@@ -2,6 +2,7 @@
 import os
 import random
 import sys
+import time
 
 from runs import DOCUMENT, GOOD, TOP, WORDS, check, compact, examples, run
 
@@ -222,7 +223,32 @@ def examples_as_plans(folder):
         check(f"{name}: there and back", plans.plan(name, said), saved)
 
 
-TABLES = (worked, refused, examples_as_plans)
+# What a text may cost: its name, the text, and the seconds, ten times what is promised.
+LONG = 8_388_000
+DEAR = (
+    ("1,024 steps and 16,384 constraints", "deadline 9\n" + "".join(f"step S{number}\n" for number in range(1_023))
+     + "".join(f"S{number % 1_023} 0..9 after S{number * 7 % 1_023}\n" for number in range(8_192)), 0.5),
+    ("8 MB of comments", "deadline 9\n" + f"# {4_000 * 'x'}\n" * (LONG // 4_003), 5),
+    ("8 MB of lines without words", "deadline 9\n" + (LONG - 11) * "\n", 5),
+    ("8 MB of one name", "deadline 9\nstep X\n" + f"X after {' and '.join(500 * ['X'])}\n" * 2_780, 5),
+    ("8 MB of words that stand for no letter", "deadline 9\nstep X\n" + f"X by 5 if {' and '.join(f'w{n}' for n in range(400))}\n" * 2_390, 5),
+    ("8 MB of steps", "deadline 9\n" + "".join(f"step {'x' * 40}{number}\n" for number in range(160_000)), 5),
+)
+
+
+def costs_of_texts(folder):
+    """Texts at the limits are read in time, by the program."""
+    plans = Plans(folder)
+    for name, text, most in DEAR if plans.has_plan else ():
+        assert len(text) <= LONG, (name, len(text))
+        begun = time.monotonic()
+        run(["plan", folder.put("f", text)])
+        spent = time.monotonic() - begun
+        check(f"{name}: {spent:.3f} s", spent < most, True)
+        print(f"plans: {name}: {spent:.3f} s")
+
+
+TABLES = (worked, refused, examples_as_plans, costs_of_texts)
 
 
 def kind_of(words):

@@ -176,4 +176,10 @@ def drawn_text(draw: Random) -> bytes:
     if draw.random() < 0.02 and data:
         place = draw.randrange(len(data))
         data = data[:place] + bytes([draw.randrange(128, 256)]) + data[place + 1:]
-    return data
+    return data if draw.random() < 0.98 else drawn_bytes(draw)
+
+
+def drawn_bytes(draw: Random) -> bytes:
+    """Bytes of any kind, most of them such as plans have."""
+    signs = b' \n\n\t"#.:-0159XYpq%' + b"step if and at by after task of end "
+    return bytes(draw.choice(signs) if draw.random() < 0.98 else draw.randrange(256) for _ in range(draw.randrange(80)))

@@ -55,9 +55,10 @@ def when(groups: list[Data]) -> list[str]:
 def soonest(groups: list[Data]) -> list[str]:
     """In words the least moment by which a step can be had in every case, where it comes at several. No plan has a step
     earlier in a case than this one."""
-    last = max((it["at"] for it in groups), default=0)
-    several = len({it["at"] for it in groups}) > 1
-    return [f"Whatever is observed, it can be had by {Spoken.moment(last)}, and by no earlier moment."] if several else []
+    moments = sorted({it["at"] for it in groups})
+    if len(moments) < 2:
+        return []
+    return [f"Wherever it is executed, it can be had by {Spoken.moment(moments[-1])}, and by no earlier moment."]
 
 
 def tied(net: Network, numbers: list[int]) -> list[str]:
