@@ -7,7 +7,7 @@ use Rattle.std.proofs.lemmas.List.{length-map}
 use Rattle.cstn_label.specs.declared.bounds.Bound.{Bound as DeclaredBound}
 use Rattle.cstn_label.specs.declared.marks.Mark.TheVariants.{Absent}
 use Rattle.cstn_label.specs.declared.props.Prop.{Prop}
-use Rattle.cstn_label.specs.Labels.{IsMarked, without}
+use Rattle.cstn_label.specs.Labels.{Label, IsMarked, without}
 use Rattle.cstn_label.specs.Bounds.{Bound as TheBound}
 use Rattle.cstn_label.specs.Read.{marks}
 use Rattle.cstn_net.specs.Networks.{Network, Observes, count}
@@ -90,6 +90,9 @@ module _ (net : Network) (old new : State) (j : ℕ) (s : IsSifted old new j) wh
 
   pub bound_at_on : (own : DeclaredBound) → IsBoundAt old.entries j own → IsBoundAt new.entries j own
   bound_at_on own at = subst (λ es. IsBoundAt es j own) (sym entries_same) at
+
+  pub floor_on : (x : ℕ) (label : Label) (floor : ℤ) → IsFloor old.entries x label floor → IsFloor new.entries x label floor
+  floor_on x label floor is = subst (λ es. IsFloor es x label floor) (sym entries_same) is
 
   spent_on : (a b : ℕ) → IsSpentWait net old a b → IsSpentWait net new a b
   spent_on a b h = subst (λ (z : State). IsSpentWait net z a b) (sym s.stays) h

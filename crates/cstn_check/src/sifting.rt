@@ -4,6 +4,9 @@ ghost use Rattle.cstn_log.specs.Entries.{IsBoundAt};
 ghost use Rattle.cstn_net.specs.Limits.{most_reaction};
 ghost use Rattle.cstn_net.specs.Networks.{Observes, count};
 ghost use Rattle.cstn_net.specs.Read.{the_network};
+ghost use Rattle.cstn_label.specs.Labels.{without};
+ghost use Rattle.cstn_label.specs.Read.{marks};
+ghost use Rattle.cstn_check.specs.Floors.{IsFloor};
 ghost use Rattle.cstn_check.specs.Turns.{IsOpen};
 ghost use Rattle.cstn_check.specs.Waits.{IsAhead, IsSifted, AreSeen, AreSeenOf, AreMarking, AreMarkingAt};
 
@@ -35,19 +38,24 @@ fn sift_seen(net: &Network, log: &mut Log, own: &Bound, j: u32)
     ensures sifted { IsSifted log.old log.new j }
     ensures seen { AreSeen (the_network net.now) log.new j }
 {
-    network_is_well_formed(net);
+    let Some(_) = own.label.first_marked_from(0) else {
+        return;
+    };
+    let floors = log.floors(own.node, own.label);
     let mut index = 0;
     while let Some(p) = own.label.first_marked_from(index) {
-        sift_at_observer(net, log, own, p, j);
+        sift_at_observer(net, log, own, p, floors[p.index as usize], j);
         index = p.index + 1;
     }
 }
 
-// Puts on the agenda the places of the entries at the observer of p that may add something as the one there.
-fn sift_at_observer(net: &Network, log: &mut Log, own: &Bound, p: Prop, j: u32)
+// Puts on the agenda the places of the entries at the observer of p that may add something as the one there. The floor is that of
+// the label of the entry at `j` without p.
+fn sift_at_observer(net: &Network, log: &mut Log, own: &Bound, p: Prop, floor: i32, j: u32)
     requires ready { IsOpen (the_network net.now) log.old }
     requires place { j < length log.old.entries }
     requires bound { IsBoundAt log.old.entries j own.now }
+    requires floor { IsFloor log.old.entries own.now.node.0 (without (marks own.now.label) p.index) floor }
     ensures sifted { IsSifted log.old log.new j }
     ensures seen { AreSeenOf (the_network net.now) log.new j p.index }
 {
@@ -55,7 +63,6 @@ fn sift_at_observer(net: &Network, log: &mut Log, own: &Bound, p: Prop, j: u32)
     let Some(x) = net.observer(p) else {
         return;
     };
-    let floor = log.floor(own.node, own.label.without(p));
     let low = floor - reaction(net, p);
     log.put_down(x, low, None, j);
 }

@@ -77,6 +77,7 @@ pub record IsRoom (cap told : ℕ) (rooms : Rooms) : Type 0 where
   pub few : cap ≤ most_load
 
 -- the entries are kept, and there is room
-pub record IsLog (slots : List (Option (ℕ × Entry))) (births : ℕ) (table : Entries) (entries : List Entry) (ids : List SlotId) (nodes cap : ℕ) (rooms : Rooms) : Type 0 where
+pub record IsLog (slots : List (Option (ℕ × Entry))) (births : ℕ) (table : Entries) (entries : List Entry) (ids : List SlotId)
+    (nodes cap : ℕ) (rooms : Rooms) : Type 0 where
   pub kept : IsKept slots births table entries ids nodes
   pub room : IsRoom (length slots) cap rooms

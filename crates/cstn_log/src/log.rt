@@ -14,7 +14,7 @@ ghost use Rattle.cstn_log.specs.Entries.{State, HasId, AreBornFrom, the_entries,
 ghost use Rattle.cstn_log.specs.Cuts.{PremisesBelow, is_marked as is_marked_at, chosen, marked_staying, with_ancestors, last_marked, cut, part, dropped};
 ghost use Rattle.cstn_log.specs.Kept.{IsIdAt, AreStored};
 ghost use Rattle.cstn_log.specs.Agendas.{has_place};
-ghost use Rattle.cstn_label.specs.Labels.{IsMarked};
+ghost use Rattle.cstn_label.specs.Labels.{IsMarked, without};
 
 use crate::agenda::Agenda;
 use crate::caps::Cap;
@@ -310,6 +310,15 @@ impl Log {
         ensures floor { (result ≡ pos 0) ⊎ HasLeast self.now.entries x.0 (marks label) result }
     {
         self.minimal.floor(x, label)
+    }
+
+    /// For each proposition a least value of an entry at the time-point whose label is within this one without the proposition, or
+    /// 0. Where the label marks the proposition, it is the greatest of these.
+    pub fn floors(&self, x: NodeId, label: Label) -> [i32; 52]
+        ensures floors { (p : ℕ) → p < 52 → (slice_index_or result p (pos 0) ≡ pos 0)
+            ⊎ HasLeast self.now.entries x.0 (without (marks label) p) (slice_index_or result p (pos 0)) }
+    {
+        self.minimal.floors(x, label)
     }
 
     /// Whether a live entry at the time-point may mark the proposition.

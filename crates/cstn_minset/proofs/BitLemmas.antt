@@ -1,5 +1,5 @@
 -- Words as sets of their bits.
-use Rattle.std.proofs.Common.{ℕ, ◌≡◌, inl, inr, ◌-◌, ◌*◌, ◌%◌, ◌^◌, ◌<◌, true, false, ◌&&◌, not, eqb, ltb, arith, refl, sym, ap, ◌∙◌, bit_and, w64}
+use Rattle.std.proofs.Common.{ℕ, ◌≡◌, inl, inr, ◌-◌, ◌*◌, ◌%◌, ◌^◌, ◌<◌, ◌&&◌, not, eqb, ltb, arith, refl, sym, ap, ◌∙◌, bit_and, w64}
 use Rattle.std.specs.Int.{bit_at, bit_not}
 use Rattle.std.proofs.Math.Pow.{pow-lt}
 use Rattle.std.proofs.lemmas.Bool.{cases_lt, lt-ltb, le-ltb}
