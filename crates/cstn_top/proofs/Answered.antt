@@ -33,7 +33,7 @@ use Rattle.cstn_tree.specs.Checked.{told_of_line}
 use Rattle.cstn_tree.specs.Read.{the_tree}
 use Rattle.cstn_tree.specs.Texts.{Told as ToldTree, tells as tells_tree, wrong as wrong_tree, told as told_tree}
 use Rattle.cstn_refute.specs.Texts.{Told as ToldSteps, tells as tells_steps, wrong as wrong_step, told as told_steps}
-use Rattle.cstn_closed.specs.Texts.{Told as ToldBounds, tells as tells_bounds, wrong as wrong_bound, told as told_bounds}
+use Rattle.cstn_closed.specs.Texts.{Told as ToldBounds, tells as tells_bounds, wrong as wrong_bound, told as told_bounds, shown as shown_bounds}
 use Rattle.cstn_request.specs.Requests.{Request, of_network, of_labelled, of_text, of_document, drill, host, version, network_labels, text_labels}
 use Rattle.cstn_request.specs.Documents.{parts_of, HasLabelled, IsNoDocument}
 use Rattle.cstn_request.specs.declared.words.NetworkVerb.{NetworkVerb}
@@ -55,7 +55,12 @@ use Rattle.cstn_top.specs.Dispatch.{network_answer, labelled_answer, text_answer
 use Rattle.cstn_top.specs.commands.Replay.{replayed_steps}
 use Rattle.cstn_top.specs.commands.Closedcheck.{certified_bounds}
 use Rattle.cstn_top.specs.commands.Treecheck.{checked_lines}
-use Rattle.cstn_top.specs.commands.Follow.{follow_turn}
+use Rattle.cstn_top.specs.commands.Follow.{follow_turn, follow_opening}
+use Rattle.cstn_top.specs.commands.Drill.{drilled}
+use Rattle.cstn_top.specs.commands.Version.{versioned}
+use Rattle.cstn_tight.specs.Texts.{tight_text}
+use Rattle.cstn_tight.specs.Deadlines.{least_deadline}
+use Rattle.cstn_save.specs.Canonical.{canonical}
 use Rattle.cstn_top.specs.commands.Host.{on_documents, on_verdicts, attended}
 use Rattle.cstn_top.proofs.Documents.{labelled_says}
 use Rattle.cstn_top.proofs.Played.{TurnIs, Played, all_answered, one_last, one_stops, played}
@@ -150,10 +155,15 @@ editing_ends (Some (Yes load)) = tt
 editing_ends (Some (No load)) = tt
 editing_ends (Some IsFullVerdict) = tt
 
+yes_answered : (cap : ℕ) (names : List (List ℕ)) (net : Network) (text : List ℕ) → IsAnswered (on_verdict cap names net (says (record { outcome = Good; text = text })) (verdict cap net))
+yes_answered cap names net text =
+    let yes_said : Said = record { outcome = Good; text = text } in
+    verdict_answered cap names net (says yes_said) (verdict cap net) (says_answered yes_said tt)
+
 network_answered : (verb : NetworkVerb) (cap : ℕ) (names : List (List ℕ)) (net : Network) → IsAnswered (network_answer verb cap names net)
-network_answered Check cap names net = verdict_answered cap names net _ (verdict cap net) (says_answered _ tt)
-network_answered Closed cap names net = verdict_answered cap names net _ (verdict cap net) (says_answered _ tt)
-network_answered Tight cap names net = verdict_answered cap names net _ (verdict cap net) (says_answered _ tt)
+network_answered Check cap names net = yes_answered cap names net (yes_line (load_of net))
+network_answered Closed cap names net = yes_answered cap names net (shown_bounds names (load_of net) (live_bounds (log_of net)))
+network_answered Tight cap names net = yes_answered cap names net (tight_text names net (least_deadline net))
 network_answered Conflict cap names net = says_answered (blamed_by cap names net (verdict cap net)) (conflict_answers cap names net (verdict cap net))
 network_answered Tree cap names net = by_width (nat_lt most_observed (observed net))
   where
@@ -181,9 +191,10 @@ following_ends s = by_open (is_any_open s)
 
 labelled_answered : (verb : LabelledVerb) (cap : ℕ) (names : List (List ℕ)) (m : Labelled) → IsAnswered (labelled_answer verb cap names m)
 labelled_answered Follow cap names m =
-    session_answered true follow_turn following_ending _ (begun_following cap names m) (λ text. ⊥) (λ outcome. ⊥) follow_answers none_last following_ends
+    session_answered true follow_turn following_ending (follow_opening (begun_following cap names m)) (begun_following cap names m) (λ text. ⊥) (λ outcome. ⊥) follow_answers none_last following_ends
 labelled_answered Run cap names m =
-    verdict_answered cap names (lowered m) _ (verdict cap (lowered m))
+    verdict_answered cap names (lowered m)
+    (session (guide_turn (map printed_name names) m (live_bounds (log_of (lowered m)))) (guide_ending m (live_bounds (log_of (lowered m)))) (yes_line (load_of (lowered m))) (begun (count m.base))) (verdict cap (lowered m))
     (session_answered false (guide_turn (map printed_name names) m (live_bounds (log_of (lowered m)))) (guide_ending m (live_bounds (log_of (lowered m)))) (yes_line (load_of (lowered m))) (begun (count m.base)) (λ text. live_read text ≡ None)
     (λ outcome. outcome ≡ Good) (guide_answers (map printed_name names) m (live_bounds (log_of (lowered m)))) good_answers (λ g. running_ends (due (lowered m) (live_bounds (log_of (lowered m))) g.run)))
 
@@ -211,7 +222,7 @@ text_answered Closedcheck text names net = bounds_answered names (told_bounds na
 text_answered Treecheck text names net = lines_answered (told_tree names text) net
 
 saved_answered : (verb : DocumentVerb) (names : List (List ℕ)) (m : Labelled) → IsAnswered (document_answer verb names m)
-saved_answered Save names m = says_answered _ tt
+saved_answered Save names m = let said : Said = record { outcome = Good; text = canonical m names } in says_answered said tt
 
 -- ---- hosts
 
@@ -246,6 +257,6 @@ answered (of_text verb asked proof) contents =
     document_answered (by_labels (text_labels verb) (by_text (text_answer verb) (proof_in contents))) (file_in contents) asked.deadline
     (by_labels_answered (text_labels verb) (by_text (text_answer verb) (proof_in contents)) (λ names net. by_text_answered (text_answer verb) (proof_in contents) names net (text_answered verb (proof_in contents) names net)))
 answered (of_document verb asked) contents = document_answered (document_answer verb) (file_in contents) asked.deadline (saved_answered verb)
-answered (drill number) contents = says_answered _ tt
+answered (drill number) contents = says_answered (drilled number) tt
 answered (host files deadline cap) contents = documents_answered cap deadline [] contents
-answered (version release) contents = says_answered _ tt
+answered (version release) contents = says_answered (versioned release) tt

@@ -12,7 +12,9 @@ use Rattle.cstn_check.specs.declared.verdicts.Verdict.{Verdict}
 use Rattle.cstn_check.specs.declared.verdicts.Verdict.TheVariants.{Yes, No, Full as IsFullVerdict}
 use Rattle.cstn_check.proofs.Deciding.{Tells, verdict_tells}
 use Rattle.cstn_refute.specs.Texts.{Told as ToldSteps, tells as tells_steps, wrong as wrong_step, told as told_steps}
-use Rattle.cstn_closed.specs.Texts.{Told as ToldBounds, tells as tells_bounds, wrong as wrong_bound, told as told_bounds}
+use Rattle.cstn_closed.specs.Texts.{Told as ToldBounds, tells as tells_bounds, wrong as wrong_bound, told as told_bounds, shown as shown_bounds}
+use Rattle.cstn_tight.specs.Texts.{tight_text}
+use Rattle.cstn_tight.specs.Deadlines.{least_deadline}
 use Rattle.cstn_tree.specs.Limits.{most_observed}
 use Rattle.cstn_tree.specs.Unfolded.{observed, wide}
 use Rattle.cstn_run.specs.Sessions.{guide_turn, guide_ending}
@@ -23,8 +25,8 @@ use Rattle.cstn_request.specs.declared.words.LabelledVerb.TheVariants.{Follow, R
 use Rattle.cstn_request.specs.declared.words.TextVerb.{TextVerb}
 use Rattle.cstn_request.specs.declared.words.TextVerb.TheVariants.{Replay, Closedcheck, Treecheck}
 use Rattle.cstn_request.specs.declared.words.DocumentVerb.TheVariants.{Save}
-use Rattle.cstn_reply.specs.Texts.{Said, say, yes_line}
-use Rattle.cstn_reply.specs.declared.output.Outcome.TheVariants.{Script}
+use Rattle.cstn_reply.specs.Texts.{say, yes_line}
+use Rattle.cstn_reply.specs.declared.output.Outcome.TheVariants.{Good, Script}
 use Rattle.cstn_top.specs.Plans.{says, branches, MayTalk, session}
 use Rattle.cstn_top.specs.Answers.{Answer, by_labels, on_labelled, on_verdict, by_text}
 use Rattle.cstn_top.specs.Verdicts.{IsLabelledYes}
@@ -51,10 +53,13 @@ network_silent : (takes : Bool) (answer : Answer) (bytes : List ℕ) (deadline :
 network_silent true answer bytes deadline never may = labels_silent (by_labels true answer) bytes deadline (λ names m. never names (lowered m)) may
 network_silent false answer bytes deadline never may = never_talks answer bytes deadline never may
 
-verdict_silent : (cap : ℕ) (names : List (List ℕ)) (net : Network) (said : Said) (v : Verdict) → MayTalk (on_verdict cap names net (says said) v) → ⊥
-verdict_silent cap names net said (Yes load) may = may
-verdict_silent cap names net said (No load) may = may
-verdict_silent cap names net said IsFullVerdict may = may
+verdict_silent : (cap : ℕ) (names : List (List ℕ)) (net : Network) (text : List ℕ) → MayTalk (on_verdict cap names net (says (record { outcome = Good; text = text })) (verdict cap net)) → ⊥
+verdict_silent cap names net text may = by_verdict (verdict cap net) may
+  where
+    by_verdict : (v : Verdict) → MayTalk (on_verdict cap names net (says (record { outcome = Good; text = text })) v) → ⊥
+    by_verdict (Yes load) is = is
+    by_verdict (No load) is = is
+    by_verdict IsFullVerdict is = is
 
 tree_silent : (cap : ℕ) (names : List (List ℕ)) (net : Network) → MayTalk (unfolded cap names net) → ⊥
 tree_silent cap names net may = by_width (nat_lt most_observed (observed net)) may
@@ -99,9 +104,9 @@ run_talks cap names m of may = by_verdict (verdict cap (lowered m)) (verdict_tel
 
 -- a session is held only by a request that reads the live source
 pub reads : (request : Request) (contents : List (List ℕ)) → MayTalk (plan_at request contents) → ReadsLive request contents
-reads (of_network Check asked cap) contents may = network_silent true (checked cap) (file_in contents) asked.deadline (λ names net. verdict_silent cap names net _ (verdict cap net)) may
-reads (of_network Closed asked cap) contents may = network_silent true (listed cap) (file_in contents) asked.deadline (λ names net. verdict_silent cap names net _ (verdict cap net)) may
-reads (of_network Tight asked cap) contents may = network_silent true (tightened cap) (file_in contents) asked.deadline (λ names net. verdict_silent cap names net _ (verdict cap net)) may
+reads (of_network Check asked cap) contents may = network_silent true (checked cap) (file_in contents) asked.deadline (λ names net. verdict_silent cap names net (yes_line (load_of net))) may
+reads (of_network Closed asked cap) contents may = network_silent true (listed cap) (file_in contents) asked.deadline (λ names net. verdict_silent cap names net (shown_bounds names (load_of net) (live_bounds (log_of net)))) may
+reads (of_network Tight asked cap) contents may = network_silent true (tightened cap) (file_in contents) asked.deadline (λ names net. verdict_silent cap names net (tight_text names net (least_deadline net))) may
 reads (of_network Conflict asked cap) contents may = network_silent false (blamed cap) (file_in contents) asked.deadline (λ names net is. is) may
 reads (of_network Tree asked cap) contents may = network_silent false (unfolded cap) (file_in contents) asked.deadline (tree_silent cap) may
 reads (of_network Edit asked cap) contents may =

@@ -54,9 +54,9 @@ follow_tells cap told live said all names m of output = by_played (played follow
     wrote_lines OfLines has = wrote true follow_turn following_ending (follow_opening start) start told live said OfLines all output has
 
     at_verdict : (reached : Following) → state_after follow_turn start 0 lines ≡ Some reached → is_any_open reached ≡ false → (v : Verdict) → said.outcome ≡ outcome_by v → IsTrueOf reached v → Tells telling said.outcome
-    at_verdict reached leads over (Yes load) is true_of = as_outcome Good is (wrote_lines (IsOver cap names m (λ s. Can s.network s.history)) (reached, leads, over, true_of))
-    at_verdict reached leads over (No load) is true_of = as_outcome Bad is (wrote_lines (IsOver cap names m (λ s. Can s.network s.history → ⊥)) (reached, leads, over, true_of))
-    at_verdict reached leads over IsFullVerdict is true_of = as_outcome Full is (wrote_lines (IsOver cap names m (λ s. s.cap < load_of (lowered (left_now s)))) (reached, leads, over, true_of))
+    at_verdict reached leads over (Yes load) is true_of = as_outcome Good is (wrote_lines (IsOver cap names m (λ s. Can s.network s.history)) (reached, leads, (over, true_of)))
+    at_verdict reached leads over (No load) is true_of = as_outcome Bad is (wrote_lines (IsOver cap names m (λ s. Can s.network s.history → ⊥)) (reached, leads, (over, true_of)))
+    at_verdict reached leads over IsFullVerdict is true_of = as_outcome Full is (wrote_lines (IsOver cap names m (λ s. s.cap < load_of (lowered (left_now s)))) (reached, leads, (over, true_of)))
 
     at_end : (reached : Following) → state_after follow_turn start 0 lines ≡ Some reached → (some_open : Bool) → is_any_open reached ≡ some_open →
         said.outcome ≡ (if some_open then say Unfinished (codes "unfinished " ++ decimal reached.history.now) else say (outcome_by (verdict_now reached)) (codes "done")).outcome → Tells telling said.outcome
