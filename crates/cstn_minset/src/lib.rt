@@ -3,6 +3,9 @@
 #![tactic(auto)]
 
 mod births;
+mod bits;
+mod columns;
+mod gather;
 mod laws;
 mod links;
 mod min_set;
@@ -11,6 +14,8 @@ mod passes;
 mod places;
 mod rows;
 mod scan;
+mod sheet;
 
+pub use bits::{first_bit_from, with_bit};
 pub use laws::{placing_leaves_what_nothing_later_dominates, walks_meet_each_once};
 pub use min_set::MinSet;

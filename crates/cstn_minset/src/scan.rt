@@ -1,10 +1,11 @@
 //! Looking through the rows of records for one that dominates a bound, or that a bound dominates.
-ghost use Rattle.std.specs.Prelude.{◌≡◌, ◌<◌, ◌↔◌, ℕ, Some, IsTrue, IfSome, IfNone, slice_get};
-ghost use Rattle.cstn_minset.specs.declared.page.Record.{Record as TheRecord};
+ghost use Rattle.std.specs.Prelude.{◌≡◌, ◌<◌, ℕ, Some, IfSome, IfNone, slice_get};
+ghost use Rattle.cstn_minset.specs.declared.columns.Record.{Record as TheRecord};
 ghost use Rattle.cstn_minset.specs.Pages.{IsPage};
 ghost use Rattle.cstn_minset.specs.Sets.{IsRecordOver, IsRecordUnder, IsRecordAt, IsNoneOf, IsNoneOn, IsNoneInSlot, IsInSlot, bound_of};
 
-use crate::page::{Page, Record};
+use crate::bits::first_bit_from;
+use crate::page::Page;
 use crate::rows::Rows;
 use cstn_label::{Bound, NodeId};
 
@@ -79,10 +80,15 @@ fn over_on_page(page: &Page, b: &Bound) -> Option<u32>
     if page.high < b.least {
         return None;
     }
-    for kept in page.records.as_slice() {
-        if is_over(*kept, b) {
+    let records = page.records.as_slice();
+    let within = page.records.within(b.label);
+    let mut from = 0;
+    while let Some(i) = first_bit_from(within, from) {
+        let kept = records[i as usize];
+        if b.least <= kept.least {
             return Some(kept.slot);
         }
+        from = i + 1;
     }
     None
 }
@@ -97,25 +103,14 @@ fn under_on_page(page: &Page, b: &Bound) -> Option<usize>
         return None;
     }
     let records = page.records.as_slice();
-    for index in 0..records.len() {
-        if is_under(records[index], b) {
-            return Some(index);
+    let above = page.records.above(b.label);
+    let mut from = 0;
+    while let Some(i) = first_bit_from(above, from) {
+        let kept = records[i as usize];
+        if kept.least <= b.least {
+            return Some(i as usize);
         }
+        from = i + 1;
     }
     None
-}
-
-// Whether the record dominates the bound, where both are of one time-point. Of the records on a page that is looked at, most
-// are told by the label.
-fn is_over(kept: Record, b: &Bound) -> bool
-    ensures { IsTrue result ↔ IsRecordOver b.now kept }
-{
-    kept.label.is_within(b.label) && b.least <= kept.least
-}
-
-// Whether the bound dominates the record, where both are of one time-point.
-fn is_under(kept: Record, b: &Bound) -> bool
-    ensures { IsTrue result ↔ IsRecordUnder b.now kept }
-{
-    b.label.is_within(kept.label) && kept.least <= b.least
 }

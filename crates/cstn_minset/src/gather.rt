@@ -1,0 +1,132 @@
+//! Looking through one row of records for all that may be of use, and not for one alone.
+ghost use Rattle.std.specs.Prelude.{◌≡◌, ◌⊎◌, ◌<◌, ◌≤◌, ◌+◌, ◌++◌, ◌∷◌, [], ◌<ℤ◌, ◌≤ℤ◌, pos, ℕ, List, Some, IfSome, All, false, length, slice_get, vec_capacity};
+ghost use Rattle.std.specs.List.{Contains};
+ghost use Rattle.cstn_label.specs.Read.{marks};
+ghost use Rattle.cstn_label.specs.Labels.{IsMarked};
+ghost use Rattle.cstn_minset.specs.declared.columns.Record.{Record as TheRecord};
+ghost use Rattle.cstn_minset.specs.Pages.{IsPage, held};
+ghost use Rattle.cstn_minset.specs.Columns.{AreThose};
+ghost use Rattle.cstn_minset.specs.Sets.{IsRecordAbove, IsRecordOf, AreSlotsOf, IsRecordAt, IsNoneOf, IsNoneOn};
+
+use crate::bits::{first_bit_from, first_bits};
+use crate::columns::{Columns, Record};
+use crate::page::{Page, higher};
+use crate::rows::Rows;
+use cstn_label::{Label, NodeId, Prop};
+
+/// The greatest least value of a record of the row whose label is within this one, or 0 where that is lower.
+pub fn greatest_within(rows: &Rows, node: NodeId, label: Label) -> i32
+    ensures { (result ≡ pos 0) ⊎ ((k i : ℕ) × (r : TheRecord) × IsRecordAt rows.now.pages node.0 k i r × IsRecordOf (marks label) result r) }
+{
+    let mut greatest = 0;
+    let mut place = rows.first(node.0 as u32);
+    while let Some(number) = place {
+        greatest = greatest_on_page(rows.page(number), label, greatest);
+        place = rows.next(number);
+    }
+    greatest
+}
+
+// The greatest least value of a record of a page whose label is within this one, or the floor where that is lower.
+fn greatest_on_page(page: &Page, label: Label, floor: i32) -> i32
+    ensures { (result ≡ floor) ⊎ ((i : ℕ) × (r : TheRecord) × (slice_get page.now.records.items i ≡ Some r) × IsRecordOf (marks label) result r) }
+{
+    if page.high <= floor {
+        return floor;
+    }
+    let records = page.records.as_slice();
+    let within = page.records.within(label);
+    let mut greatest = floor;
+    let mut from = 0;
+    while let Some(i) = first_bit_from(within, from) {
+        let kept = records[i as usize];
+        greatest = higher(greatest, kept.least);
+        from = i + 1;
+    }
+    greatest
+}
+
+/// What is looked for in a row: the records with least values above the floor, and among them those whose labels mark the
+/// proposition, if one is given.
+#[derive(Clone, Copy)]
+pub struct Above {
+    pub floor: i32,
+    pub marking: Option<Prop>,
+}
+
+/// Writes down the slots of the records of the row that are looked for.
+pub fn slots_above(rows: &Rows, node: NodeId, sought: Above, found: &mut Vec<u32>)
+    requires room { length (held rows.now.pages) ≤ vec_capacity found.old }
+    ensures all { (k i : ℕ) (r : TheRecord) → IsRecordAt rows.now.pages node.0 k i r → IsRecordAbove sought.floor sought.marking r → Contains found.new.items r.slot }
+    ensures only { All (λ s. (k i : ℕ) × (r : TheRecord) × IsRecordAt rows.now.pages node.0 k i r × IsRecordAbove sought.floor sought.marking r × (r.slot ≡ s)) found.new.items }
+    ensures capacity { vec_capacity found.new ≡ vec_capacity found.old }
+{
+    found.clear();
+    let mut place = rows.first(node.0 as u32);
+    while let Some(number) = place {
+        add_slots_above(rows.page(number), sought, found);
+        place = rows.next(number);
+    }
+}
+
+// Adds the slots of the records of a page that are looked for.
+fn add_slots_above(page: &Page, sought: Above, found: &mut Vec<u32>)
+    requires page { IsPage page.now }
+    requires room { length found.old.items + length page.now.records.items ≤ vec_capacity found.old }
+    ensures added { (more : List ℕ) × (found.new.items ≡ found.old.items ++ more) × AreSlotsOf page.now.records.items sought.floor sought.marking more }
+    ensures capacity { vec_capacity found.new ≡ vec_capacity found.old }
+{
+    if page.high <= sought.floor {
+        return;
+    }
+    let records = page.records.as_slice();
+    let marking = marking_if_given(&page.records, sought.marking);
+    let mut from = 0;
+    while let Some(i) = first_bit_from(marking, from) {
+        let kept = records[i as usize];
+        add_if_above(kept, sought.floor, found);
+        from = i + 1;
+    }
+}
+
+// Adds the slot of a record whose least value is above the floor.
+fn add_if_above(kept: Record, floor: i32, found: &mut Vec<u32>)
+    requires room { length found.old.items < vec_capacity found.old }
+    ensures added { floor <ℤ kept.least → found.new.items ≡ found.old.items ++ kept.slot ∷ [] }
+    ensures passed { kept.least ≤ℤ floor → found.new.items ≡ found.old.items }
+    ensures capacity { vec_capacity found.new ≡ vec_capacity found.old }
+{
+    if floor < kept.least {
+        found.push_reserved(kept.slot);
+    }
+}
+
+// The records whose label marks the proposition, and all records where none is given.
+fn marking_if_given(records: &Columns, marking: Option<Prop>) -> u64
+    ensures { AreThose (λ r. IfSome marking (λ p. IsMarked (marks r.label) p.index)) records.now.items result }
+{
+    match marking {
+        Some(p) => records.marking(p),
+        None => first_bits(records.len() as u32),
+    }
+}
+
+/// Whether a record of the row marks p.
+pub fn row_marks(rows: &Rows, node: NodeId, p: Prop) -> bool
+    ensures none { result ≡ false → IsNoneOf rows.now.pages node.0 (λ r. IsMarked (marks r.label) p.index) }
+{
+    let mut place = rows.first(node.0 as u32);
+    while let Some(number) = place {
+        if page_marks(rows.page(number), p) {
+            return true;
+        }
+        place = rows.next(number);
+    }
+    false
+}
+
+fn page_marks(page: &Page, p: Prop) -> bool
+    ensures { result ≡ false → IsNoneOn page.now (λ r. IsMarked (marks r.label) p.index) }
+{
+    page.records.marking(p) != 0
+}
