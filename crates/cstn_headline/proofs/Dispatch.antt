@@ -35,28 +35,28 @@ pub record Laws : Type 0 where
   pub bounds : BoundsWritten
 
 -- it can't be that there is none
-pub some : Laws → (request : Request) (contents : List (List ℕ)) (live : List ℕ) → IsRanged request → AreHeld request contents → HasSome (plan_at request contents) live
-some laws (of_network Check asked cap) contents live ranged held =
+pub has_some : Laws → (request : Request) (contents : List (List ℕ)) (live : List ℕ) → IsRanged request → AreHeld request contents → HasSome (plan_at request contents) live
+has_some laws (of_network Check asked cap) contents live ranged held =
     document_some laws.made (of_lowered (checked cap)) (file_in contents) asked.deadline live held (λ parts is fit. checked_some cap parts.names (lowered (labelled_of parts)) _ live)
-some laws (of_network Closed asked cap) contents live ranged held =
+has_some laws (of_network Closed asked cap) contents live ranged held =
     document_some laws.made (of_lowered (listed cap)) (file_in contents) asked.deadline live held (λ parts is fit. checked_some cap parts.names (lowered (labelled_of parts)) _ live)
-some laws (of_network Tight asked cap) contents live ranged held =
+has_some laws (of_network Tight asked cap) contents live ranged held =
     document_some laws.made (of_lowered (tightened cap)) (file_in contents) asked.deadline live held (λ parts is fit. checked_some cap parts.names (lowered (labelled_of parts)) _ live)
-some laws (of_network Conflict asked cap) contents live ranged held = plain_some laws.made (blamed cap) (file_in contents) asked.deadline live held (λ names net of. said_some _ live)
-some laws (of_network Tree asked cap) contents live ranged held = plain_some laws.made (unfolded cap) (file_in contents) asked.deadline live held (λ names net of. unfolded_some laws.trees cap names net live of ranged)
-some laws (of_network Edit asked cap) contents live ranged held = plain_some laws.made (edited cap) (file_in contents) asked.deadline live held (λ names net of none. none _ refl)
-some laws (of_labelled Follow asked cap) contents live ranged held = document_some laws.made (followed cap) (file_in contents) asked.deadline live held (λ parts is fit none. none _ refl)
-some laws (of_labelled Run asked cap) contents live ranged held = document_some laws.made (carried_out cap) (file_in contents) asked.deadline live held (λ parts is fit. guided_some cap parts.names (labelled_of parts) live)
-some laws (of_text Replay asked proof) contents live ranged held =
+has_some laws (of_network Conflict asked cap) contents live ranged held = plain_some laws.made (blamed cap) (file_in contents) asked.deadline live held (λ names net of. said_some _ live)
+has_some laws (of_network Tree asked cap) contents live ranged held = plain_some laws.made (unfolded cap) (file_in contents) asked.deadline live held (λ names net of. unfolded_some laws.trees cap names net live of ranged)
+has_some laws (of_network Edit asked cap) contents live ranged held = plain_some laws.made (edited cap) (file_in contents) asked.deadline live held (λ names net of none. none _ refl)
+has_some laws (of_labelled Follow asked cap) contents live ranged held = document_some laws.made (followed cap) (file_in contents) asked.deadline live held (λ parts is fit none. none _ refl)
+has_some laws (of_labelled Run asked cap) contents live ranged held = document_some laws.made (carried_out cap) (file_in contents) asked.deadline live held (λ parts is fit. guided_some cap parts.names (labelled_of parts) live)
+has_some laws (of_text Replay asked proof) contents live ranged held =
     document_some laws.made (of_lowered (by_text replayed (proof_in contents))) (file_in contents) asked.deadline live held
     (λ parts is fit. text_some replayed (proof_in contents) parts.names (lowered (labelled_of parts)) live (replayed_some laws.steps (proof_in contents) parts.names (lowered (labelled_of parts)) live))
-some laws (of_text Closedcheck asked proof) contents live ranged held =
+has_some laws (of_text Closedcheck asked proof) contents live ranged held =
     document_some laws.made (of_lowered (by_text certified (proof_in contents))) (file_in contents) asked.deadline live held
     (λ parts is fit. text_some certified (proof_in contents) parts.names (lowered (labelled_of parts)) live (certified_some laws.bounds (proof_in contents) parts.names (lowered (labelled_of parts)) live))
-some laws (of_text Treecheck asked proof) contents live ranged held =
+has_some laws (of_text Treecheck asked proof) contents live ranged held =
     plain_some laws.made (by_text tree_checked (proof_in contents)) (file_in contents) asked.deadline live held
     (λ names net of. text_some tree_checked (proof_in contents) names net live (lines_some (told_tree names (proof_in contents)) net live))
-some laws (of_document Save asked) contents live ranged held = document_some laws.made saved (file_in contents) asked.deadline live held (λ parts is fit. said_some _ live)
-some laws (drill number) contents live ranged held = said_some _ live
-some laws (host files deadline cap) contents live ranged held = documents_some laws.made (attended cap) deadline live (attended_some cap live) [] contents held
-some laws (version release) contents live ranged held = said_some _ live
+has_some laws (of_document Save asked) contents live ranged held = document_some laws.made saved (file_in contents) asked.deadline live held (λ parts is fit. said_some _ live)
+has_some laws (drill number) contents live ranged held = said_some _ live
+has_some laws (host files deadline cap) contents live ranged held = documents_some laws.made (attended cap) deadline live (attended_some cap live) [] contents held
+has_some laws (version release) contents live ranged held = said_some _ live

@@ -1,4 +1,4 @@
-use Rattle.std.proofs.Common.{◌≡◌, List, ℕ, ap, sym, subst}
+use Rattle.std.proofs.Common.{List, ℕ, ap, sym, subst}
 use Rattle.std.specs.Prelude.{IfOk}
 use Rattle.cstn_net.specs.Read.{the_network}
 use Rattle.cstn_lift.specs.Read.{the_labelled}

@@ -8,7 +8,7 @@ use Rattle.cstn_request.specs.declared.words.Request.{Request}
 use Rattle.cstn_request.specs.Opened.{IsFile, IsAsked, IsTextOf, IsLongText, IsNetworkOf, IsNetworkRefusal}
 use Rattle.cstn_request.specs.declared.reading.Unread.TheVariants.{Told}
 use Rattle.cstn_request.proofs.Opening.{handed_on}
-use Rattle.cstn_top.specs.Kinds.{Kind, a_text, a_host}
+use Rattle.cstn_top.specs.Kinds.{a_text, a_host}
 use Rattle.cstn_top.specs.Dispatch.{labelled_answer, document_answer, network_kind, labelled_kind, kind_at}
 use Rattle.cstn_top.specs.Questions.{Asks, TellsInstead}
 use Rattle.cstn_top.specs.declared.commands.questions.Question.TheVariants.{OfNetwork, OfLabelled, OfText, OfDocument, Drill, Host, Version}
