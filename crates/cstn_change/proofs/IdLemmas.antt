@@ -1,8 +1,9 @@
 -- Ids of constraints: what is above them, and which constraints have them.
-use Rattle.std.proofs.Common.{ℕ, zero, suc, ◌≡◌, ◌≢◌, ◌<◌, ◌≤◌, ◌+◌, inl, inr, true, false, not, List, [], ◌∷◌, ◌++◌, length, map, get_or, Option, Some, None, arith, refl, sym, subst, ap, ◌∙◌}
+use Rattle.std.proofs.Common.{ℕ, zero, suc, ◌≡◌, ◌≢◌, ◌<◌, ◌≤◌, ◌+◌, inl, inr, true, false, not, List, [], ◌∷◌, ◌++◌, length, map, get_or, Option, Some, None}
+use Rattle.std.proofs.Common.{arith, refl, sym, subst, ap, ◌∙◌}
 use Rattle.std.specs.Prelude.{ℤ, ◌==◌, is_some, IsNone, ◌↔◌, if◌then◌else◌}
 use Rattle.std.specs.List.{All, AllPairs, list_any}
-use Rattle.std.proofs.lemmas.Bool.{cases_Bool, ne_eqb, or_parts, eqb-false, true_from_ne_false}
+use Rattle.std.proofs.lemmas.Bool.{cases_Bool, or_parts, eqb-false, true_from_ne_false}
 use Rattle.std.proofs.lemmas.List.{length-map, get_or-map}
 use Rattle.std.proofs.lemmas.List.Elements.{All-cons, All-map, All-filter, All-push, All-weaker}
 use Rattle.cstn_net.specs.declared.constraints.Constraint.{Constraint}

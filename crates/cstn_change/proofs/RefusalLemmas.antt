@@ -1,9 +1,11 @@
 -- Why changes are refused, by the definition.
-use Rattle.std.proofs.Common.{ℕ, zero, suc, ◌≡◌, ◌+◌, ◌<◌, ◌≤◌, inl, inr, Bool, true, false, not, ◌&&◌, ◌||◌, List, [], ◌∷◌, length, get_or, Option, Some, None, arith, refl, sym, subst, ap, ◌∙◌}
+use Rattle.std.proofs.Common.{ℕ, zero, suc, ◌≡◌, ◌+◌, ◌<◌, ◌≤◌, inl, inr, Bool, true, false, not, ◌&&◌, List, [], ◌∷◌, length, get_or, Option, Some, None}
+use Rattle.std.proofs.Common.{arith, refl, sym, ap, ◌∙◌}
 use Rattle.std.specs.Prelude.{ℤ, nat_le, if◌then◌else◌}
 use Rattle.std.specs.List.{list_any, position, range_with_len}
 use Rattle.std.specs.Option.{option_map}
-use Rattle.std.proofs.lemmas.Bool.{cases_Bool, cases_lt, lt-leb, le-leb, cond-true, cond-false, false≢true, eq-eqb, and_from, and_parts, or_left, or_right, not_from_true, not_from_false, false_from_ne_true}
+use Rattle.std.proofs.lemmas.Bool.{cases_Bool, cases_lt, lt-leb, le-leb, cond-true, cond-false, false≢true, eq-eqb, and_from, and_parts, or_left, or_right}
+use Rattle.std.proofs.lemmas.Bool.{not_from_true, not_from_false, false_from_ne_true}
 use Rattle.std.proofs.lemmas.Int.{ints}
 use Rattle.std.proofs.lemmas.Option.{none-some}
 use Rattle.std.proofs.lemmas.List.FromFn.{get_or-range_with_len, length-range_with_len}
@@ -22,7 +24,8 @@ use Rattle.cstn_net.proofs.Observed.{place_of}
 use Rattle.cstn_net.proofs.Same.{same_prop}
 use Rattle.cstn_facts.proofs.Filters.{none_passes, position_at}
 use Rattle.cstn_facts.proofs.Options.{none_where}
-use Rattle.cstn_change.specs.Changes.{EditedNetwork, adds, removes, revalues, Refusal, EditLimit, NoRoom, NoSuch, ValueRange, NotPlain, NotObserved, is_value, least_unobserved, has_constraint, refusal}
+use Rattle.cstn_change.specs.Changes.{EditedNetwork, adds, removes, revalues, Refusal, EditLimit, NoRoom, NoSuch, ValueRange, NotPlain, NotObserved, is_value}
+use Rattle.cstn_change.specs.Changes.{least_unobserved, has_constraint, refusal}
 
 -- the test of the value passes exactly where it is in range
 pub true_value : (most : ℤ) → is_value most ≡ true → IsValue most

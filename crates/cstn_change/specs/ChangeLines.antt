@@ -8,7 +8,8 @@ use Rattle.cstn_text.specs.Names.{number_of}
 use Rattle.cstn_text.specs.Numbers.{printed_value}
 use Rattle.cstn_text.specs.PrintedNames.{printed_name}
 use Rattle.cstn_lines.specs.EditLines.{Edit, added, removed, changed, asked, edit_read}
-use Rattle.cstn_change.specs.Changes.{EditedNetwork, Change, adds, removes, revalues, Refusal, NoRoom, NoSuch, ValueRange, NotPlain, NotObserved, EditLimit, UnknownEnd, unedited, refusal, after, if_accepted}
+use Rattle.cstn_change.specs.Changes.{EditedNetwork, Change, adds, removes, revalues, Refusal, NoRoom, NoSuch, ValueRange, NotPlain, NotObserved, EditLimit}
+use Rattle.cstn_change.specs.Changes.{UnknownEnd, unedited, refusal, after, if_accepted}
 
 -- ---- what is said of a change
 

@@ -1,5 +1,6 @@
 -- Changes of a network: why one is refused, and the network as edited by those that aren't.
-use Rattle.std.specs.Prelude.{ℕ, suc, ℤ, pos, int_le, ◌<◌, ◌+◌, nat_le, ◌==◌, max, Bool, not, ◌&&◌, if◌then◌else◌, List, [], ◌∷◌, ◌++◌, length, map, position, Option, None, Some}
+use Rattle.std.specs.Prelude.{ℕ, suc, ℤ, pos, int_le, ◌<◌, ◌+◌, nat_le, ◌==◌, max, Bool, not, ◌&&◌, if◌then◌else◌, List, [], ◌∷◌, ◌++◌, length, map, position}
+use Rattle.std.specs.Prelude.{Option, None, Some}
 use Rattle.std.specs.List.{filter, list_any, range_with_len}
 use Rattle.std.specs.Option.{option_map}
 use Rattle.cstn_label.specs.Labels.{Label, IsPlain}

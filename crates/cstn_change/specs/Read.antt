@@ -6,7 +6,8 @@ use Rattle.cstn_net.specs.Read.{NetworkParts, the_network}
 use Rattle.cstn_change.specs.declared.changes.Change.{Change as DeclaredChange}
 use Rattle.cstn_change.specs.declared.changes.Change.TheVariants.{Add, Remove, Revalue}
 use Rattle.cstn_change.specs.declared.errors.EditError.{EditError}
-use Rattle.cstn_change.specs.declared.errors.EditError.TheVariants.{EditLimit as AtLimit, NoRoom as WithoutRoom, NoSuch as Missing, ValueRange as OutOfRange, NotPlain as Unplain, NotObserved as Unobserved}
+use Rattle.cstn_change.specs.declared.errors.EditError.TheVariants.{EditLimit as AtLimit, NoRoom as WithoutRoom, NoSuch as Missing, ValueRange as OutOfRange}
+use Rattle.cstn_change.specs.declared.errors.EditError.TheVariants.{NotPlain as Unplain, NotObserved as Unobserved}
 use Rattle.cstn_change.specs.Changes.{Change, adds, removes, revalues, Refusal, NoRoom, NoSuch, ValueRange, NotPlain, NotObserved, EditLimit}
 
 -- the change that a value of the program stands for

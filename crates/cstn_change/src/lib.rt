@@ -15,5 +15,5 @@ pub use errors::EditError;
 pub use ids::id_above;
 pub use laws::{ids_stay_below, unobserved_is_found};
 pub use lines::{put_accepted, put_refusal, put_unknown_end};
-pub use plans::{changed, relabelled, with_deadline};
+pub use plans::{changed, labels_of, relabelled, with_deadline};
 pub use refusals::{add_refusal, refusal, remove_refusal, revalue_refusal};

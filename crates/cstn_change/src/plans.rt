@@ -32,7 +32,8 @@ pub fn changed(
     requires possible { CanChange most_constraints (the_labelled network.now).base (the_change change) }
     requires above { All (λ c. c.id < fresh) (the_labelled network.now).base.constraints }
     ensures edited { IfOk result (λ o. IfSome o (λ l. the_labelled l
-        ≡ edited (the_labelled network.now) network.now.base.deadline (constraints_after (the_labelled network.now).base.constraints fresh (the_change change)))) }
+        ≡ edited (the_labelled network.now) network.now.base.deadline
+        (constraints_after (the_labelled network.now).base.constraints fresh (the_change change)))) }
     ensures labelled { IfOk result (λ o. IfSome o (λ l. IsLabelled (the_labelled l))) }
     ensures above { IfOk result (λ o. IfSome o (λ l. All (λ c. c.id < fresh_after fresh (the_change change)) (the_labelled l).base.constraints)) }
     ensures many { IfOk result (λ o. IfNone o (most_constraints < length (lowered (edited (the_labelled network.now) network.now.base.deadline
@@ -83,6 +84,17 @@ pub fn relabelled(
         Ok(network) => Ok(Some(network)),
         Err(fault) => none_unless_memory(fault),
     }
+}
+
+/// The labels of the time-points, in order. Fails for want of memory alone.
+pub fn labels_of(alloc: Global, network: &Labelled) -> Result<Vec<Label>, AllocError>
+    ensures { IfOk result (λ v. map marks v.items ≡ (the_labelled network.now).labels) }
+{
+    let mut labels = Vec::new(alloc);
+    for x in 0..network.base().count() {
+        labels.push(network.label(NodeId(x)))?;
+    }
+    Ok(labels)
 }
 
 // The network after a change.
@@ -150,17 +162,6 @@ fn with_value(alloc: Global, net: &Network, id: u32, most: i32) -> Result<Networ
     let mut base = net.copy(alloc)?;
     base.set_most(id, most);
     Ok(base)
-}
-
-// The labels of the time-points. Fails for want of memory alone.
-fn labels_of(alloc: Global, network: &Labelled) -> Result<Vec<Label>, AllocError>
-    ensures { IfOk result (λ v. map marks v.items ≡ (the_labelled network.now).labels) }
-{
-    let mut labels = Vec::new(alloc);
-    for x in 0..network.base().count() {
-        labels.push(network.label(NodeId(x)))?;
-    }
-    Ok(labels)
 }
 
 // No labelled network, for a fault; fails where it is want of memory.

@@ -8,7 +8,7 @@ ghost use Rattle.cstn_label.specs.Read.{marks};
 ghost use Rattle.cstn_net.specs.Limits.{most_edits};
 ghost use Rattle.cstn_net.specs.Networks.{IsValue, IsLeastUnobserved};
 ghost use Rattle.cstn_net.specs.Read.{the_network};
-ghost use Rattle.cstn_change.specs.Changes.{EditedNetwork, adds, removes, revalues, refusal, has_constraint, CanAdd, CanChange};
+ghost use Rattle.cstn_change.specs.Changes.{adds, removes, revalues, refusal, has_constraint, CanAdd, CanChange};
 ghost use Rattle.cstn_change.specs.Read.{the_change, the_refusal};
 
 use crate::changes::Change;

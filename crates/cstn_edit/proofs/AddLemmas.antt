@@ -13,7 +13,7 @@ use Rattle.cstn_rules.specs.declared.entries.Why.TheVariants.{Chain}
 use Rattle.cstn_rules.specs.Derivations.{Entry, IsDerivation}
 use Rattle.cstn_log.specs.Entries.{State, the_entries}
 use Rattle.cstn_edit.specs.declared.outcomes.Outcome.{Outcome}
-use Rattle.cstn_edit.specs.Sessions.{most_births, IsKeptLog, IsSession}
+use Rattle.cstn_edit.specs.Sessions.{most_births, IsKeptLog, IsEditSession}
 
 -- a derivation of a network is one of the network with other constraints too, if those that it uses are among them
 abbrev pub DeriveElsewhere : Type 0
@@ -49,9 +49,9 @@ more_births births edits (Some o) few = omega arith
 
 -- a session with a further constraint is a session
 pub added_session : DeriveElsewhere → (old new : NetworkParts) (c : Constraint) (log : State) (room edits next : ℕ) (last : Option Outcome) →
-    IsSession old log room edits next last →
+    IsEditSession old log room edits next last →
     new ≡ record old { constraints = old.constraints ++ c ∷ []; spare = new.spare } → new.spare + 1 ≡ old.spare →
-    edits < most_edits → length old.constraints < room → c.id ≡ next → IsSession new log room (edits + 1) (next + 1) None
+    edits < most_edits → length old.constraints < room → c.id ≡ next → IsEditSession new log room (edits + 1) (next + 1) None
 added_session elsewhere old new c log room edits next last session is spare few more id =
     let all : new.constraints ≡ old.constraints ++ c ∷ [] = ap (λ n. n.constraints) is in
     let long : length new.constraints ≡ length old.constraints + 1 = ap length all ∙ length-append old.constraints (c ∷ []) in

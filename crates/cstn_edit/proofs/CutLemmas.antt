@@ -1,5 +1,6 @@
 -- `IsSession` still holds after a constraint is taken out or changed, and its entries are dropped from the log.
-use Rattle.std.proofs.Common.{ℕ, zero, suc, ◌≡◌, ◌+◌, ◌<◌, ◌≤◌, inl, inr, Bool, true, false, List, [], ◌∷◌, ◌++◌, length, map, Option, Some, None, arith, refl, sym, subst, ap, ◌∙◌, length-append}
+use Rattle.std.proofs.Common.{ℕ, zero, suc, ◌≡◌, ◌+◌, ◌<◌, ◌≤◌, inl, inr, Bool, true, false, List, [], ◌∷◌, ◌++◌, length, map, Option, Some, None, arith, refl}
+use Rattle.std.proofs.Common.{sym, subst, ap, ◌∙◌, length-append}
 use Rattle.std.specs.Option.{is_some}
 use Rattle.std.specs.Prelude.{IfSome, IsNone, ◌↔◌, ℤ, slice_get, slice_index_or, nat_lt, if◌then◌else◌}
 use Rattle.std.specs.List.{All, AllPairs, Contains}
@@ -26,7 +27,7 @@ use Rattle.cstn_log.proofs.CutLemmas.{cut_marked, length_cut, comes}
 use Rattle.cstn_log.proofs.MarkLemmas.{staying_more, dropped_derivation}
 use Rattle.cstn_check.specs.Turns.{IsRefutedLast}
 use Rattle.cstn_edit.specs.declared.outcomes.Outcome.{Outcome}
-use Rattle.cstn_edit.specs.Sessions.{IsKeptLog, IsSession, kept_list, most_births}
+use Rattle.cstn_edit.specs.Sessions.{IsKeptLog, IsEditSession, kept_list, most_births}
 
 -- each entry is a base bound
 abbrev pub AllBase : List Entry → Type 0
@@ -176,13 +177,13 @@ births_after before left entries cap edits (Some o) few more short most = omega 
 
 -- a session is still one after the constraint with this id was taken out or changed, and its entries were dropped
 pub cut_session : (old new : NetworkParts) (log left : State) (room edits id next : ℕ) (last : Option Outcome) →
-    IsSession old log room edits next last → edits < most_edits → length log.entries ≤ log.cap →
+    IsEditSession old log room edits next last → edits < most_edits → length log.entries ≤ log.cap →
     the_network new ≡ with_constraints (the_network old) (map the_constraint new.constraints) →
     ((c : TheConstraint) → Contains (map the_constraint old.constraints) c → (c.id ≡ id → ⊥) → Contains (map the_constraint new.constraints) c) →
     length new.constraints ≤ length old.constraints → room ≤ length new.constraints + new.spare →
     All (λ c. c.id < next) new.constraints →
     the_entries left.entries ≡ dropped (the_entries log.entries) id → left.births ≤ log.births + length log.entries →
-    left.cap ≡ log.cap → left.nodes ≡ log.nodes → IsSession new left room (edits + 1) next None
+    left.cap ≡ log.cap → left.nodes ≡ log.nodes → IsEditSession new left room (edits + 1) next None
 cut_session old new log left room edits id next last s few short is others fewer spare below list births cap nodes =
     let most = s.kept.most in
     let fits = s.fits in

@@ -15,20 +15,20 @@ use Rattle.cstn_reply.specs.Written.{EndsLine}
 use Rattle.cstn_reply.specs.Sessions.{Turn, more, last, wrong}
 use Rattle.cstn_change.specs.Changes.{Change, removes, revalues, Refusal, refusal}
 use Rattle.cstn_change.specs.ChangeLines.{refused_text, accepted_text, addition}
-use Rattle.cstn_edit.specs.Sessions.{SessionParts}
+use Rattle.cstn_edit.specs.Sessions.{EditSessionParts}
 use Rattle.cstn_edit.specs.Edits.{Session, edited_of, with_change, outcome_at, with_verdict, the_session}
 use Rattle.cstn_edit.specs.declared.outcomes.Outcome.{Outcome as Answered}
 use Rattle.cstn_edit.specs.Editing.{Editing, EditingParts, the_editing, answered_edit, answered_change, verdict_text, answered_check, answered}
 
 -- what contracts see of an edit session
-abbrev pub seen_with : SessionParts → List (List ℕ) → Option Verdict → EditingParts
+abbrev pub seen_with : EditSessionParts → List (List ℕ) → Option Verdict → EditingParts
 seen_with s names verdict = record { session = s; names = names; verdict = verdict }
 
 -- an edit session as the definitions have it
 abbrev pub state_with : ℕ → List (List ℕ) → Option Verdict → Session → Editing
 state_with cap names verdict s = record { cap = cap; names = names; session = s; verdict = verdict }
 
-module _ (old : EditingParts) (s new : SessionParts) (names : List (List ℕ)) (verdict : Option Verdict) (view : seen_with s names verdict ≡ old)
+module _ (old : EditingParts) (s new : EditSessionParts) (names : List (List ℕ)) (verdict : Option Verdict) (view : seen_with s names verdict ≡ old)
     (room : s.room ≡ most_constraints) (change : Change) (said : List ℕ) where
   -- the answer to the change, by the parts of the session
   answer_by : answered_change (the_editing (seen_with s names verdict)) (Ok change) ≡ more said (the_editing (seen_with new names verdict))
@@ -54,7 +54,7 @@ module _ (old : EditingParts) (s new : SessionParts) (names : List (List ℕ)) (
   refused why some is same = answer_by
       (ap (λ (r : Option Refusal). answered_edit (the_editing (seen_with s names verdict)) r (accepted_text s.next change) (with_change (the_session s) change)) (sym (why_by (Some why) some))
       ∙ ap (λ (xs : List ℕ). more xs (the_editing (seen_with s names verdict))) (sym is)
-      ∙ ap (λ (x : SessionParts). more said (the_editing (seen_with x names verdict))) (sym same))
+      ∙ ap (λ (x : EditSessionParts). more said (the_editing (seen_with x names verdict))) (sym same))
 
 -- ---- every answer is whole lines
 

@@ -1,5 +1,6 @@
 -- The fresh ids of a session through its edits.
-use Rattle.std.proofs.Common.{ℕ, ℤ, suc, ◌≡◌, inl, inr, ◌+◌, ◌<◌, ◌≤◌, Bool, true, false, not, ◌&&◌, ◌||◌, ◌==◌, List, [], ◌∷◌, ◌++◌, length, map, take, get_or, Some, arith, refl, sym, subst, ap, ◌∙◌}
+use Rattle.std.proofs.Common.{ℕ, ℤ, suc, ◌≡◌, inl, inr, ◌+◌, ◌<◌, ◌≤◌, Bool, true, false, not, ◌&&◌, ◌||◌, ◌==◌, List, [], ◌∷◌, ◌++◌, length, map, take, get_or}
+use Rattle.std.proofs.Common.{Some, arith, refl, sym, subst, ap, ◌∙◌}
 use Rattle.std.specs.Prelude.{slice_get, ◌↔◌}
 use Rattle.std.specs.List.{All, Contains, filter}
 use Rattle.std.proofs.lemmas.Bool.{cases_Bool, cond-true, cond-false, false≢true}
@@ -8,12 +9,13 @@ use Rattle.std.proofs.lemmas.List.Elements.{All-filter, All-map, All-contains, A
 use Rattle.cstn_net.specs.declared.constraints.Constraint.{Constraint as DeclaredConstraint}
 use Rattle.cstn_net.specs.Networks.{Network, Constraint}
 use Rattle.cstn_net.specs.Read.{NetworkParts, the_network, the_constraint}
+use Rattle.cstn_rules.specs.declared.entries.Entry.{Entry as DeclaredEntry}
 use Rattle.cstn_rules.specs.Derivations.{Entry}
 use Rattle.cstn_check.specs.Spent.{AreSpent, is_fresh, fresh_count}
 use Rattle.cstn_change.specs.Changes.{with_value, without}
 use Rattle.cstn_log.specs.Entries.{State, the_entries}
 use Rattle.cstn_log.proofs.ListLemmas.{take_step}
-use Rattle.cstn_edit.specs.Fresh.{ids_of, fresh_with, AreSome, IsFreshened}
+use Rattle.cstn_edit.specs.Fresh.{constraint_ids, fresh_with, AreSome, IsFreshened}
 
 -- a filter keeps the first element where it passes, and leaves it out where not
 kept_first : (p : ℕ → Bool) (x : ℕ) (xs : List ℕ) → p x ≡ true → filter p (x ∷ xs) ≡ x ∷ filter p xs
@@ -86,7 +88,7 @@ fresh_more [] id x = grind arith
 fresh_more (y ∷ ys) id x = let rest = fresh_more ys id x in grind (arith, rest)
 
 -- where the ids of all constraints are below n, an id that is among them is below n
-below_ids : (n : ℕ) (cs : List DeclaredConstraint) (x : ℕ) → All (λ c. c.id < n) cs → is_fresh (ids_of cs) x ≡ true → x < n
+below_ids : (n : ℕ) (cs : List DeclaredConstraint) (x : ℕ) → All (λ c. c.id < n) cs → is_fresh (constraint_ids cs) x ≡ true → x < n
 below_ids n [] x below has = let no : false ≡ true = has in absurd (false≢true no)
 below_ids n (c ∷ cs) x below has = elim (cases_Bool (c.id == x)) [
   | inl same ↦ let e : c.id ≡ x = grind (arith, same) in let first = below 0 c (omega arith) in omega (arith, e, first)
@@ -94,49 +96,49 @@ below_ids n (c ∷ cs) x below has = elim (cases_Bool (c.id == x)) [
 ]
 
 -- with a new constraint at the end, the fresh ids and the new one are some of the ids
-pub some_more : (n : ℕ) (fresh : List ℕ) (cs : List DeclaredConstraint) (c : DeclaredConstraint) → All (λ d. d.id < n) cs → n ≤ c.id → AreSome fresh (ids_of cs) → AreSome (fresh ++ c.id ∷ []) (ids_of (cs ++ c ∷ []))
+pub some_more : (n : ℕ) (fresh : List ℕ) (cs : List DeclaredConstraint) (c : DeclaredConstraint) → All (λ d. d.id < n) cs → n ≤ c.id → AreSome fresh (constraint_ids cs) → AreSome (fresh ++ c.id ∷ []) (constraint_ids (cs ++ c ∷ []))
 some_more n fresh cs c below above some =
     let id = c.id in
     let p : ℕ → Bool = λ x. is_fresh (fresh ++ id ∷ []) x in
-    let old : filter p (ids_of cs) ≡ fresh = filter_same p (λ x. is_fresh fresh x) (ids_of cs) (λ x has.
+    let old : filter p (constraint_ids cs) ≡ fresh = filter_same p (λ x. is_fresh fresh x) (constraint_ids cs) (λ x has.
     let low = below_ids n cs x below has in
     let apart : (id == x) ≡ false = grind (arith, low, above) in
     let more = fresh_more fresh id x in
     more ∙ grind (arith, apart)) ∙ sym some in
     let last : filter p (id ∷ []) ≡ id ∷ [] = kept_first p id [] (let more = fresh_more fresh id id in more ∙ grind arith) in
-    let ids : ids_of (cs ++ c ∷ []) ≡ ids_of cs ++ id ∷ [] = map-append (λ (d : DeclaredConstraint). d.id) cs (c ∷ []) in
-    sym (ap (filter p) ids ∙ filter_append p (ids_of cs) (id ∷ []) ∙ ap (λ xs. xs ++ filter p (id ∷ [])) old ∙ ap (λ xs. fresh ++ xs) last)
+    let ids : constraint_ids (cs ++ c ∷ []) ≡ constraint_ids cs ++ id ∷ [] = map-append (λ (d : DeclaredConstraint). d.id) cs (c ∷ []) in
+    sym (ap (filter p) ids ∙ filter_append p (constraint_ids cs) (id ∷ []) ∙ ap (λ xs. xs ++ filter p (id ∷ [])) old ∙ ap (λ xs. fresh ++ xs) last)
 
 -- as many constraints are fresh as there are fresh ids
-pub count_some : (fresh : List ℕ) (cs : List DeclaredConstraint) → AreSome fresh (ids_of cs) → fresh_count fresh (map the_constraint cs) ≡ length fresh
+pub count_some : (fresh : List ℕ) (cs : List DeclaredConstraint) → AreSome fresh (constraint_ids cs) → fresh_count fresh (map the_constraint cs) ≡ length fresh
 count_some fresh cs some = counted cs ∙ sym (ap length some)
   where
-    counted : (ds : List DeclaredConstraint) → fresh_count fresh (map the_constraint ds) ≡ length (filter (λ x. is_fresh fresh x) (ids_of ds))
+    counted : (ds : List DeclaredConstraint) → fresh_count fresh (map the_constraint ds) ≡ length (filter (λ x. is_fresh fresh x) (constraint_ids ds))
     counted [] = refl
     counted (d ∷ ds) = let rest = counted ds in elim (cases_Bool (is_fresh fresh d.id)) [
-      | inl t ↦ rw (kept_first (λ x. is_fresh fresh x) d.id (ids_of ds) t, cond-true {A = ℕ} (is_fresh fresh d.id) 1 0 t) (omega (arith, rest))
-      | inr f ↦ rw (left_first (λ x. is_fresh fresh x) d.id (ids_of ds) f, cond-false {A = ℕ} (is_fresh fresh d.id) 1 0 f) (omega (arith, rest))
+      | inl t ↦ rw (kept_first (λ x. is_fresh fresh x) d.id (constraint_ids ds) t, cond-true {A = ℕ} (is_fresh fresh d.id) 1 0 t) (omega (arith, rest))
+      | inr f ↦ rw (left_first (λ x. is_fresh fresh x) d.id (constraint_ids ds) f, cond-false {A = ℕ} (is_fresh fresh d.id) 1 0 f) (omega (arith, rest))
     ]
 
 -- the id of a constraint of the list is among the ids of the list
-has_id_of : (cs : List DeclaredConstraint) (c : Constraint) → Contains (map the_constraint cs) c → is_fresh (ids_of cs) c.id ≡ true
-has_id_of cs c has = All-contains (λ (d : Constraint). is_fresh (ids_of cs) d.id ≡ true) (map the_constraint cs) c
-    (All-map (λ (d : Constraint). is_fresh (ids_of cs) d.id ≡ true) the_constraint cs (each cs)) has
+has_id_of : (cs : List DeclaredConstraint) (c : Constraint) → Contains (map the_constraint cs) c → is_fresh (constraint_ids cs) c.id ≡ true
+has_id_of cs c has = All-contains (λ (d : Constraint). is_fresh (constraint_ids cs) d.id ≡ true) (map the_constraint cs) c
+    (All-map (λ (d : Constraint). is_fresh (constraint_ids cs) d.id ≡ true) the_constraint cs (each cs)) has
   where
-    each : (ds : List DeclaredConstraint) → All (λ (d : DeclaredConstraint). is_fresh (ids_of ds) d.id ≡ true) ds
+    each : (ds : List DeclaredConstraint) → All (λ (d : DeclaredConstraint). is_fresh (constraint_ids ds) d.id ≡ true) ds
     each [] = λ k d inside. absurd (omega arith)
-    each (d ∷ ds) = All-cons (λ (e : DeclaredConstraint). is_fresh (ids_of (d ∷ ds)) e.id ≡ true) d ds (grind arith)
+    each (d ∷ ds) = All-cons (λ (e : DeclaredConstraint). is_fresh (constraint_ids (d ∷ ds)) e.id ≡ true) d ds (grind arith)
         (λ k e inside. let rest = each ds k e inside in grind (arith, rest))
 
 module _ (net : Network) (list : List Entry) (fresh : List ℕ) (n : ℕ) (are : AreSpent net list fresh n) where
   -- instances that are spent stay so with these constraints, if each of them was there before or is fresh
   pub spent_with : (id : ℕ) (cs : List DeclaredConstraint) → ((c : Constraint) → Contains (map the_constraint cs) c → (c.id ≡ id → ⊥) → Contains net.constraints c) →
-      AreSpent (record net { constraints = map the_constraint cs }) list (fresh_with id fresh (ids_of cs)) n
+      AreSpent (record net { constraints = map the_constraint cs }) list (fresh_with id fresh (constraint_ids cs)) n
   spent_with id cs old = record {
     chains = λ c j has not low.
         let p : ℕ → Bool = λ x. (x == id) || is_fresh fresh x in
         let in_ids = has_id_of cs c has in
-        let both = fresh_filter p (ids_of cs) c.id in
+        let both = fresh_filter p (constraint_ids cs) c.id in
         let fails : ((c.id == id) || is_fresh fresh c.id) ≡ false = grind (arith, both, in_ids, not) in
         let other : c.id ≡ id → ⊥ = λ e. let t : (c.id == id) ≡ true = grind (arith, e) in false≢true (sym fails ∙ grind (arith, t)) in
         let was : is_fresh fresh c.id ≡ false = grind (arith, fails) in
@@ -211,17 +213,17 @@ added_freshened old new c log room fresh more settled held spare wide n was belo
     }))
 
 -- `IsFreshened` holds after a constraint is taken out or changed
-pub cut_freshened : (old new : NetworkParts) (log left : State) (room id gone : ℕ) (fresh more : List ℕ) (settled now : Bool) (held spare : ℕ) (wide list : ℕ) → IsFreshened old log room fresh settled held spare →
+pub cut_freshened : (old new : NetworkParts) (log left : State) (room id : ℕ) (fresh more : List ℕ) (settled now : Bool) (held spare : ℕ) (wide list : ℕ) → IsFreshened old log room fresh settled held spare →
     the_network new ≡ record (the_network old) { constraints = map the_constraint new.constraints } → ((c : Constraint) → Contains (map the_constraint new.constraints) c → (c.id ≡ id → ⊥) → Contains (map the_constraint old.constraints) c) →
-    more ≡ fresh_with id fresh (ids_of new.constraints) → (now ≡ true ↔ ((settled ≡ true) × (gone ≡ 0))) → (gone ≡ 0 → left ≡ log) → room ≤ wide → room ≤ list → IsFreshened new left room more now wide list
-cut_freshened old new log left room id gone fresh more settled now held spare wide list was is others longer stays same for_fresh for_list =
+    more ≡ fresh_with id fresh (constraint_ids new.constraints) → (now ≡ true ↔ ((settled ≡ true) × (left.entries ≡ log.entries))) → room ≤ wide → room ≤ list → IsFreshened new left room more now wide list
+cut_freshened old new log left room id fresh more settled now held spare wide list was is others longer stays for_fresh for_list =
     rw longer (record {
-      some = some_with id fresh (ids_of new.constraints);
+      some = some_with id fresh (constraint_ids new.constraints);
       spent = λ t.
           let both = stays.0 t in
           let spent = spent_with (the_network old) (the_entries log.entries) fresh (length log.entries) (was.spent both.0) id new.constraints others in
-          subst (λ (s : State). AreSpent (the_network new) (the_entries s.entries) (fresh_with id fresh (ids_of new.constraints)) (length s.entries)) (sym (same both.1))
-          (subst (λ (n : Network). AreSpent n (the_entries log.entries) (fresh_with id fresh (ids_of new.constraints)) (length log.entries)) (sym is) spent);
+          subst (λ (es : List DeclaredEntry). AreSpent (the_network new) (the_entries es) (fresh_with id fresh (constraint_ids new.constraints)) (length es)) (sym both.1)
+          (subst (λ (n : Network). AreSpent n (the_entries log.entries) (fresh_with id fresh (constraint_ids new.constraints)) (length log.entries)) (sym is) spent);
       for_fresh = for_fresh;
       for_list = for_list;
     })

@@ -1,8 +1,9 @@
 -- Sessions stay sound, and their verdicts are true.
-use Rattle.std.proofs.Common.{ℕ, zero, suc, ◌≡◌, ◌+◌, ◌<◌, ◌≤◌, inl, inr, Bool, true, false, not, List, [], ◌∷◌, ◌++◌, length, map, get_or, Option, Some, None, arith, refl, sym, subst, ap, ◌∙◌, length-append}
+use Rattle.std.proofs.Common.{ℕ, ◌≡◌, ◌+◌, ◌<◌, ◌≤◌, inl, inr, Bool, true, false, not, List, [], ◌∷◌, ◌++◌, length, map, get_or, Option, Some, None, arith}
+use Rattle.std.proofs.Common.{refl, sym, subst, ap, ◌∙◌, length-append}
 use Rattle.std.specs.Prelude.{ℤ, ◌↔◌, ◌==◌, nat_lt, nat_le, if◌then◌else◌}
-use Rattle.std.specs.List.{All, Contains, filter}
-use Rattle.std.specs.Option.{option_map, unwrap_or}
+use Rattle.std.specs.List.{All, Contains}
+use Rattle.std.specs.Option.{unwrap_or}
 use Rattle.std.proofs.lemmas.Bool.{cases_Bool, cases_lt, not-false, leb-false, lt-ltb, ltb-true, ltb-false, cond-true, cond-false, false≢true, ne_eqb}
 use Rattle.std.proofs.lemmas.List.{append-nil, length-map}
 use Rattle.std.proofs.lemmas.List.Elements.{All-map, All-push, All-filter, All-weaker, Contains-append_left}
@@ -43,14 +44,14 @@ use Rattle.cstn_change.specs.Changes.{Refusal, NotObserved, adds, removes, reval
 use Rattle.cstn_change.proofs.IdLemmas.{above_each, value_id}
 use Rattle.cstn_change.proofs.RefusalLemmas.{true_value, on_observed, none_mapped}
 use Rattle.cstn_edit.specs.Sessions.{kept_after, outcome_of, verdict_by}
-use Rattle.cstn_edit.specs.Edits.{Session, begun, edited_of, with_edited, with_change, outcome_at, kept_at, with_verdict}
-use Rattle.cstn_edit.specs.Sound.{AreApart, IsTrueOf, IsLastTrue, IsSound}
+use Rattle.cstn_edit.specs.Edits.{Session, begun_session, edited_of, with_edited, with_change, outcome_at, kept_at, with_verdict}
+use Rattle.cstn_edit.specs.Sound.{NoneDominated, IsTrueOf, IsLastTrue, IsSound}
 use Rattle.cstn_edit.proofs.CutLemmas.{dropped_front, dropped_last}
 use Rattle.cstn_edit.proofs.VerdictLemmas.{outcome_when, after_grown, after_log, after_bases}
 use Rattle.cstn_label.specs.OnLetters.{IsOnLetters}
 
 -- a session starts soundly
-pub begun_is_sound : (net : Network) → IsWellFormed net → IsSound (begun net)
+pub begun_is_sound : (net : Network) → IsWellFormed net → IsSound (begun_session net)
 begun_is_sound net good =
     let on = bases_go_on net good.network good.letters in
     record {
@@ -125,7 +126,7 @@ added_is_sound room s x y most a few small from to none sound =
     }
 
 -- where no entry is dominated by an earlier one, this holds of the entries that stay as well
-dropped_apart : (list : List Entry) (id : ℕ) → AreApart list → AreApart (dropped list id)
+dropped_apart : (list : List Entry) (id : ℕ) → NoneDominated list → NoneDominated (dropped list id)
 dropped_apart list id a = record {
   apart = λ i j e f before at_i at_j over.
       let marks = marked_staying id [] list in

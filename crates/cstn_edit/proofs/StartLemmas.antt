@@ -13,8 +13,8 @@ use Rattle.cstn_log.specs.Entries.{State, the_entries, bases, first_entries}
 use Rattle.cstn_check.specs.Turns.{IsRefutedLast}
 use Rattle.cstn_check.proofs.Last.{bases_stand}
 use Rattle.cstn_change.specs.Changes.{id_above}
-use Rattle.cstn_edit.specs.Sessions.{kept_list, IsKeptLog, IsSession}
-use Rattle.cstn_edit.specs.Edits.{Session, begun, the_session}
+use Rattle.cstn_edit.specs.Sessions.{kept_list, IsKeptLog, IsEditSession}
+use Rattle.cstn_edit.specs.Edits.{Session, begun_session, the_session}
 
 no_entry : (net : Network) (list : List Entry) → list ≡ [] → IsRefutedLast net list
 no_entry net list is = subst (λ l. IsRefutedLast net l) (sym is) (record { before = λ k e there inside r. absurd (none-some e there) })
@@ -39,7 +39,7 @@ started_log net log starts nodes derivation some most = record {
 pub started_session : (given net : NetworkParts) (log : State) (room next : ℕ) → IsWellFormed (the_network net) →
     net ≡ record given { spare = net.spare } → length given.constraints ≤ room → room ≤ most_constraints →
     All (λ c. c.id < id_above (the_network net).constraints) net.constraints → id_above (the_network net).constraints ≤ 2 ^ 31 → room - length given.constraints ≤ net.spare → IsKeptLog (the_network net) log →
-    log.births ≤ count (the_network net) → next ≡ id_above (the_network net).constraints → IsSession net log room 0 next None
+    log.births ≤ count (the_network net) → next ≡ id_above (the_network net).constraints → IsEditSession net log room 0 next None
 started_session given net log room next good same fits most ids small spare kept births is =
     let all : net.constraints ≡ given.constraints = ap (λ n. n.constraints) same in
     let long : length net.constraints ≡ length given.constraints = ap length all in
@@ -67,16 +67,16 @@ kept_started net cap entries is = elim (cases_Bool (nat_lt cap (count net))) [
 
 begun_same : (given net : NetworkParts) (kept : List Entry) (next : ℕ) → net ≡ record given { spare = net.spare } →
     kept ≡ bases (count (the_network net)) → next ≡ id_above (the_network net).constraints →
-    ◌≡◌ {A = Session} (record { net = the_network net; kept = kept; edits = 0; next = next; last = None }) (begun (the_network given))
+    ◌≡◌ {A = Session} (record { net = the_network net; kept = kept; edits = 0; next = next; last = None }) (begun_session (the_network given))
 begun_same given net kept next same list is =
     let start : Network → List Entry → ℕ → Session = λ n k h. record { net = n; kept = k; edits = 0; next = h; last = None } in
     ap (λ k. start (the_network net) k next) list ∙ ap (start (the_network net) (bases (count (the_network net)))) is
-    ∙ ap (λ (n : NetworkParts). begun (the_network n)) same
+    ∙ ap (λ (n : NetworkParts). begun_session (the_network n)) same
 
 pub started_seen : (given net : NetworkParts) (log : State) (room tries next : ℕ) → net ≡ record given { spare = net.spare } →
     the_entries log.entries ≡ first_entries (the_network net) log.cap → next ≡ id_above (the_network net).constraints →
-    the_session (record { net = net; entries = log.entries; cap = log.cap; room = room; edits = 0; next = next; last = None; tries = tries; fresh = []; settled = false })
-    ≡ begun (the_network given)
+    the_session (record { net = net; entries = log.entries; ids = log.ids; cap = log.cap; room = room; edits = 0; next = next; last = None; tries = tries; fresh = []; settled = false })
+    ≡ begun_session (the_network given)
 started_seen given net log room tries next same start is =
     begun_same given net (kept_list (the_network net) log.cap (the_entries log.entries)) next same
     (kept_started (the_network net) log.cap (the_entries log.entries) start) is

@@ -16,8 +16,8 @@ use Rattle.cstn_reply.specs.declared.output.Outcome.{Outcome}
 use Rattle.cstn_reply.specs.declared.output.Outcome.TheVariants.{Good, Bad, Full}
 use Rattle.cstn_change.specs.Changes.{Change, removes, revalues, Refusal, refusal}
 use Rattle.cstn_change.specs.ChangeLines.{refused_text, accepted_text, addition}
-use Rattle.cstn_edit.specs.Sessions.{SessionParts}
-use Rattle.cstn_edit.specs.Edits.{Session, begun, edited_of, with_change, outcome_at, with_verdict, the_session}
+use Rattle.cstn_edit.specs.Sessions.{EditSessionParts}
+use Rattle.cstn_edit.specs.Edits.{Session, begun_session, edited_of, with_change, outcome_at, with_verdict, the_session}
 use Rattle.cstn_edit.specs.declared.outcomes.Outcome.{Outcome as Answered}
 
 -- an edit session, whose kept list may have `cap` entries, the names of its time-points, and the verdict of the last check,
@@ -29,7 +29,7 @@ pub record Editing : Type 0 where
   pub verdict : Option Verdict
 
 abbrev pub begun_editing : ℕ → List (List ℕ) → Network → Editing
-begun_editing cap names net = record { cap = cap; names = names; session = begun net; verdict = None }
+begun_editing cap names net = record { cap = cap; names = names; session = begun_session net; verdict = None }
 
 -- the answer to an edit: why it is refused, or what is said of it and the session that follows
 abbrev pub answered_edit : Editing → Option Refusal → List ℕ → Session → Turn Editing
@@ -97,7 +97,7 @@ last_checked e net (first ∷ lines) =
 
 -- what contracts see of an edit session: the session, the names of its time-points, and the verdict of the last check
 pub record EditingParts : Type 0 where
-  pub session : SessionParts
+  pub session : EditSessionParts
   pub names : List (List ℕ)
   pub verdict : Option Verdict
 

@@ -8,7 +8,7 @@ use Rattle.cstn_log.specs.Entries.{bases}
 use Rattle.cstn_log.specs.Cuts.{dropped}
 use Rattle.cstn_change.specs.Changes.{EditedNetwork, Change, adds, removes, revalues, id_above, after}
 use Rattle.cstn_edit.specs.declared.outcomes.Outcome.{Outcome}
-use Rattle.cstn_edit.specs.Sessions.{SessionParts, kept_of, kept_after, outcome_of}
+use Rattle.cstn_edit.specs.Sessions.{EditSessionParts, kept_of, kept_after, outcome_of}
 
 -- a session: the network as edited, the list of bounds kept between its verdicts, the number of accepted edits, the id of the next
 -- constraint that is added, above all ever used, and the outcome of the last verdict, or none where an edit was accepted since
@@ -20,8 +20,8 @@ pub record Session : Type 0 where
   pub last : Option Outcome
 
 -- the session that starts on the network, whose kept list is the base bounds
-abbrev pub begun : Network → Session
-begun net = record { net = net; kept = bases (count net); edits = 0; next = id_above net.constraints; last = None }
+abbrev pub begun_session : Network → Session
+begun_session net = record { net = net; kept = bases (count net); edits = 0; next = id_above net.constraints; last = None }
 
 -- what was edited of a session
 abbrev pub edited_of : Session → EditedNetwork
@@ -62,5 +62,5 @@ with_verdict cap s = record {
 }
 
 -- the session of this definition, from what contracts see of one
-abbrev pub the_session : SessionParts → Session
+abbrev pub the_session : EditSessionParts → Session
 the_session s = record { net = the_network s.net; kept = kept_of s; edits = s.edits; next = s.next; last = s.last }

@@ -7,8 +7,8 @@ use Rattle.cstn_log.specs.Entries.{State, the_entries}
 use Rattle.cstn_check.specs.Spent.{AreSpent, is_fresh}
 
 -- the ids of constraints
-abbrev pub ids_of : List Constraint → List ℕ
-ids_of cs = map (λ c. c.id) cs
+abbrev pub constraint_ids : List Constraint → List ℕ
+constraint_ids cs = map (λ c. c.id) cs
 
 -- the members of `ids` that are fresh or equal to `id`, in their order
 abbrev pub fresh_with : ℕ → List ℕ → List ℕ → List ℕ
@@ -21,7 +21,7 @@ AreSome fresh ids = fresh ≡ filter (λ x. is_fresh fresh x) ids
 -- the fresh ids are ids of the network's constraints, and both vectors of ids have capacity for `room` of them; where the log
 -- is settled, its entries give nothing new but with fresh constraints
 pub record IsFreshened (net : NetworkParts) (log : State) (room : ℕ) (fresh : List ℕ) (settled : Bool) (held spare : ℕ) : Type 0 where
-  pub some : AreSome fresh (ids_of net.constraints)
+  pub some : AreSome fresh (constraint_ids net.constraints)
   pub spent : settled ≡ true → AreSpent (the_network net) (the_entries log.entries) fresh (length log.entries)
   pub for_fresh : room ≤ held
   pub for_list : room ≤ spare

@@ -7,6 +7,7 @@ use Rattle.cstn_net.specs.Read.{NetworkParts, the_network}
 use Rattle.cstn_net.specs.Strategies.{IsConsistent}
 use Rattle.cstn_rules.specs.declared.entries.Entry.{Entry as DeclaredEntry}
 use Rattle.cstn_rules.specs.Derivations.{Entry, IsDerivation}
+use Rattle.cstn_pool.specs.declared.slot_id.SlotId.{SlotId}
 use Rattle.cstn_log.specs.Entries.{State, the_entries, bases}
 use Rattle.cstn_check.specs.declared.verdicts.Verdict.{Verdict}
 use Rattle.cstn_check.specs.declared.verdicts.Verdict.TheVariants.{Yes, No, Full}
@@ -14,13 +15,14 @@ use Rattle.cstn_check.specs.Growth.{grow, log_of, load_of, is_refuted}
 use Rattle.cstn_check.specs.Turns.{IsRefutedLast, LastRefutes}
 use Rattle.cstn_edit.specs.declared.outcomes.Outcome.{Outcome}
 
--- what contracts see of a session: the network as edited; the entries of its log; how many entries (`cap`) and constraints
--- (`room`) there may be; the number of accepted edits; the id of the next constraint that is added, above all ever used; the
--- last outcome, or none where an edit was accepted since; how many rules were tried; the ids of the constraints that were added
--- or changed since the last verdict; and whether that verdict was yes and no entry was taken out since
-pub record SessionParts : Type 0 where
+-- what contracts see of a session: the network as edited; the entries of its log, and their ids in the pool; how many entries
+-- (`cap`) and constraints (`room`) there may be; the number of accepted edits; the id of the next constraint that is added, above
+-- all ever used; the last outcome, or none where an edit was accepted since; how many rules were tried; the ids of the constraints
+-- that were added or changed since the last verdict; and whether that verdict was yes and no entry was taken out since
+pub record EditSessionParts : Type 0 where
   pub net : NetworkParts
   pub entries : List DeclaredEntry
+  pub ids : List SlotId
   pub cap : ℕ
   pub room : ℕ
   pub edits : ℕ
@@ -35,7 +37,7 @@ abbrev pub kept_list : Network → ℕ → List Entry → List Entry
 kept_list net cap entries = if nat_lt cap (count net) then bases (count net) else entries
 
 -- the kept list of a session
-abbrev pub kept_of : SessionParts → List Entry
+abbrev pub kept_of : EditSessionParts → List Entry
 kept_of s = kept_list (the_network s.net) s.cap (the_entries s.entries)
 
 -- the list that is kept after a verdict: the kept list grown, or, where that is too long, the log of the network, or, where
@@ -83,7 +85,7 @@ abbrev pub Consistent : Network → Option Outcome → Type 0
 Consistent net None = Unit {0}
 Consistent net (Some o) = (load : ℕ) → o.verdict ≡ Yes load → IsConsistent net
 
-pub record IsSession (net : NetworkParts) (log : State) (room edits next : ℕ) (last : Option Outcome) : Type 0 where
+pub record IsEditSession (net : NetworkParts) (log : State) (room edits next : ℕ) (last : Option Outcome) : Type 0 where
   pub kept : IsKeptLog (the_network net) log
   pub births : log.births ≤ most_births edits last
   pub few_edits : edits ≤ most_edits

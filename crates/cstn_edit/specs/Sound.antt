@@ -14,7 +14,7 @@ use Rattle.cstn_edit.specs.declared.outcomes.Outcome.{Outcome}
 use Rattle.cstn_edit.specs.Edits.{Session}
 
 -- no entry is dominated by an earlier one
-pub record AreApart (list : List Entry) : Type 0 where
+pub record NoneDominated (list : List Entry) : Type 0 where
   pub apart : (i j : ℕ) (e f : Entry) → i < j → slice_get list i ≡ Some e → slice_get list j ≡ Some f → Dominates e.bound f.bound → ⊥
 
 -- yes is said of consistent networks alone, and no of inconsistent ones
@@ -36,5 +36,5 @@ pub record IsSound (s : Session) : Type 0 where
   pub derivation : IsDerivation s.net s.kept
   pub based : IsPrefix (bases (count s.net)) s.kept
   pub refuted : IsRefutedLast s.net s.kept
-  pub apart : AreApart s.kept
+  pub apart : NoneDominated s.kept
   pub last : IsLastTrue s.net s.last

@@ -1,7 +1,7 @@
 // The new outcome of a session.
-ghost use Rattle.std.specs.Prelude.{ℕ, true, false, [], List, take, ◌↔◌, ◌++◌, ◌≡◌, ◌≤◌, ◌<◌, ◌+◌, ◌*◌, ◌^◌, nat_lt, nat_le, if◌then◌else◌, length, Some};
+ghost use Rattle.std.specs.Prelude.{ℕ, true, false, [], ◌≡◌, ◌≤◌, ◌<◌, ◌+◌, ◌^◌, nat_lt, nat_le, if◌then◌else◌, length, Some};
 ghost use Rattle.cstn_net.specs.Limits.{most_load};
-ghost use Rattle.cstn_net.specs.Networks.{IsWellFormed, count};
+ghost use Rattle.cstn_net.specs.Networks.{count};
 ghost use Rattle.cstn_net.specs.Read.{the_network};
 ghost use Rattle.cstn_net.specs.Strategies.{IsConsistent};
 ghost use Rattle.cstn_log.specs.Entries.{the_entries, bases};
@@ -9,7 +9,7 @@ ghost use Rattle.cstn_check.specs.declared.verdicts.Verdict.{Verdict};
 ghost use Rattle.cstn_check.specs.Growth.{grow, log_of, load_of};
 ghost use Rattle.cstn_check.specs.declared.growth.Grown.{Grown};
 ghost use Rattle.cstn_check.specs.Spent.{AreSpent, fresh_count, most_tries};
-ghost use Rattle.cstn_check.specs.Turns.{IsGrowable, IsGrown, LastRefutes};
+ghost use Rattle.cstn_check.specs.Turns.{IsGrowable, IsGrown, KeepIds, LastRefutes};
 ghost use Rattle.cstn_edit.specs.Sessions.{IsKeptLog, Refuted, Consistent, kept_list, kept_after, outcome_of, verdict_by};
 
 use crate::outcomes::Outcome;
@@ -38,6 +38,7 @@ pub fn answer(
     ensures consistent { Consistent (the_network net.now) (Some result) }
     ensures births { log.new.births ≤ log.old.births + 2 ^ 24 }
     ensures size { log.new.cap ≡ log.old.cap }
+    ensures ids { result.afresh ≡ false → KeepIds log.old.ids log.new.ids }
     ensures spent { (load : ℕ) → result.verdict ≡ Verdict.Yes load → AreSpent (the_network net.now) (the_entries log.new.entries) [] (length log.new.entries) }
     ensures tries { tries.old.count ≤ tries.new.count }
     ensures most_tries { settled ≡ true → result.afresh ≡ false

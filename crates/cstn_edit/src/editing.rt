@@ -3,7 +3,7 @@ ghost use Rattle.std.specs.Prelude.{false, ◌≡◌, ◌<◌, ◌≤◌, ◌^�
 ghost use Rattle.std.specs.List.{All};
 ghost use Rattle.std.specs.Option.{option_map};
 ghost use Rattle.cstn_label.specs.Read.{marks};
-ghost use Rattle.cstn_net.specs.Limits.{most_time_points, most_constraints};
+ghost use Rattle.cstn_net.specs.Limits.{most_constraints};
 ghost use Rattle.cstn_net.specs.Networks.{count};
 ghost use Rattle.cstn_net.specs.Read.{the_network};
 ghost use Rattle.cstn_text.specs.Names.{number_of};
@@ -25,7 +25,7 @@ use cstn_check::Verdict;
 use cstn_label::{Label, NodeId};
 use cstn_lines::{EditLine, read_edit};
 use cstn_log::Cap;
-use cstn_net::{MAX_CONSTRAINTS, Network};
+use cstn_net::{MAX_CONSTRAINTS, Network, network_is_well_formed};
 use cstn_reply::{Answer, AnswerText, Outcome, Talk};
 use cstn_text::Names;
 use std::alloc::{AllocError, Global};
@@ -65,7 +65,7 @@ impl Editing {
         requires ids { All (λ c. c.id < 2 ^ 31) network.constraints }
         ensures start { IfOk result (λ e. the_editing e ≡ begun_editing cap.entries names (the_network network)) }
     {
-        has_few_points(&network);
+        network_is_well_formed(&network);
         let session = Session::start(alloc, network, cap, MAX_CONSTRAINTS as u32)?;
         Ok(Editing {
             alloc,
@@ -244,13 +244,6 @@ fn ending_by(verdict: Option<Verdict>) -> Outcome
         Some(Verdict::No { .. }) => Outcome::Bad,
         Some(Verdict::Full) => Outcome::Full,
     }
-}
-
-// A network has at most 1,024 time-points.
-fn has_few_points(network: &Network)
-    ensures { count (the_network network.now) ≤ most_time_points }
-{
-    let _ = network.count();
 }
 
 // Puts the line `afresh` where the check grew its kept list afresh.

@@ -2,7 +2,7 @@
 ghost use Rattle.std.specs.Prelude.{◌≡◌, ◌≤◌, ◌↔◌, ℕ, true, ◌==◌, ◌||◌, [], length, vec_capacity};
 ghost use Rattle.cstn_check.specs.declared.verdicts.Verdict.{Verdict};
 ghost use Rattle.cstn_check.specs.Spent.{is_fresh};
-ghost use Rattle.cstn_edit.specs.Fresh.{fresh_with, ids_of};
+ghost use Rattle.cstn_edit.specs.Fresh.{fresh_with, constraint_ids};
 
 use crate::outcomes::Outcome;
 use cstn_check::Verdict;
@@ -13,7 +13,7 @@ use std::mem::swap;
 // lends the room for this.
 pub fn freshen(net: &Network, fresh: &mut Vec<u32>, list: &mut Vec<u32>, id: u32)
     requires room { length net.now.constraints ≤ vec_capacity list.old }
-    ensures fresh { fresh.new.items ≡ fresh_with id fresh.old.items (ids_of net.now.constraints) }
+    ensures fresh { fresh.new.items ≡ fresh_with id fresh.old.items (constraint_ids net.now.constraints) }
     ensures room { (vec_capacity list.old ≤ vec_capacity fresh.new) × (vec_capacity list.new ≡ vec_capacity fresh.old) }
 {
     list.clear();
@@ -25,7 +25,7 @@ pub fn freshen(net: &Network, fresh: &mut Vec<u32>, list: &mut Vec<u32>, id: u32
 fn pick_fresh(net: &Network, fresh: &[u32], list: &mut Vec<u32>, id: u32)
     requires empty { list.old.items ≡ [] }
     requires room { length net.now.constraints ≤ vec_capacity list.old }
-    ensures picked { list.new.items ≡ fresh_with id fresh.now (ids_of net.now.constraints) }
+    ensures picked { list.new.items ≡ fresh_with id fresh.now (constraint_ids net.now.constraints) }
     ensures room { vec_capacity list.old ≤ vec_capacity list.new }
 {
     let constraints = net.constraints();
@@ -50,13 +50,6 @@ fn is_known(fresh: &[u32], id: u32) -> bool
     ensures { result ≡ is_fresh fresh.now id }
 {
     fresh.iter().any(|known| *known == id)
-}
-
-// Whether a list stays settled when `gone` of its entries are taken out.
-pub fn stays_settled(settled: bool, gone: u32) -> bool
-    ensures { (result ≡ true) ↔ ((settled ≡ true) × (gone ≡ 0)) }
-{
-    settled && gone == 0
 }
 
 pub fn is_yes(outcome: Outcome) -> bool

@@ -3,6 +3,7 @@
 #![tactic(auto)]
 
 mod answers;
+mod cuts;
 mod editing;
 mod fresh;
 mod laws;

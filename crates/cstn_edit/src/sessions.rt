@@ -1,29 +1,31 @@
 ghost use Rattle.std.specs.Prelude.{ℕ, ℤ, true, false, ◌≡◌, ◌≢◌, ◌<◌, ◌≤◌, ◌+◌, ◌-◌, ◌^◌, ◌++◌, ◌∷◌, [], ◌↔◌, List, length, map, Some, None, IfOk, OnErr};
-ghost use Rattle.std.specs.Prelude.{IsOk, IsErrOf, IsTrue};
-ghost use Rattle.std.specs.List.{All, Contains};
+ghost use Rattle.std.specs.Prelude.{IsOk, IsErrOf};
+ghost use Rattle.std.specs.List.{All};
 ghost use Rattle.cstn_label.specs.declared.props.Prop.{Prop as DeclaredProp};
 ghost use Rattle.cstn_label.specs.Labels.{IsPlain};
 ghost use Rattle.cstn_label.specs.Read.{marks};
 ghost use Rattle.cstn_net.specs.Limits.{most_constraints, most_edits};
-ghost use Rattle.cstn_net.specs.Networks.{IsValue, IsWellFormed, count, IsUnobserved, IsLeastUnobserved};
+ghost use Rattle.cstn_net.specs.Networks.{IsValue, IsWellFormed, count, IsLeastUnobserved};
 ghost use Rattle.cstn_net.specs.Strategies.{IsConsistent};
 ghost use Rattle.cstn_net.specs.Read.{the_network, without_id, with_most};
 ghost use Rattle.cstn_rules.specs.Derivations.{Entry, IsDerivation, IsRefutation};
 ghost use Rattle.cstn_log.specs.Entries.{bases, the_entries};
-ghost use Rattle.cstn_log.specs.Cuts.{dropped, part};
+ghost use Rattle.cstn_log.specs.Cuts.{chosen, dropped, marked_staying, part};
 ghost use Rattle.cstn_check.specs.declared.verdicts.Verdict.{Verdict};
 ghost use Rattle.cstn_check.specs.Growth.{grow, load_of};
 ghost use Rattle.cstn_refute.specs.Refutations.{FitsText, the_steps};
 ghost use Rattle.cstn_check.specs.Spent.{most_tries};
-ghost use Rattle.cstn_edit.specs.Fresh.{fresh_with, ids_of};
+ghost use Rattle.cstn_check.specs.Turns.{KeepIds};
+ghost use Rattle.cstn_edit.specs.Fresh.{fresh_with, constraint_ids};
 ghost use Rattle.cstn_change.specs.Changes.{adds, removes, revalues, id_above, refusal};
 ghost use Rattle.cstn_change.specs.Read.{refusal_of};
 ghost use Rattle.cstn_change.specs.declared.errors.EditError.{EditError};
 ghost use Rattle.cstn_edit.specs.Sessions.{kept_of, kept_after, outcome_of};
-ghost use Rattle.cstn_edit.specs.Edits.{the_session, edited_of, begun, with_change, outcome_at, with_verdict};
+ghost use Rattle.cstn_edit.specs.Edits.{the_session, edited_of, begun_session, with_change, outcome_at, with_verdict};
 
 use crate::answers::answer;
-use crate::fresh::{freshen, is_yes, stays_settled};
+use crate::cuts::forget;
+use crate::fresh::is_yes;
 use crate::outcomes::Outcome;
 use cstn_change::{EditError, add_refusal, id_above, remove_refusal, revalue_refusal};
 use cstn_label::{Label, NodeId};
@@ -58,13 +60,14 @@ pub struct Session {
 impl Model for Session {
     ghost use Rattle.std.specs.Prelude.{vec_capacity};
     ghost use Rattle.cstn_edit.specs.Fresh.{IsFreshened};
-    ghost use Rattle.cstn_edit.specs.Sessions.{SessionParts, IsSession};
+    ghost use Rattle.cstn_edit.specs.Sessions.{EditSessionParts, IsEditSession};
 
-    ghost Value = { SessionParts };
+    ghost Value = { EditSessionParts };
 
     ghost view = { λ s. record {
       net = s.net;
       entries = s.log.entries;
+      ids = s.log.ids;
       cap = s.log.cap;
       room = s.room;
       edits = s.edits;
@@ -75,7 +78,7 @@ impl Model for Session {
       settled = s.settled;
     } };
 
-    ghost invariant = { λ s. IsSession s.net s.log s.room s.edits s.next s.last
+    ghost invariant = { λ s. IsEditSession s.net s.log s.room s.edits s.next s.last
         × IsFreshened s.net s.log s.room s.fresh.items s.settled (vec_capacity s.fresh) (vec_capacity s.list) };
 }
 
@@ -94,7 +97,7 @@ impl Session {
         ensures next { IfOk result (λ s. s.next ≡ id_above (the_network net).constraints) }
         ensures last { IfOk result (λ s. s.last ≡ None) }
         ensures fresh { IfOk result (λ s. (s.fresh ≡ []) × (s.settled ≡ false)) }
-        ensures session { IfOk result (λ s. the_session s ≡ begun (the_network net)) }
+        ensures session { IfOk result (λ s. the_session s ≡ begun_session (the_network net)) }
     {
         let mut net = net;
         net.reserve(room)?;
@@ -176,7 +179,7 @@ impl Session {
     }
 
     /// Takes the constraint with this id out of the network, and the entries that it gave and those that descend from them
-    /// out of the kept list. Refuses past the limit of edits and where no constraint has the id, and then changes nothing.
+    /// out of the kept list, whose others keep their ids. Refuses past the limit of edits and where no constraint has the id, and then changes nothing.
     pub fn remove(&mut self, id: u32) -> Result<(), EditError>
         ensures limit { IsErrOf result EditError.EditLimit ↔ (self.old.edits ≡ most_edits) }
         ensures none { (other : ℕ) → (IsErrOf result (EditError.NoSuch other)
@@ -186,12 +189,14 @@ impl Session {
             ≡ record self.old {
               net = record self.old.net { constraints = without_id id self.old.net.constraints; spare = self.old.net.spare + 1 };
               entries = self.new.entries;
+              ids = self.new.ids;
               edits = self.old.edits + 1;
               last = None;
-              fresh = fresh_with id self.old.fresh (ids_of self.new.net.constraints);
+              fresh = fresh_with id self.old.fresh (constraint_ids self.new.net.constraints);
               settled = self.new.settled;
             } }
         ensures kept { IsOk result → kept_of self.new ≡ dropped (kept_of self.old) id }
+        ensures ids { IsOk result → self.new.ids ≡ chosen (marked_staying id [] (the_entries self.old.entries)) self.old.ids }
         ensures settled { IsOk result → ((self.new.settled ≡ true) ↔ ((self.old.settled ≡ true) × (self.new.entries ≡ self.old.entries))) }
         ensures session { IsOk result → the_session self.new ≡ with_change (the_session self.old) (removes id) }
         ensures refused { OnErr result (self.new ≡ self.old) }
@@ -201,10 +206,14 @@ impl Session {
             return Err(error);
         }
         self.net.take_out(id);
-        let _at_most = self.log.len();
-        let gone = self.log.retract(id);
-        freshen(&self.net, &mut self.fresh, &mut self.list, id);
-        self.settled = stays_settled(self.settled, gone);
+        self.settled = forget(
+            &self.net,
+            &mut self.log,
+            &mut self.fresh,
+            &mut self.list,
+            self.settled,
+            id,
+        );
         self.edits += 1;
         self.last = None;
         Ok(())
@@ -224,12 +233,14 @@ impl Session {
             ≡ record self.old {
               net = record self.old.net { constraints = map (with_most id most) self.old.net.constraints };
               entries = self.new.entries;
+              ids = self.new.ids;
               edits = self.old.edits + 1;
               last = None;
-              fresh = fresh_with id self.old.fresh (ids_of self.new.net.constraints);
+              fresh = fresh_with id self.old.fresh (constraint_ids self.new.net.constraints);
               settled = self.new.settled;
             } }
         ensures kept { IsOk result → kept_of self.new ≡ dropped (kept_of self.old) id }
+        ensures ids { IsOk result → self.new.ids ≡ chosen (marked_staying id [] (the_entries self.old.entries)) self.old.ids }
         ensures settled { IsOk result → ((self.new.settled ≡ true) ↔ ((self.old.settled ≡ true) × (self.new.entries ≡ self.old.entries))) }
         ensures session { IsOk result → the_session self.new ≡ with_change (the_session self.old) (revalues id most) }
         ensures refused { OnErr result (self.new ≡ self.old) }
@@ -238,10 +249,14 @@ impl Session {
             return Err(error);
         }
         self.net.set_most(id, most);
-        let _at_most = self.log.len();
-        let gone = self.log.retract(id);
-        freshen(&self.net, &mut self.fresh, &mut self.list, id);
-        self.settled = stays_settled(self.settled, gone);
+        self.settled = forget(
+            &self.net,
+            &mut self.log,
+            &mut self.fresh,
+            &mut self.list,
+            self.settled,
+            id,
+        );
         self.edits += 1;
         self.last = None;
         Ok(())
@@ -254,6 +269,7 @@ impl Session {
         ensures kept { self.old.last ≡ None → kept_of self.new ≡ kept_after (the_network self.old.net) self.old.cap (kept_of self.old) }
         ensures same { self.new ≡ record self.old {
           entries = self.new.entries;
+          ids = self.new.ids;
           last = Some result;
           tries = self.new.tries;
           fresh = self.new.fresh;
@@ -272,6 +288,7 @@ impl Session {
             ((self.old.cap < length (grow (the_network self.old.net) (kept_of self.old))) × (self.old.cap < load_of (the_network self.old.net)))) }
         ensures load { (load : ℕ) → result.verdict ≡ Verdict.No load → load ≡ length (kept_of self.new) }
         ensures prefix { result.afresh ≡ false → (more : List Entry) × (kept_of self.old ++ more ≡ kept_of self.new) }
+        ensures ids { result.afresh ≡ false → KeepIds self.old.ids self.new.ids }
         ensures tries { self.old.tries ≤ self.new.tries }
         ensures most_tries { self.old.last ≡ None → self.old.settled ≡ true → result.afresh ≡ false
             → self.new.tries ≤ self.old.tries + most_tries (length self.old.net.constraints) (length self.old.fresh) (length self.old.entries)
@@ -333,7 +350,7 @@ impl Session {
         ensures kept { count (the_network self.now.net) ≤ self.now.cap → the_entries result.now.entries ≡ kept_of self.now }
         ensures empty { self.now.cap < count (the_network self.now.net) → the_entries result.now.entries ≡ [] }
         ensures derivation { IsDerivation (the_network self.now.net) (the_entries result.now.entries) }
-        ensures size { (result.now.cap ≡ self.now.cap) × (result.now.entries ≡ self.now.entries) }
+        ensures size { (result.now.cap ≡ self.now.cap) × (result.now.entries ≡ self.now.entries) × (result.now.ids ≡ self.now.ids) }
     {
         &self.log
     }

@@ -16,7 +16,8 @@ use Rattle.cstn_check.specs.Growth.{log_of, live_bounds}
 use Rattle.cstn_check.specs.declared.verdicts.Verdict.{Verdict}
 use Rattle.cstn_check.specs.declared.verdicts.Verdict.TheVariants.{Yes, No, Full}
 use Rattle.cstn_history.specs.Histories.{History, allows}
-use Rattle.cstn_history.specs.Facts.{FactRefusal, OutOfRange, Done, Undecided, is_beyond, now_refusal, told_refusal, expected_refusal, at_now, with_told, with_expected}
+use Rattle.cstn_history.specs.Facts.{FactRefusal, OutOfRange, Done, Undecided, is_beyond, now_refusal, told_refusal, expected_refusal, at_now, with_told}
+use Rattle.cstn_history.specs.Facts.{with_expected}
 use Rattle.cstn_history.specs.Rest.{is_left, left, sight_left}
 use Rattle.cstn_next.specs.Next.{next_moment, named, awaited}
 use Rattle.cstn_text.specs.Names.{number_of}
@@ -27,14 +28,15 @@ use Rattle.cstn_lines.specs.EditLines.{Edit, added, removed, changed, asked}
 use Rattle.cstn_lines.specs.FollowLines.{Follow, done_at, came_at, now_at, awaited_at, edits, ends_by, asks_next, asks_by, asks_blame, asks_rest}
 use Rattle.cstn_reply.specs.Texts.{line}
 use Rattle.cstn_reply.specs.Written.{EndsLine}
-use Rattle.cstn_follow.specs.Following.{Following, Heard, says, saves, left_now, name_at, names_left, verdict_now, verdict_within, verdict_line, on_verdict}
+use Rattle.cstn_follow.specs.Following.{Following, Heard, says, saves, left_now, name_at, names_left, verdict_now, verdict_within, verdict_line}
+use Rattle.cstn_follow.specs.Following.{on_left_verdict}
 use Rattle.cstn_follow.specs.FactLines.{refused_fact, unknown_name, refuses, records, on_result, all_done, nodes_of, unknown_of, on_known, on_did, on_fact}
 use Rattle.cstn_follow.specs.PlanLines.{edited_network, replanned, on_refusal, on_edit, on_deadline}
 use Rattle.cstn_follow.specs.Replans.{with_due}
 use Rattle.cstn_follow.specs.Questions.{tells_verdict, next_text, next_at, next_after, check_after, on_rest}
-use Rattle.cstn_follow.specs.Searches.{has_place, by_text, by_refusal, by_after, by_unless, by_number, blame_text, blame_after, ids_text}
+use Rattle.cstn_follow.specs.Searches.{has_place, until_text, by_refusal, by_after, by_unless, by_number, blame_line, blame_after, ids_text}
 use Rattle.cstn_follow.specs.Waiting.{waits_until}
-use Rattle.cstn_follow.specs.Blame.{blamed}
+use Rattle.cstn_follow.specs.Blame.{ids_to_blame}
 use Rattle.cstn_follow.specs.Hearing.{on_plan, on_other, on_line, counted, hear}
 use Rattle.cstn_follow.specs.declared.following.Heard.{Heard as HeardText}
 use Rattle.cstn_follow.specs.declared.following.Heard.TheVariants.{Text, Rest}
@@ -58,7 +60,7 @@ verdict_ends cap Full = ends (codes "full " ++ decimal cap)
 
 module _ (s : Following) where
   verdict_keeps : (next : Following) (text : Verdict → List ℕ) → next.names ≡ s.names → ((v : Verdict) → EndsLine (text v)) → (o : Option Verdict) →
-      Keeps s.names (on_verdict s next text o)
+      Keeps s.names (on_left_verdict s next text o)
   verdict_keeps next text same all None = (refl, ends (codes "refused F8"))
   verdict_keeps next text same all (Some v) = (same, all v)
 
@@ -136,7 +138,7 @@ module _ (s : Following) where
       (refl, inr (text ++ codes "end", sym (append_assoc text (codes "end") (10 ∷ []))))
   check_keeps Full = tells_keeps
 
-  by_ends : (x : ℕ) (o : Option ℕ) → EndsLine (by_text s x o)
+  by_ends : (x : ℕ) (o : Option ℕ) → EndsLine (until_text s x o)
   by_ends x (Some t) = ends (codes "by " ++ decimal t ++ 32 ∷ printed_name (name_at s.names x))
   by_ends x None = ends (codes "full " ++ decimal s.cap)
 
@@ -162,13 +164,13 @@ module _ (s : Following) where
   by_named name None = (refl, ends (unknown_name name))
   by_named name (Some x) = by_refused x (s.history.done x)
 
-  blame_ends : (o : Option (List ℕ)) → EndsLine (blame_text s.cap o)
+  blame_ends : (o : Option (List ℕ)) → EndsLine (blame_line s.cap o)
   blame_ends (Some ids) = ends (codes "blame" ++ ids_text ids)
   blame_ends None = ends (codes "full " ++ decimal s.cap)
 
   blame_keeps : (v : Verdict) → Keeps s.names (blame_after s v)
   blame_keeps (Yes load) = tells_keeps
-  blame_keeps (No load) = (refl, blame_ends (blamed s.network s.history s.fresh s.cap))
+  blame_keeps (No load) = (refl, blame_ends (ids_to_blame s.network s.history s.fresh s.cap))
   blame_keeps Full = tells_keeps
 
   -- ---- what is left

@@ -17,9 +17,9 @@ use Rattle.cstn_history.specs.Histories.{History}
 use Rattle.cstn_history.specs.Rest.{is_left, left, left_upto, sight_left}
 use Rattle.cstn_history.proofs.Lists.{passing_next}
 use Rattle.cstn_follow.specs.Following.{Following, says, left_now, name_at, names_left, verdict_now, verdict_line}
-use Rattle.cstn_follow.specs.Blame.{blamed}
+use Rattle.cstn_follow.specs.Blame.{ids_to_blame}
 use Rattle.cstn_follow.specs.Questions.{tells, tells_verdict, check_after, on_check}
-use Rattle.cstn_follow.specs.Searches.{blame_text, blame_after, on_blame}
+use Rattle.cstn_follow.specs.Searches.{blame_line, blame_after, on_blame}
 
 -- the name of the next time-point, where it is left
 pub names_turn : (m : Labelled) (h : History) (names old new : List (List ℕ)) (x : ℕ) (b : Bool) → old ≡ map (name_at names) (left_upto m h x)
@@ -79,9 +79,9 @@ other_said s text (No load) is never told = absurd (never load refl)
 other_said s text Full is never told = ap (check_after s) is ∙ told
 
 -- after a no it is told which constraints are to blame, or a log that was tried is full
-pub blame_told : (s : Following) (text : List ℕ) (load : ℕ) (o : Option (List ℕ)) → verdict_now s ≡ No load → blamed s.network s.history s.fresh s.cap ≡ o
-    → text ≡ blame_text s.cap o → on_blame s ≡ says text s
-blame_told s text load o bad found said = ap (blame_after s) bad ∙ ap (λ p. tells s (blame_text s.cap p)) found ∙ ap (λ l. says l s) (sym said)
+pub blame_told : (s : Following) (text : List ℕ) (load : ℕ) (o : Option (List ℕ)) → verdict_now s ≡ No load → ids_to_blame s.network s.history s.fresh s.cap ≡ o
+    → text ≡ blame_line s.cap o → on_blame s ≡ says text s
+blame_told s text load o bad found said = ap (blame_after s) bad ∙ ap (λ p. tells s (blame_line s.cap p)) found ∙ ap (λ l. says l s) (sym said)
 
 -- and the line of the verdict else
 pub blame_other : (s : Following) (text : List ℕ) (load : ℕ) → verdict_now s ≡ Yes load → tells_verdict s ≡ says text s → on_blame s ≡ says text s

@@ -14,7 +14,7 @@ use Rattle.cstn_reply.specs.Texts.{line, full_line}
 use Rattle.cstn_follow.specs.Following.{Following, says, left_now, too_many, verdict_now, verdict_line}
 use Rattle.cstn_follow.specs.FactLines.{refused_fact}
 use Rattle.cstn_follow.specs.Questions.{tells_verdict}
-use Rattle.cstn_follow.specs.Searches.{has_place, by_refusal, by_line, by_text, by_after, by_unless, by_number, on_by}
+use Rattle.cstn_follow.specs.Searches.{has_place, by_refusal, by_line, until_text, by_after, by_unless, by_number, on_by}
 use Rattle.cstn_follow.specs.Waiting.{HasRoomToWait, waits_until}
 use Rattle.cstn_follow.specs.Answers.{ruled_out, wait_refusal}
 
@@ -85,12 +85,12 @@ module _ (s : Following) (x : ℕ) (inside : x < count s.network.base) (text : L
     pub until_said : (load t : ℕ) → verdict_now s ≡ Yes load → waits_until s.network s.history s.fresh x s.cap ≡ Some t → text ≡ by_line s.names t x
         → by_unless s x (by_refusal s x (s.history.done x)) ≡ says text s
     until_said load t can found is =
-        room_said free has ∙ ap (by_after s x) can ∙ ap (λ o. says (by_text s x o) s) found ∙ ap (λ l. says l s) (sym is)
+        room_said free has ∙ ap (by_after s x) can ∙ ap (λ o. says (until_text s x o) s) found ∙ ap (λ l. says l s) (sym is)
 
     pub tried_said : (load : ℕ) → verdict_now s ≡ Yes load → waits_until s.network s.history s.fresh x s.cap ≡ None → text ≡ full_line s.cap
         → by_unless s x (by_refusal s x (s.history.done x)) ≡ says text s
     tried_said load can found is =
-        room_said free has ∙ ap (by_after s x) can ∙ ap (λ o. says (by_text s x o) s) found ∙ ap (λ l. says l s) (sym is)
+        room_said free has ∙ ap (by_after s x) can ∙ ap (λ o. says (until_text s x o) s) found ∙ ap (λ l. says l s) (sym is)
 
     pub stuck_said : (load : ℕ) → verdict_now s ≡ No load → tells_verdict s ≡ says text s → by_unless s x (by_refusal s x (s.history.done x)) ≡ says text s
     stuck_said load stuck is = room_said free has ∙ ap (by_after s x) stuck ∙ is

@@ -19,8 +19,8 @@ use Rattle.cstn_follow.proofs.Edited.{left_many}
 use Rattle.cstn_follow.specs.declared.findings.Finding.{Finding}
 use Rattle.cstn_follow.specs.Executions.{ExecutionParts}
 use Rattle.cstn_follow.specs.Findings.{verdict_of}
-use Rattle.cstn_follow.specs.Sessions.{SessionParts, IsSession, followed}
-use Rattle.cstn_follow.specs.Replans.{Replans, edited_now, with_due, replanned, verdict_replanned}
+use Rattle.cstn_follow.specs.Sessions.{SessionParts, IsSession, session_parts}
+use Rattle.cstn_follow.specs.Replans.{Replans, edited_now, with_due, labelled_replanned, verdict_replanned}
 
 -- a labelled network of this network, with these labels
 abbrev labelled_on : Network → List Label → Labelled
@@ -28,7 +28,7 @@ labelled_on net labels = record { base = net; labels = labels }
 
 -- a network with the labels of that of a session is the one as edited
 pub labels_stay : (s : SessionParts) (l : LabelledParts) (fresh edits : ℕ) → (the_labelled l).labels ≡ (the_labelled s.network).labels
-    → the_labelled l ≡ replanned s (edited_base (the_labelled l) fresh edits)
+    → the_labelled l ≡ labelled_replanned s (edited_base (the_labelled l) fresh edits)
 labels_stay s l fresh edits same = ap (labelled_on (the_labelled l).base) same
 
 -- without a check of what would be left nothing is edited
@@ -41,15 +41,15 @@ not_replanned e old (OutOfMemory error) none = refl
 module _ (x y : ExecutionParts) (network : LabelledParts) (fresh cap edits later : ℕ) (f g : Finding) where
   pub replanned_by : (v : Verdict) → y ≡ record x { network = network; fresh = fresh } → (the_labelled network).labels ≡ (the_labelled x.network).labels
       → v ≡ verdict_of g → verdict_left (the_labelled network) (the_history x.history) fresh cap ≡ Some (verdict_of g)
-      → Replans (edited_base (the_labelled network) fresh later) (followed x cap edits f) (followed y cap later g) (Ok v)
+      → Replans (edited_base (the_labelled network) fresh later) (session_parts x cap edits f) (session_parts y cap later g) (Ok v)
   replanned_by v is same said found =
       let e : EditedNetwork = edited_base (the_labelled network) fresh later in
-      let old : SessionParts = followed x cap edits f in
+      let old : SessionParts = session_parts x cap edits f in
       let new : ExecutionParts = record x { network = network; fresh = fresh } in
       let labels = labels_stay old network fresh later same in
       let verdict = ap (λ (m : Labelled). verdict_left m (the_history x.history) fresh cap) (sym labels) ∙ found in
-      subst (λ (z : ExecutionParts). Replans e old (followed z cap later g) (Ok v)) (sym is)
-      (subst (λ (u : Verdict). Replans e old (followed new cap later g) (Ok u)) (sym said) (labels, refl, verdict))
+      subst (λ (z : ExecutionParts). Replans e old (session_parts z cap later g) (Ok v)) (sym is)
+      (subst (λ (u : Verdict). Replans e old (session_parts new cap later g) (Ok u)) (sym said) (labels, refl, verdict))
 
 -- ---- the network as edited
 
@@ -78,8 +78,8 @@ kept_replanned s m deadline cs good is =
     (record { one_each = kept.one_each; wide = kept.wide; history = timely.history; in_time = timely.in_time })
 
 -- there is no verdict where it has too many constraints, lowered
-pub too_many_edited : (s : SessionParts) (e : EditedNetwork) → most_constraints < length (lowered (replanned s e)).constraints → verdict_replanned s e ≡ None
-too_many_edited s e many = left_many (replanned s e) (the_history s.history) e.fresh s.cap (inl many)
+pub too_many_edited : (s : SessionParts) (e : EditedNetwork) → most_constraints < length (lowered (labelled_replanned s e)).constraints → verdict_replanned s e ≡ None
+too_many_edited s e many = left_many (labelled_replanned s e) (the_history s.history) e.fresh s.cap (inl many)
 
 module _ (s : SessionParts) (l : LabelledParts) (same : l ≡ s.network) where
   pub many_changed : (fresh : ℕ) (change : Change) → fresh ≡ s.fresh → most_constraints < length (lowered (changed_network l fresh change)).constraints

@@ -13,7 +13,8 @@ use Rattle.cstn_lift.specs.Lowered.{is_plain, with_full_label, full_of, full_con
 use Rattle.cstn_lift.specs.WellFormed.{IsLabelled}
 use Rattle.cstn_lift.proofs.ListLemmas.{numbered_length}
 use Rattle.cstn_history.specs.Histories.{History, is_done, is_told, allows, label_left}
-use Rattle.cstn_history.specs.Rest.{is_left, sight_left, number_of, value_left, cut, moved, is_over, constraint_left, bare, late_one, watched_one, stands_at, moment_watched, coming_one, late, watched, coming, added, reaction_after, reaction_by, constraints_left, rest}
+use Rattle.cstn_history.specs.Rest.{is_left, sight_left, number_of, value_left, cut, moved, is_over, constraint_left, bare, late_one, watched_one, stands_at}
+use Rattle.cstn_history.specs.Rest.{moment_watched, coming_one, late, watched, coming, added, reaction_after, reaction_by, constraints_left, rest}
 use Rattle.cstn_history.proofs.Edited.{completed_new}
 use Rattle.cstn_follow.specs.Tries.{with_base}
 

@@ -9,7 +9,7 @@ use Rattle.cstn_check.specs.declared.verdicts.Verdict.{Verdict}
 use Rattle.cstn_history.specs.Histories.{History}
 use Rattle.cstn_history.specs.Rest.{rest}
 use Rattle.cstn_history.specs.Handed.{HasRoom}
-use Rattle.cstn_follow.specs.Following.{Following, has_few, fits, verdict_left, verdict_now, verdict_within}
+use Rattle.cstn_follow.specs.Following.{Following, has_few, is_within_limits, verdict_left, verdict_now, verdict_within}
 
 few_true : (n : ℕ) → n ≤ most_constraints → nat_le n most_constraints ≡ true
 few_true n few = grind arith
@@ -57,7 +57,7 @@ left_many m h fresh cap (inr (inr many)) =
 
 -- the verdict within the limits is the verdict
 pub within_is : (s : Following) (v : Verdict) → verdict_within s ≡ Some v → v ≡ verdict_now s
-within_is s v is = by_fit (fits s.network s.history s.fresh) is
+within_is s v is = by_fit (is_within_limits s.network s.history s.fresh) is
   where
     by_fit : (b : Bool) → (if b then Some (verdict_now s) else None) ≡ Some v → v ≡ verdict_now s
     by_fit true here = cc

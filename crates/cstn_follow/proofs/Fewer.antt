@@ -1,5 +1,6 @@
 -- What a check says of what is left by fewer constraints.
-use Rattle.std.proofs.Common.{ℕ, suc, ◌≡◌, inl, inr, ◌+◌, ◌<◌, ◌≤◌, Bool, true, false, ◌&&◌, List, [], ◌∷◌, ◌++◌, Option, Some, None, map, length, get_or, arith, append_assoc, refl, sym, subst, ap, ◌∙◌}
+use Rattle.std.proofs.Common.{ℕ, suc, ◌≡◌, inl, inr, ◌+◌, ◌<◌, ◌≤◌, Bool, true, false, ◌&&◌, List, [], ◌∷◌, ◌++◌, Option, Some, None, map, length, get_or}
+use Rattle.std.proofs.Common.{arith, append_assoc, refl, sym, subst, ap, ◌∙◌}
 use Rattle.std.specs.Prelude.{nat_lt, pos, if◌then◌else◌}
 use Rattle.std.specs.List.{filter, filter_map, cons_option}
 use Rattle.std.proofs.lemmas.Bool.{cases_Bool, both_ways, ltb-true, false_from_ne_true, and_parts, and_from}
@@ -21,8 +22,8 @@ use Rattle.cstn_lift.specs.Completion.{full_label}
 use Rattle.cstn_history.specs.Histories.{History}
 use Rattle.cstn_history.specs.Rest.{moved, constraint_left, bare, added, rest}
 use Rattle.cstn_follow.specs.Tries.{with_base}
-use Rattle.cstn_follow.specs.Blame.{alone, said_by, said_alone}
-use Rattle.cstn_follow.specs.Needs.{sources, Settles}
+use Rattle.cstn_follow.specs.Blame.{network_alone, said_by_network, said_alone}
+use Rattle.cstn_follow.specs.Needs.{sources, NeedsNoOther}
 use Rattle.cstn_follow.proofs.Constraints.{these_full, these_lowered, rest_same}
 use Rattle.cstn_follow.proofs.Nameless.{nameless, load_nameless, consistent_nameless}
 
@@ -115,7 +116,7 @@ module _ (m : Labelled) (h : History) (fresh : ℕ) where
       (filter_map (constraint_left m h) m.base.constraints)
 
   -- the constraints that are left under their full labels, and the lowered network
-  full_left : (test : ℕ → Bool) → full_constraints (rest (alone m test) h fresh) ≡ own_of test ++ more
+  full_left : (test : ℕ → Bool) → full_constraints (rest (network_alone m test) h fresh) ≡ own_of test ++ more
   full_left test =
       let left = filter_map (constraint_left m h) (filter (λ c. test c.id) m.base.constraints) in
       let behind = numbered fresh (added m h) in
@@ -124,7 +125,7 @@ module _ (m : Labelled) (h : History) (fresh : ℕ) where
       ∙ filter_map-append (with_full_label R) left behind
       ∙ ap (λ l. l ++ more) (own_same test)
 
-  lowered_left : (test : ℕ → Bool) → lowered (rest (alone m test) h fresh) ≡ record R.base { constraints = numbered 0 ((own_of test ++ more) ++ guards R) }
+  lowered_left : (test : ℕ → Bool) → lowered (rest (network_alone m test) h fresh) ≡ record R.base { constraints = numbered 0 ((own_of test ++ more) ++ guards R) }
   lowered_left test =
       let left = filter_map (constraint_left m h) (filter (λ c. test c.id) m.base.constraints) in
       let behind = numbered fresh (added m h) in
@@ -151,7 +152,7 @@ module _ (m : Labelled) (h : History) (fresh : ℕ) where
         ∙ sym (numbered_nameless 0 ((own_of t ++ more) ++ guards R))
 
     -- what is said by fewer constraints is said of the lowered network without some of its constraints
-    said_fewer : said cap (with_some (lowered (rest (alone m test) h fresh)) f) ≡ said_alone m h fresh cap t
+    said_fewer : said cap (with_some (lowered (rest (network_alone m test) h fresh)) f) ≡ said_alone m h fresh cap t
     said_fewer =
         let cs = filter (λ c. f c.id) (numbered 0 ((own_of test ++ more) ++ guards R)) in
         let ds = numbered 0 ((own_of t ++ more) ++ guards R) in
@@ -162,7 +163,7 @@ module _ (m : Labelled) (h : History) (fresh : ℕ) where
 
   -- where a check settles by the needed constraints of what is left, a no stands without the others
   settled_stands : (cap : ℕ) (test : ℕ → Bool) (needed : List ℕ) →
-      Settles cap (lowered (rest (alone m test) h fresh)) (sources (rest (alone m test) h fresh)) needed →
+      NeedsNoOther cap (lowered (rest (network_alone m test) h fresh)) (sources (rest (network_alone m test) h fresh)) needed →
       (t : ℕ → Bool) → ((i : ℕ) → t i ≡ true → test i ≡ true) → ((i : ℕ) → is_of needed i ≡ true → test i ≡ true → t i ≡ true) → said_alone m h fresh cap t ≡ Some false
   settled_stands cap test needed settles t within has =
       sym (said_fewer cap test t within) ∙ settles (stays test t) (λ k gone. idle k gone)
@@ -174,11 +175,11 @@ module _ (m : Labelled) (h : History) (fresh : ℕ) where
       id_at k = get_or (map (λ (c : Constraint). c.id) (own_of test)) k 0
 
       idle : (k : ℕ) → stays test t k ≡ false →
-          (k < length (sources (rest (alone m test) h fresh))) × (is_of needed (get_or (sources (rest (alone m test) h fresh)) k 0) ≡ false)
+          (k < length (sources (rest (network_alone m test) h fresh))) × (is_of needed (get_or (sources (rest (network_alone m test) h fresh)) k 0) ≡ false)
       idle k gone = by (nat_lt k n) refl gone
         where
           ids : List ℕ
-          ids = sources (rest (alone m test) h fresh)
+          ids = sources (rest (network_alone m test) h fresh)
 
           are : ids ≡ map (λ (c : Constraint). c.id) (own_of test) ++ map (λ (c : Constraint). c.id) more
           are = ap (map (λ (c : Constraint). c.id)) (full_left test) ∙ map-append (λ (c : Constraint). c.id) (own_of test) more
@@ -200,13 +201,13 @@ module _ (m : Labelled) (h : History) (fresh : ℕ) where
 
   -- what a check of what is left by some of the constraints needs
   pub stands_by : (cap : ℕ) (base net : Network) (ids : List ℕ) (o : Finding) → IsPart m.base base → net ≡ lowered (rest (with_base m base) h fresh) →
-      ids ≡ sources (rest (with_base m base) h fresh) → IfNo o (Settles cap net ids) → IfNo o (Stands (said_by m h fresh cap) base)
+      ids ≡ sources (rest (with_base m base) h fresh) → IfNo o (NeedsNoOther cap net ids) → IfNo o (Stands (said_by_network m h fresh cap) base)
   stands_by cap base net ids Full part net_is ids_are settles = tt
   stands_by cap base net ids (Yes load) part net_is ids_are settles = tt
   stands_by cap base net ids (No needed) part net_is ids_are settles = λ test has.
-      ap (said_by m h fresh cap) (ap (λ (n : Network). with_some n test) part.1 ∙ some_twice m.base part.0 test)
+      ap (said_by_network m h fresh cap) (ap (λ (n : Network). with_some n test) part.1 ∙ some_twice m.base part.0 test)
       ∙ settled_stands cap part.0 needed.items
-      (subst (λ (n : Network). Settles cap n (sources (rest (alone m part.0) h fresh)) needed.items)
+      (subst (λ (n : Network). NeedsNoOther cap n (sources (rest (network_alone m part.0) h fresh)) needed.items)
       (net_is ∙ ap (λ (b : Network). lowered (rest (with_base m b) h fresh)) part.1)
-      (subst (λ l. Settles cap net l needed.items) (ids_are ∙ ap (λ (b : Network). sources (rest (with_base m b) h fresh)) part.1) settles))
+      (subst (λ l. NeedsNoOther cap net l needed.items) (ids_are ∙ ap (λ (b : Network). sources (rest (with_base m b) h fresh)) part.1) settles))
       (λ i. part.0 i && test i) (λ i e. (and_parts (part.0 i) (test i) e).0) (λ i need passes. and_from (part.0 i) (test i) passes (has i need))

@@ -1,6 +1,7 @@
 -- What a check of what is left found, and what its verdict says.
-use Rattle.std.proofs.Common.{ℕ, Bool, true, false, refl, ◌≡◌, ◌<◌, ◌≤◌, ◌+◌, ◌^◌, inl, inr, Some, None, length, ap, sym, subst, ◌∙◌, arith}
+use Rattle.std.proofs.Common.{ℕ, true, ◌≡◌, ◌<◌, ◌≤◌, ◌+◌, ◌^◌, inl, inr, Some, None, length, ap, sym, subst, ◌∙◌, arith}
 use Rattle.std.specs.Prelude.{◌&&◌, nat_lt}
+use Rattle.std.proofs.lemmas.Bool.{and_parts}
 use Rattle.cstn_net.specs.Limits.{most_constraints, most_edits}
 use Rattle.cstn_net.specs.Networks.{Network}
 use Rattle.cstn_net.specs.Read.{the_network}
@@ -13,7 +14,7 @@ use Rattle.cstn_refute.specs.Refutations.{RefutationParts}
 use Rattle.cstn_check.specs.Growth.{log_of, live_bounds}
 use Rattle.cstn_check.specs.Decisions.{verdict}
 use Rattle.cstn_check.specs.declared.verdicts.Verdict.{Verdict}
-use Rattle.cstn_check.specs.declared.verdicts.Verdict.TheVariants.{Yes, No, Full}
+use Rattle.cstn_check.specs.declared.verdicts.Verdict.TheVariants.{Yes, No}
 use Rattle.cstn_history.specs.declared.errors.RestError.{RestError}
 use Rattle.cstn_history.specs.declared.errors.RestError.TheVariants.{TooManyConstraints}
 use Rattle.cstn_history.specs.Handed.{HasRoom, IsRestRefusal, rest_number}
@@ -23,14 +24,14 @@ use Rattle.cstn_history.specs.Read.{HistoryParts, the_history}
 use Rattle.cstn_history.specs.Rest.{rest}
 use Rattle.cstn_follow.specs.declared.findings.Finding.{Finding}
 use Rattle.cstn_follow.specs.declared.findings.Finding.TheVariants.{Planned, Refuted, Unknown}
-use Rattle.cstn_follow.specs.Executions.{ExecutionParts, IsExecution, left_of}
+use Rattle.cstn_follow.specs.Executions.{ExecutionParts, IsExecution, execution_left}
 use Rattle.cstn_follow.specs.Answers.{IsLeftRefuted, SaidYes, SaidNo}
 use Rattle.cstn_follow.specs.Findings.{verdict_of, IsFindingOn}
 use Rattle.cstn_follow.specs.Following.{verdict_left}
 use Rattle.cstn_follow.specs.Waiting.{HasRoomToWait}
-use Rattle.cstn_follow.specs.Sessions.{SessionParts, IsFollowed, IsRightVerdict, IsSession, execution_of, followed}
+use Rattle.cstn_follow.specs.Sessions.{SessionParts, IsFollowed, IsRightNow, IsSession, execution_of, session_parts}
 use Rattle.cstn_follow.proofs.Edited.{left_fits, left_many}
-use Rattle.cstn_follow.proofs.GoesOn.{left_says, left_labelled, yes_can, no_cannot, full_is_above}
+use Rattle.cstn_follow.proofs.GoesOn.{left_says, left_labelled, verdict_right}
 
 -- the verdict of a finding is the one on the network
 pub finding_verdict : (cap : ℕ) (net : Network) (f : Finding) → IsFindingOn cap net f → verdict cap net ≡ verdict_of f
@@ -52,7 +53,7 @@ module _ (m : Labelled) (h : History) (fresh cap : ℕ) where
   ]
 
 -- what is true of the session with these parts
-pub followed_session : (e : ExecutionParts) (cap edits : ℕ) (finding : Finding) → IsFollowed e cap edits finding → IsSession (followed e cap edits finding)
+pub followed_session : (e : ExecutionParts) (cap edits : ℕ) (finding : Finding) → IsFollowed e cap edits finding → IsSession (session_parts e cap edits finding)
 followed_session e cap edits finding good = record {
   execution = good.execution;
   few_edits = good.few_edits;
@@ -62,13 +63,13 @@ followed_session e cap edits finding good = record {
 
 -- what is carried out, with what was found of what is left of it, is followed as it is to be
 pub is_followed : (e y : ExecutionParts) (cap edits : ℕ) (f : Finding) → y ≡ e → IsExecution y → edits ≤ most_edits → e.fresh ≤ 2 ^ 31 + edits
-    → IsFindingOn cap (lowered (left_of e)) f → verdict_left (the_labelled e.network) (the_history e.history) e.fresh cap ≡ Some (verdict_of f)
+    → IsFindingOn cap (lowered (execution_left e)) f → verdict_left (the_labelled e.network) (the_history e.history) e.fresh cap ≡ Some (verdict_of f)
     → IsFollowed y cap edits f
 is_followed e y cap edits f is execution few low found verdict = record {
   execution = execution;
   few_edits = few;
   low = subst (λ (z : ExecutionParts). z.fresh ≤ 2 ^ 31 + edits) (sym is) low;
-  found = subst (λ (z : ExecutionParts). IsFindingOn cap (lowered (left_of z)) f) (sym is) found;
+  found = subst (λ (z : ExecutionParts). IsFindingOn cap (lowered (execution_left z)) f) (sym is) found;
   verdict = subst (λ (z : ExecutionParts). verdict_left (the_labelled z.network) (the_history z.history) z.fresh cap ≡ Some (verdict_of f)) (sym is) verdict;
 }
 
@@ -76,20 +77,14 @@ timely : (e : ExecutionParts) → IsExecution e → IsTimelyHistory (the_labelle
 timely e good = record { history = good.kept.history; in_time = good.kept.in_time }
 
 -- the verdict of a session is right
-pub right_verdict : (s : SessionParts) (v : Verdict) → IsSession s → s.verdict ≡ v → IsRightVerdict s v
-right_verdict s (Yes load) good is =
-    yes_can (the_labelled s.network) (the_history s.history) s.fresh s.cap load good.execution.labelled (timely (execution_of s) good.execution)
-    good.execution.above (good.verdict ∙ ap (λ v. Some v) is)
-right_verdict s (No load) good is =
-    no_cannot (the_labelled s.network) (the_history s.history) s.fresh s.cap load good.execution.labelled (timely (execution_of s) good.execution)
-    good.execution.above (good.verdict ∙ ap (λ v. Some v) is)
-right_verdict s Full good is =
-    full_is_above (the_labelled s.network) (the_history s.history) s.fresh s.cap good.execution.labelled (timely (execution_of s) good.execution)
-    good.execution.above (good.verdict ∙ ap (λ v. Some v) is)
+pub right_verdict : (s : SessionParts) (v : Verdict) → IsSession s → s.verdict ≡ v → IsRightNow s v
+right_verdict s v good is =
+    verdict_right (the_labelled s.network) (the_history s.history) s.fresh s.cap v good.execution.labelled (timely (execution_of s) good.execution)
+    good.execution.above (good.verdict ∙ ap Some is)
 
 pub found_right : (e : ExecutionParts) (cap edits : ℕ) (f : Finding) (v : Verdict) → IsFollowed e cap edits f → v ≡ verdict_of f
-    → IsRightVerdict (followed e cap edits f) v
-found_right e cap edits f v good is = right_verdict (followed e cap edits f) v (followed_session e cap edits f good) (sym is)
+    → IsRightNow (session_parts e cap edits f) v
+found_right e cap edits f v good is = right_verdict (session_parts e cap edits f) v (followed_session e cap edits f good) (sym is)
 
 -- there is room for what is left
 pub room_left : (s : SessionParts) → IsSession s → HasRoom (rest (the_labelled s.network) (the_history s.history) s.fresh)
@@ -97,26 +92,26 @@ room_left s good = (left_says (the_labelled s.network) (the_history s.history) s
 
 -- what a plan, or a refutation, that was found says of what is left
 pub planned_says : (e : ExecutionParts) (cap edits : ℕ) (f : Finding) (load : ℕ) (plan : PlanParts) → IsFollowed e cap edits f → f ≡ Planned load plan
-    → (verdict_of f ≡ Yes load) × (the_network plan.net ≡ lowered (left_of e)) × (the_bounds plan.bounds ≡ live_bounds (log_of (lowered (left_of e))))
+    → (verdict_of f ≡ Yes load) × (the_network plan.net ≡ lowered (execution_left e)) × (the_bounds plan.bounds ≡ live_bounds (log_of (lowered (execution_left e))))
 planned_says e cap edits f load plan good is =
-    let found = subst (λ (g : Finding). IsFindingOn cap (lowered (left_of e)) g) is good.found in
+    let found = subst (λ (g : Finding). IsFindingOn cap (lowered (execution_left e)) g) is good.found in
     (ap verdict_of is, found.1, found.2)
 
 pub refuted_says : (e : ExecutionParts) (cap edits : ℕ) (f : Finding) (r : RefutationParts) → IsFollowed e cap edits f → f ≡ Refuted r
-    → IsLeftRefuted (followed e cap edits f) r
+    → IsLeftRefuted (session_parts e cap edits f) r
 refuted_says e cap edits f r good is =
-    let found = subst (λ (g : Finding). IsFindingOn cap (lowered (left_of e)) g) is good.found in
+    let found = subst (λ (g : Finding). IsFindingOn cap (lowered (execution_left e)) g) is good.found in
     (ap verdict_of is, found.1, found.2)
 
 -- what is left is a labelled network in order
-pub left_in_order : (s : SessionParts) → IsSession s → IsLabelled (left_of (execution_of s))
+pub left_in_order : (s : SessionParts) → IsSession s → IsLabelled (execution_left (execution_of s))
 left_in_order s good =
     left_labelled (the_labelled s.network) (the_history s.history) s.fresh s.cap s.verdict good.verdict good.execution.labelled
     (timely (execution_of s) good.execution) good.execution.above
 
 -- a plan of what is left is one for the parts of the session
 pub planned_left : (s : SessionParts) (network : LabelledParts) (history : HistoryParts) (net : Network) → IsSession s → network ≡ s.network
-    → history ≡ s.history → net ≡ lowered (left_of (execution_of s)) → (fresh : ℕ) × IsLabelled (rest (the_labelled network) (the_history history) fresh)
+    → history ≡ s.history → net ≡ lowered (execution_left (execution_of s)) → (fresh : ℕ) × IsLabelled (rest (the_labelled network) (the_history history) fresh)
     × (net ≡ lowered (rest (the_labelled network) (the_history history) fresh))
 planned_left s network history net good is_network is_history is =
     subst (λ (h : HistoryParts). (fresh : ℕ) × IsLabelled (rest (the_labelled network) (the_history h) fresh)
@@ -131,11 +126,6 @@ can_go_on s good said = right_verdict s (Yes said.0) good said.1
 pub cannot_go_on : (s : SessionParts) → IsSession s → SaidNo s → Can (the_labelled s.network) (the_history s.history) → ⊥
 cannot_go_on s good said = right_verdict s (No said.0) good said.1
 
-both_hold : (a b : Bool) → (a && b) ≡ true → (a ≡ true) × (b ≡ true)
-both_hold true true is = (refl, refl)
-both_hold true false is = absurd (cc)
-both_hold false b is = absurd (cc)
-
 lt_is : (n : ℕ) → nat_lt n most_constraints ≡ true → n < most_constraints
 lt_is n is = grind arith
 
@@ -143,7 +133,7 @@ lt_is n is = grind arith
 pub room_to_wait : (m : Labelled) (h : History) (fresh : ℕ) (l : Labelled) → l ≡ rest m h fresh
     → (nat_lt (length l.base.constraints) most_constraints && nat_lt (length (lowered l).constraints) most_constraints) ≡ true → HasRoomToWait m h fresh
 room_to_wait m h fresh l same is =
-    let two = both_hold _ _ is in
+    let two = and_parts _ _ is in
     record {
       base = subst (λ (k : Labelled). length k.base.constraints < most_constraints) same (lt_is (length l.base.constraints) two.0);
       lowered = subst (λ (k : Labelled). length (lowered k).constraints < most_constraints) same (lt_is (length (lowered l).constraints) two.1);

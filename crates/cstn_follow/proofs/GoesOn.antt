@@ -1,14 +1,14 @@
 -- What a verdict on what is left says of the history.
 use Rattle.std.proofs.Common.{ℕ, ◌≡◌, ◌<◌, ◌≤◌, Bool, true, false, Some, None, length, refl, subst, arith}
-use Rattle.std.specs.Prelude.{nat_le, ◌&&◌, if◌then◌else◌}
+use Rattle.std.specs.Prelude.{◌↔◌, nat_le, ◌&&◌, if◌then◌else◌}
 use Rattle.std.specs.List.{All}
 use Rattle.cstn_net.specs.Limits.{most_constraints}
+use Rattle.cstn_net.specs.Strategies.{IsConsistent}
 use Rattle.cstn_lift.specs.Labelled.{Labelled}
 use Rattle.cstn_lift.specs.Lowered.{lowered}
 use Rattle.cstn_lift.specs.WellFormed.{IsLabelled}
 use Rattle.cstn_lift.proofs.Equivalent.{equivalent}
 use Rattle.cstn_lift.proofs.WellFormed.{lowered_well_formed}
-use Rattle.cstn_check.specs.Growth.{load_of}
 use Rattle.cstn_check.specs.Decisions.{verdict}
 use Rattle.cstn_check.specs.declared.verdicts.Verdict.{Verdict}
 use Rattle.cstn_check.specs.declared.verdicts.Verdict.TheVariants.{Yes, No, Full}
@@ -19,7 +19,7 @@ use Rattle.cstn_history.specs.Rest.{rest}
 use Rattle.cstn_history.specs.Handed.{HasRoom}
 use Rattle.cstn_history.proofs.Decides.{can_both}
 use Rattle.cstn_history.proofs.WellFormed.{rest_labelled}
-use Rattle.cstn_follow.specs.Following.{has_few, verdict_left}
+use Rattle.cstn_follow.specs.Following.{has_few, verdict_left, IsRightVerdict}
 
 few_is : (n : ℕ) → nat_le n most_constraints ≡ true → n ≤ most_constraints
 few_is n is = grind arith
@@ -51,19 +51,18 @@ module _ (m : Labelled) (h : History) (fresh cap : ℕ) (v : Verdict) (is : verd
     left_tells : Tells cap (lowered Left) v
     left_tells = subst (Tells cap (lowered Left)) left_says.1 (verdict_tells cap (lowered Left) (lowered_well_formed Left left_labelled left_says.0.lowered))
 
--- after a yes the history can go on, after a no it can't, and a log that is full has more entries than it may
-pub yes_can : (m : Labelled) (h : History) (fresh cap load : ℕ) → IsLabelled m → IsTimelyHistory m h → All (λ c. c.id < fresh) m.base.constraints
-    → verdict_left m h fresh cap ≡ Some (Yes load) → Can m h
-yes_can m h fresh cap load good timely above is =
-    let tells = left_tells m h fresh cap (Yes load) is good timely above in
-    (can_both m h fresh good timely.history).1 ((equivalent (rest m h fresh) (left_labelled m h fresh cap (Yes load) is good timely above)).consistent.1 tells.0)
+-- the verdict on what is left is right
+pub verdict_right : (m : Labelled) (h : History) (fresh cap : ℕ) (v : Verdict) → IsLabelled m → IsTimelyHistory m h → All (λ c. c.id < fresh) m.base.constraints
+    → verdict_left m h fresh cap ≡ Some v → IsRightVerdict m h fresh cap v
+verdict_right m h fresh cap v good timely above is = by_verdict v is
+  where
+    consistent : (w : Verdict) → verdict_left m h fresh cap ≡ Some w → Can m h ↔ IsConsistent (lowered (rest m h fresh))
+    consistent w said =
+        let both = can_both m h fresh good timely.history in
+        let same = (equivalent (rest m h fresh) (left_labelled m h fresh cap w said good timely above)).consistent in
+        (λ can. same.0 (both.0 can), λ found. both.1 (same.1 found))
 
-pub no_cannot : (m : Labelled) (h : History) (fresh cap load : ℕ) → IsLabelled m → IsTimelyHistory m h → All (λ c. c.id < fresh) m.base.constraints
-    → verdict_left m h fresh cap ≡ Some (No load) → Can m h → ⊥
-no_cannot m h fresh cap load good timely above is can =
-    let tells = left_tells m h fresh cap (No load) is good timely above in
-    tells.0 ((equivalent (rest m h fresh) (left_labelled m h fresh cap (No load) is good timely above)).consistent.0 ((can_both m h fresh good timely.history).0 can))
-
-pub full_is_above : (m : Labelled) (h : History) (fresh cap : ℕ) → IsLabelled m → IsTimelyHistory m h → All (λ c. c.id < fresh) m.base.constraints
-    → verdict_left m h fresh cap ≡ Some Full → cap < load_of (lowered (rest m h fresh))
-full_is_above m h fresh cap good timely above is = left_tells m h fresh cap Full is good timely above
+    by_verdict : (w : Verdict) → verdict_left m h fresh cap ≡ Some w → IsRightVerdict m h fresh cap w
+    by_verdict (Yes load) said = (consistent (Yes load) said).1 (left_tells m h fresh cap (Yes load) said good timely above).0
+    by_verdict (No load) said = λ can. (left_tells m h fresh cap (No load) said good timely above).0 ((consistent (No load) said).0 can)
+    by_verdict Full said = left_tells m h fresh cap Full said good timely above

@@ -3,7 +3,6 @@ use Rattle.std.proofs.Common.{ℕ, zero, suc, ◌≡◌, inl, inr, ◌<◌, ◌�
 use Rattle.std.specs.Prelude.{nat_lt, nat_le, if◌then◌else◌}
 use Rattle.std.proofs.lemmas.Bool.{and_parts}
 use Rattle.cstn_label.specs.declared.nodes.NodeId.{NodeId}
-use Rattle.cstn_label.specs.declared.props.Prop.{Prop}
 use Rattle.cstn_label.specs.Labels.{Scenario}
 use Rattle.cstn_net.specs.Limits.{most_deadline}
 use Rattle.cstn_net.specs.Networks.{IsWellFormed, count, limit}
@@ -31,7 +30,7 @@ use Rattle.cstn_history.proofs.Narrows.{narrower}
 use Rattle.cstn_history.proofs.NextMoment.{quiet_upto}
 use Rattle.cstn_history.proofs.Followed.{time_passes, outcome_comes, step_is_done}
 use Rattle.cstn_history.proofs.Recorded.{put_other, put_from, put_kept, timely_now, timely_done, timely_told}
-use Rattle.cstn_follow.specs.Progress.{HasRoomLeft, IsQuietUpto, IsPassing, IsTelling, IsDoing, IsStep, AreSteps, after}
+use Rattle.cstn_follow.specs.Progress.{HasRoomLeft, IsQuietUpto, IsPassing, IsTelling, IsDoing, IsHistoryStep, AreHistorySteps, history_after}
 use Rattle.cstn_next.proofs.Coming.{ready_from}
 
 -- an outcome that is accepted wasn't told
@@ -159,7 +158,7 @@ module _ (m : Labelled) (h : History) (good : IsLabelled m) (timely : IsTimelyHi
         ),
       )
 
-  pub goes_on : Can m h → (later : History) → IsStep m h later → IsTimelyHistory m later × Can m later
+  pub goes_on : Can m h → (later : History) → IsHistoryStep m h later → IsTimelyHistory m later × Can m later
   goes_on can later (room, inl p) = passes can later p
   goes_on can later (room, inr (inl p)) = tells can later p
   goes_on can later (room, inr (inr p)) = does room can later p
@@ -220,8 +219,8 @@ module _ (m : Labelled) (h : History) (good : IsLabelled m) (timely : IsTimelyHi
 
 -- ---- step after step
 
-pub all_go_on : (m : Labelled) (h : History) (steps : List History) → IsLabelled m → IsTimelyHistory m h → Can m h → AreSteps m h steps →
-    IsTimelyHistory m (after h steps) × Can m (after h steps)
+pub all_go_on : (m : Labelled) (h : History) (steps : List History) → IsLabelled m → IsTimelyHistory m h → Can m h → AreHistorySteps m h steps →
+    IsTimelyHistory m (history_after h steps) × Can m (history_after h steps)
 all_go_on m h [] good timely can are = (timely, can)
 all_go_on m h (later ∷ more) good timely can are =
     let next = goes_on m h good timely can later are.0 in

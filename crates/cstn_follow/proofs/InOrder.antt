@@ -1,5 +1,6 @@
 -- Networks that are changed stay in order.
-use Rattle.std.proofs.Common.{ℕ, ℤ, ◌≡◌, ◌<◌, Bool, true, false, not, List, ◌∷◌, [], length, map, get_or, Option, Some, None, arith, refl, inl, inr, length-append}
+use Rattle.std.proofs.Common.{ℕ, ℤ, ◌≡◌, ◌<◌, Bool, true, false, not, List, ◌∷◌, [], length, map, get_or, Option, Some, None, arith, refl, inl, inr}
+use Rattle.std.proofs.Common.{length-append}
 use Rattle.std.specs.Prelude.{◌==◌, nat_le, if◌then◌else◌}
 use Rattle.std.specs.List.{All}
 use Rattle.std.proofs.lemmas.Bool.{cases_Bool, not-false, leb-false}
@@ -16,7 +17,8 @@ use Rattle.cstn_label.proofs.PlainLabels.{true_plain}
 use Rattle.cstn_net.specs.Limits.{most_constraints, most_edits}
 use Rattle.cstn_net.specs.Networks.{Network, Constraint, IsConstraint, IsValue, IsWellFormed}
 use Rattle.cstn_net.proofs.WellFormed.{well_formed_with}
-use Rattle.cstn_change.specs.Changes.{EditedNetwork, Change, adds, removes, revalues, refusal, is_value, has_constraint, least_unobserved, with_value, new_constraint, constraints_after, IsBetween, CanAdd, CanChange}
+use Rattle.cstn_change.specs.Changes.{EditedNetwork, Change, adds, removes, revalues, refusal, is_value, has_constraint, least_unobserved, with_value}
+use Rattle.cstn_change.specs.Changes.{new_constraint, constraints_after, IsBetween, CanAdd, CanChange}
 use Rattle.cstn_change.proofs.IdLemmas.{value_id}
 use Rattle.cstn_change.proofs.RefusalLemmas.{true_value, none_mapped, on_observed}
 

@@ -16,7 +16,7 @@ use Rattle.cstn_follow.specs.declared.errors.FollowError.{FollowError}
 use Rattle.cstn_follow.specs.declared.errors.FollowError.TheVariants.{Refused, TooManyConstraints, Memory}
 use Rattle.cstn_follow.specs.declared.errors.ReplanError.{ReplanError}
 use Rattle.cstn_follow.specs.declared.errors.ReplanError.TheVariants.{Refused as IsRefusedEdit, TooManyConstraints as HasTooMany, Memory as RanOut}
-use Rattle.cstn_follow.specs.Following.{Following, says, too_many, verdict_line, verdict_now, verdict_within, on_verdict}
+use Rattle.cstn_follow.specs.Following.{Following, says, too_many, verdict_line, verdict_now, verdict_within, on_left_verdict}
 use Rattle.cstn_follow.specs.FactLines.{on_result}
 use Rattle.cstn_follow.specs.PlanLines.{replanned, on_refusal, on_edit, on_deadline}
 use Rattle.cstn_follow.specs.Read.{following_of, the_following}
@@ -95,18 +95,18 @@ module _ (names : List (List ℕ)) (lines : ℕ) where
 
   -- the network is put in the place of the other, and this is said
   replan_said : (e : EditedNetwork) (old new : SessionParts) (v : Verdict) (text said : List ℕ) → Replans e old new (Ok v) → said ≡ text
-      → on_verdict (lines_of old) (replanned (lines_of old) e) (λ w. text) (verdict_within (replanned (lines_of old) e)) ≡ says said (lines_of new)
+      → on_left_verdict (lines_of old) (replanned (lines_of old) e) (λ w. text) (verdict_within (replanned (lines_of old) e)) ≡ says said (lines_of new)
   replan_said e old new v text said made is =
-      ap (on_verdict (lines_of old) (replanned (lines_of old) e) (λ w. text)) made.2
+      ap (on_left_verdict (lines_of old) (replanned (lines_of old) e) (λ w. text)) made.2
       ∙ ap (λ t. says t (replanned (lines_of old) e)) (sym is)
       ∙ ap (λ (m : Labelled). says said (record (lines_of old) { network = m; edits = e.edits; fresh = e.fresh })) (sym made.0)
       ∙ ap (λ (s : SessionParts). says said (lines_of s)) (sym made.1)
 
   -- or there would be too many constraints
   many_said : (e : EditedNetwork) (old new : SessionParts) (text said : List ℕ) → Replans e old new (Err AreTooMany) → said ≡ too_many
-      → on_verdict (lines_of old) (replanned (lines_of old) e) (λ w. text) (verdict_within (replanned (lines_of old) e)) ≡ says said (lines_of new)
+      → on_left_verdict (lines_of old) (replanned (lines_of old) e) (λ w. text) (verdict_within (replanned (lines_of old) e)) ≡ says said (lines_of new)
   many_said e old new text said made is =
-      ap (on_verdict (lines_of old) (replanned (lines_of old) e) (λ w. text)) made.0
+      ap (on_left_verdict (lines_of old) (replanned (lines_of old) e) (λ w. text)) made.0
       ∙ ap (λ t. says t (lines_of old)) (sym is)
       ∙ ap (λ (s : SessionParts). says said (lines_of s)) (sym made.1)
 

@@ -1,5 +1,6 @@
 -- Growth asks for no ids: networks that differ in the ids of their constraints alone have the same load, and are consistent together.
-use Rattle.std.proofs.Common.{ℕ, zero, suc, ◌≡◌, Bool, true, false, not, ◌&&◌, ◌||◌, cond, List, [], ◌∷◌, ◌++◌, Option, Some, None, map, length, refl, sym, ap, ◌∙◌}
+use Rattle.std.proofs.Common.{ℕ, zero, suc, ◌≡◌, Bool, true, false, not, ◌&&◌, ◌||◌, cond, List, [], ◌∷◌, ◌++◌, Option, Some, None, map, length, refl, sym, ap}
+use Rattle.std.proofs.Common.{◌∙◌}
 use Rattle.std.specs.Prelude.{slice_get}
 use Rattle.std.specs.List.{list_any}
 use Rattle.std.proofs.lemmas.List.{length-map, map_push}
@@ -10,7 +11,8 @@ use Rattle.cstn_rules.specs.Derivations.{Entry}
 use Rattle.cstn_log.specs.Entries.{bases}
 use Rattle.cstn_rules.specs.Tests.{refutes, chain_of, wait_of}
 use Rattle.cstn_label.specs.Tests.{dominates}
-use Rattle.cstn_check.specs.Growth.{Instance, is_covered, is_live, is_refuted, premises_live, of_one, of_two, conclusion, with_conclusion, step, tried, chains_at, waits_below, turn, grown, log_of, load_of}
+use Rattle.cstn_check.specs.Growth.{Instance, is_covered, is_live, is_refuted, premises_live, of_one, of_two, conclusion, with_conclusion, step, tried}
+use Rattle.cstn_check.specs.Growth.{chains_at, waits_below, turn, grown, log_of, load_of}
 use Rattle.cstn_check.specs.Growth.Instance.{chain_at, wait_at}
 use Rattle.cstn_check.specs.Verdicts.{is_consistent}
 

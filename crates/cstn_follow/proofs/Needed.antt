@@ -1,5 +1,6 @@
 -- Which constraints of a labelled network a no on its lowered network needs.
-use Rattle.std.proofs.Common.{ℕ, ◌≡◌, ◌+◌, ◌<◌, ◌≤◌, Bool, true, false, ◌||◌, eqb, List, [], ◌∷◌, ◌++◌, Some, None, length, map, get_or, take, arith, refl, sym, ap, ◌∙◌}
+use Rattle.std.proofs.Common.{ℕ, ◌≡◌, ◌+◌, ◌<◌, ◌≤◌, Bool, true, false, ◌||◌, eqb, List, [], ◌∷◌, ◌++◌, Some, None, length, map, get_or, take, arith, refl, sym}
+use Rattle.std.proofs.Common.{ap, ◌∙◌}
 use Rattle.std.specs.Prelude.{if◌then◌else◌}
 use Rattle.std.specs.List.{Contains, filter_map, cons_option}
 use Rattle.std.proofs.lemmas.Bool.{both_ways, or_left, or_parts, eq-eqb, ne_eqb}
@@ -16,11 +17,11 @@ use Rattle.cstn_check.proofs.Fewer.{map_next}
 use Rattle.cstn_lift.specs.Labelled.{Labelled}
 use Rattle.cstn_lift.specs.Completion.{full_label}
 use Rattle.cstn_lift.specs.Lowered.{is_plain, with_full_label}
-use Rattle.cstn_follow.specs.Needs.{HasSources, Settles}
+use Rattle.cstn_follow.specs.Needs.{HasSources, NeedsNoOther}
 
 -- without constraints whose sources aren't needed a check says no, too
 pub settled : (cap : ℕ) (net : Network) (sources numbers needed : List ℕ) → Stands (said cap) net numbers →
-    HasSources sources needed numbers → Settles cap net sources needed
+    HasSources sources needed numbers → NeedsNoOther cap net sources needed
 settled cap net sources numbers needed stands at test idle =
     stands test (λ id need. by id (test id) refl need)
   where

@@ -13,7 +13,7 @@ use Rattle.cstn_history.specs.Histories.{History}
 use Rattle.cstn_history.specs.Rest.{number_of, rest}
 use Rattle.cstn_history.specs.Handed.{AreNumbers}
 use Rattle.cstn_check.specs.Search.{halving}
-use Rattle.cstn_follow.specs.Waiting.{said_until, tried, waits_until}
+use Rattle.cstn_follow.specs.Waiting.{said_until, tried_until, waits_until}
 
 module _ (m : Labelled) (h : History) (numbers : List ℕ) (are : AreNumbers m h numbers) where
   pub numbers_long : length numbers ≡ count m.base
@@ -40,5 +40,5 @@ pub search_is : (m : Labelled) (h : History) (fresh x cap k low high : ℕ) (n :
 search_is m h fresh x cap k low high n is number now last =
     ap (λ (l : Labelled). halving (said_until l fresh k cap) 20 (record { low = low; high = high })) is
     ∙ ap (λ (i : ℕ). halving (said_until (rest m h fresh) fresh i cap) 20 (record { low = low; high = high })) number
-    ∙ ap (λ (l : ℕ). halving (tried m h fresh x cap) 20 (record { low = l; high = high })) now
-    ∙ ap (λ (u : ℕ). halving (tried m h fresh x cap) 20 (record { low = h.now; high = u })) last
+    ∙ ap (λ (l : ℕ). halving (tried_until m h fresh x cap) 20 (record { low = l; high = high })) now
+    ∙ ap (λ (u : ℕ). halving (tried_until m h fresh x cap) 20 (record { low = h.now; high = u })) last

@@ -18,7 +18,7 @@ use Rattle.cstn_history.specs.Handed.{HasRoom, IsRestRefusal, rest_number}
 use Rattle.cstn_history.specs.declared.errors.RestError.{RestError}
 use Rattle.cstn_history.specs.declared.errors.RestError.TheVariants.{TooManyConstraints}
 use Rattle.cstn_history.proofs.Edited.{can_new}
-use Rattle.cstn_follow.specs.Blame.{alone}
+use Rattle.cstn_follow.specs.Blame.{network_alone}
 use Rattle.cstn_follow.proofs.Constraints.{these_labelled, these_long, rest_same}
 
 -- ---- lists
@@ -83,17 +83,17 @@ module _ (m : Labelled) (test : ℕ → Bool) (good : IsLabelled m) where
   part_well_formed : IsWellFormed (with_some m.base test)
   part_well_formed = some_well_formed m.base some good.base
 
-  pub part_labelled : IsLabelled (alone m test)
+  pub part_labelled : IsLabelled (network_alone m test)
   part_labelled = these_labelled m (filter some cs) good part_well_formed
 
-  pub part_short : length (lowered (alone m test)).constraints ≤ length (lowered m).constraints
+  pub part_short : length (lowered (network_alone m test)).constraints ≤ length (lowered m).constraints
   part_short =
       let fewer = fewer_left (with_full_label m) some cs in
       let new = these_long m (filter some cs) in
       let old = these_long m cs in
       omega arith
 
-  pub part_room : (h : History) (fresh : ℕ) → HasRoom (rest m h fresh) → HasRoom (rest (alone m test) h fresh)
+  pub part_room : (h : History) (fresh : ℕ) → HasRoom (rest m h fresh) → HasRoom (rest (network_alone m test) h fresh)
   part_room h fresh room =
       let R = rest m h fresh in
       let behind = numbered fresh (added m h) in
@@ -109,7 +109,7 @@ module _ (m : Labelled) (test : ℕ → Bool) (good : IsLabelled m) where
       let low = room.lowered in
       subst HasRoom (sym same) (record { base = omega arith; lowered = omega arith })
 
-pub part_above : (m : Labelled) (test : ℕ → Bool) (fresh : ℕ) → All (λ c. c.id < fresh) m.base.constraints → All (λ c. c.id < fresh) (alone m test).base.constraints
+pub part_above : (m : Labelled) (test : ℕ → Bool) (fresh : ℕ) → All (λ c. c.id < fresh) m.base.constraints → All (λ c. c.id < fresh) (network_alone m test).base.constraints
 part_above m test fresh above = All-filter (λ c. test c.id) (λ c. c.id < fresh) m.base.constraints above
 
 -- where there is room, what is left isn't refused for want of it
@@ -132,9 +132,9 @@ in_part test cs c inside = (
 
 -- where the history can go on by some constraints, it can by fewer of them
 pub goes_with_fewer : (m : Labelled) (h : History) (a b : ℕ → Bool) →
-    ((c : Constraint) → Contains m.base.constraints c → a c.id ≡ true → b c.id ≡ true) → Can (alone m b) h → Can (alone m a) h
+    ((c : Constraint) → Contains m.base.constraints c → a c.id ≡ true → b c.id ≡ true) → Can (network_alone m b) h → Can (network_alone m a) h
 goes_with_fewer m h a b fewer can =
-    can_new (alone m b) m.base.deadline (filter (λ c. a c.id) m.base.constraints) h (omega arith)
+    can_new (network_alone m b) m.base.deadline (filter (λ c. a c.id) m.base.constraints) h (omega arith)
     (λ c inside.
     let from = in_part a m.base.constraints c inside in
     filter_contains (λ d. b d.id) m.base.constraints c from.0 (fewer c from.0 from.1)) can

@@ -9,12 +9,13 @@ use Rattle.cstn_history.specs.Histories.{History}
 use Rattle.cstn_change.specs.Changes.{Change, removes, revalues, Refusal, refusal, after}
 use Rattle.cstn_change.specs.ChangeLines.{addition}
 use Rattle.cstn_lines.specs.EditLines.{Edit, added, removed, changed, asked}
-use Rattle.cstn_lines.specs.FollowLines.{Follow, follow_read, IsFollow, done_at, came_at, now_at, awaited_at, edits, ends_by, asks_next, asks_by, asks_blame, asks_rest}
+use Rattle.cstn_lines.specs.FollowLines.{Follow, follow_read, IsFollow, done_at, came_at, now_at, awaited_at, edits, ends_by, asks_next, asks_by, asks_blame}
+use Rattle.cstn_lines.specs.FollowLines.{asks_rest}
 use Rattle.cstn_lines.proofs.FollowLemmas.{follow_is}
 use Rattle.cstn_reply.specs.Sessions.{Turn, more, last, wrong}
 use Rattle.cstn_reply.specs.Reached.{state_after}
 use Rattle.cstn_reply.proofs.Sessions.{first_leads}
-use Rattle.cstn_follow.specs.Following.{Following, Heard, says, saves, verdict_now, verdict_within, on_verdict, follows, verdict_line}
+use Rattle.cstn_follow.specs.Following.{Following, Heard, says, saves, verdict_now, verdict_within, on_left_verdict, follows, verdict_line}
 use Rattle.cstn_follow.specs.FactLines.{records}
 use Rattle.cstn_follow.specs.PlanLines.{edited_network, replanned, on_refusal, on_edit, on_deadline}
 use Rattle.cstn_follow.specs.Replans.{with_due}
@@ -39,7 +40,7 @@ through s t u a b = record { names = b.names ∙ a.names; observes = b.observes 
 follows_keeps : (s next : Following) (text : Verdict → List ℕ) → KeepsPoints s next → KeepsPoints s (next_of (follows s next text))
 follows_keeps s next text keeps = by_verdict (verdict_within next)
   where
-    by_verdict : (o : Option Verdict) → KeepsPoints s (next_of (on_verdict s next text o))
+    by_verdict : (o : Option Verdict) → KeepsPoints s (next_of (on_left_verdict s next text o))
     by_verdict None = same s
     by_verdict (Some v) = keeps
 

@@ -1,5 +1,6 @@
 -- How facts are refused, and what has happened once they are recorded.
-use Rattle.std.proofs.Common.{ℕ, zero, suc, ◌≡◌, ◌≤◌, Bool, false, max, List, [], ◌∷◌, ◌++◌, length, Option, Some, None, arith, refl, sym, subst, ap, ◌∙◌, inl, inr}
+use Rattle.std.proofs.Common.{ℕ, zero, suc, ◌≡◌, ◌≤◌, Bool, false, max, List, [], ◌∷◌, ◌++◌, length, Option, Some, None, arith, refl, sym, subst, ap, ◌∙◌, inl}
+use Rattle.std.proofs.Common.{inr}
 use Rattle.std.specs.Prelude.{◌⊎◌, cond, Result, Ok, nat_lt, nat_le, codes, decimal}
 use Rattle.std.specs.List.{Contains, cons_option}
 use Rattle.std.specs.Option.{option_map, is_none}
@@ -13,12 +14,13 @@ use Rattle.cstn_text.specs.PrintedNames.{printed_name}
 use Rattle.cstn_lift.specs.Labelled.{Labelled}
 use Rattle.cstn_history.specs.Histories.{History}
 use Rattle.cstn_history.specs.Facts.{FactRefusal, Past, OutOfRange, NoSuch, Done, Undecided, NotObserved, Told}
-use Rattle.cstn_history.specs.Facts.{is_beyond, again_refusal, done_refusal, now_refusal, told_refusal, told_after, again_told, expected_refusal, expected_after, again_expected, observed_since, at_now, with_done, with_told, with_expected}
+use Rattle.cstn_history.specs.Facts.{is_beyond, again_refusal, done_refusal, now_refusal, told_refusal, told_after, again_told, expected_refusal}
+use Rattle.cstn_history.specs.Facts.{expected_after, again_expected, observed_since, at_now, with_done, with_told, with_expected}
 use Rattle.cstn_history.proofs.Recorded.{put_there, put_other, put_kept}
 use Rattle.cstn_lines.specs.LiveLines.{printed_truth}
 use Rattle.cstn_reply.specs.Texts.{line}
 use Rattle.cstn_follow.specs.Following.{name_at}
-use Rattle.cstn_follow.specs.FactLines.{refused_fact, unless_refused, all_done, unknown_of, node_of, node_named, nodes_of}
+use Rattle.cstn_follow.specs.FactLines.{refused_fact, unless_refused, all_done, unknown_of, node_numbered, node_named, nodes_of}
 use Rattle.cstn_follow.proofs.InOrder.{none_refused}
 use Rattle.cstn_follow.specs.Recorded.{AreDone, HasCome, HasPassed, IsExpectedAt}
 
@@ -129,24 +131,24 @@ module _ (names : List (List ℕ)) where
       let f = (first_known first more none).0 in (f.0, subst (λ n. number_of names n ≡ Some f.0) at f.1)
   all_known (first ∷ more) none name (suc k, inside, at) = all_known more (first_known first more none).1 name (k, omega arith, at)
 
-  number_back : (o : Option ℕ) (y : NodeId) → option_map node_of o ≡ Some y → o ≡ Some y.0
+  number_back : (o : Option ℕ) (y : NodeId) → option_map node_numbered o ≡ Some y → o ≡ Some y.0
   number_back None y is = absurd (cc)
-  number_back (Some n) y is = let same : node_of n ≡ y = cc in ap (λ (z : NodeId). Some z.0) same
+  number_back (Some n) y is = let same : node_numbered n ≡ y = cc in ap (λ (z : NodeId). Some z.0) same
 
   pub are_done : (m : Labelled) (h g : History) (t : ℕ) (given : List (List ℕ)) → 1 ≤ length given → unknown_of names given ≡ None
       → all_done m t h (nodes_of names given) ≡ Ok g → AreDone names h t given g
   are_done m h g t [] some none is = absurd (omega arith)
   are_done m h g t (first ∷ more) some none is =
       let x = (first_known first more none).0 in
-      let nodes_are : nodes_of names (first ∷ more) ≡ node_of x.0 ∷ nodes_of names more =
-      ap (λ o. cons_option (option_map node_of o) (nodes_of names more)) x.1 in
+      let nodes_are : nodes_of names (first ∷ more) ≡ node_numbered x.0 ∷ nodes_of names more =
+      ap (λ o. cons_option (option_map node_numbered o) (nodes_of names more)) x.1 in
       let rest_is = done_else m t h g (nodes_of names (first ∷ more)) is in
       record {
-        now = some_now m t h g (node_of x.0) (nodes_of names more) (ap (all_done m t h) (sym nodes_are) ∙ is);
+        now = some_now m t h g (node_numbered x.0) (nodes_of names more) (ap (all_done m t h) (sym nodes_are) ∙ is);
         done = λ name has.
             let y = all_known (first ∷ more) none name has in
-            let there = filter_map_contains (node_named names) (first ∷ more) name (node_of y.0) has (ap (option_map node_of) y.1) in
-            let both = done_each m t h g (nodes_of names (first ∷ more)) (node_of y.0) is there in
+            let there = filter_map_contains (node_named names) (first ∷ more) name (node_numbered y.0) has (ap (option_map node_numbered) y.1) in
+            let both = done_each m t h g (nodes_of names (first ∷ more)) (node_numbered y.0) is there in
             (y.0, y.1, both.0, both.1);
         others = λ y other. done_others m t h g (nodes_of names (first ∷ more)) y is (λ z has same.
             let from = filter_map_from (node_named names) (first ∷ more) z has in

@@ -9,7 +9,7 @@ use Rattle.cstn_lift.specs.Labelled.{Labelled}
 use Rattle.cstn_history.specs.Histories.{History}
 use Rattle.cstn_check.specs.declared.verdicts.Verdict.{Verdict}
 use Rattle.cstn_history.specs.Facts.{FactRefusal, done_refusal, with_done}
-use Rattle.cstn_follow.specs.Following.{Following, says, too_many, verdict_line, verdict_left, on_verdict}
+use Rattle.cstn_follow.specs.Following.{Following, says, too_many, verdict_line, verdict_left, on_left_verdict}
 use Rattle.cstn_follow.specs.FactLines.{records, all_done, unless_refused}
 
 -- the next name, where a time-point has it
@@ -40,9 +40,9 @@ done_stops m t h xs i x e inside is refused =
 -- what has happened is recorded, unless there are too many constraints then
 pub recorded_none : (s : Following) (h : History) (text : List ℕ) → verdict_left s.network h s.fresh s.cap ≡ None → text ≡ too_many → records s h ≡ says text s
 recorded_none s h text none is =
-    ap (on_verdict s (record s { history = h }) (verdict_line s.cap)) none ∙ ap (λ t. says t s) (sym is)
+    ap (on_left_verdict s (record s { history = h }) (verdict_line s.cap)) none ∙ ap (λ t. says t s) (sym is)
 
 pub recorded_some : (s : Following) (h : History) (text : List ℕ) (v : Verdict) → verdict_left s.network h s.fresh s.cap ≡ Some v → text ≡ verdict_line s.cap v
     → records s h ≡ says text (record s { history = h })
 recorded_some s h text v some is =
-    ap (on_verdict s (record s { history = h }) (verdict_line s.cap)) some ∙ ap (λ t. says t (record s { history = h })) (sym is)
+    ap (on_left_verdict s (record s { history = h }) (verdict_line s.cap)) some ∙ ap (λ t. says t (record s { history = h })) (sym is)

@@ -18,13 +18,15 @@ use Rattle.cstn_lift.specs.WellFormed.{IsLabelled}
 use Rattle.cstn_check.specs.declared.verdicts.Verdict.{Verdict}
 use Rattle.cstn_check.specs.declared.verdicts.Verdict.TheVariants.{Yes, No, Full}
 use Rattle.cstn_history.specs.Histories.{History, IsTimelyHistory, nothing_yet, edited}
-use Rattle.cstn_history.specs.Facts.{FactRefusal, OutOfRange, is_beyond, now_refusal, done_refusal, told_refusal, expected_refusal, at_now, with_done, with_told, with_expected}
+use Rattle.cstn_history.specs.Facts.{FactRefusal, OutOfRange, is_beyond, now_refusal, done_refusal, told_refusal, expected_refusal, at_now, with_done}
+use Rattle.cstn_history.specs.Facts.{with_told, with_expected}
 use Rattle.cstn_history.specs.Handed.{HasRoom}
 use Rattle.cstn_history.proofs.Edited.{timely_edited}
 use Rattle.cstn_history.proofs.Nothing.{nothing_history, rest_whole}
 use Rattle.cstn_history.proofs.Recorded.{timely_now, timely_done, timely_told, timely_expected}
 use Rattle.cstn_lines.specs.EditLines.{Edit, added, removed, changed, asked, IsEdit}
-use Rattle.cstn_lines.specs.FollowLines.{Follow, follow_read, IsFollow, done_at, came_at, now_at, awaited_at, edits, ends_by, asks_next, asks_by, asks_blame, asks_rest}
+use Rattle.cstn_lines.specs.FollowLines.{Follow, follow_read, IsFollow, done_at, came_at, now_at, awaited_at, edits, ends_by, asks_next, asks_by, asks_blame}
+use Rattle.cstn_lines.specs.FollowLines.{asks_rest}
 use Rattle.cstn_lines.proofs.FollowLemmas.{follow_is}
 use Rattle.cstn_change.specs.Changes.{Change, adds, removes, revalues, Refusal, id_above, refusal, constraints_after, fresh_after, IsBetween}
 use Rattle.cstn_change.specs.ChangeLines.{accepted_text, addition_between}
@@ -34,15 +36,16 @@ use Rattle.cstn_reply.specs.Texts.{line}
 use Rattle.cstn_reply.specs.Sessions.{Turn, more, last, wrong}
 use Rattle.cstn_reply.specs.Reached.{state_after}
 use Rattle.cstn_reply.proofs.Sessions.{first_leads}
-use Rattle.cstn_follow.specs.Following.{Following, Heard, says, saves, begun, verdict_now, verdict_within, on_verdict, follows, verdict_line}
-use Rattle.cstn_follow.specs.FactLines.{on_result, records, refuses, refused_fact, unknown_name, unless_refused, all_done, on_known, on_did, nodes_of, unknown_of, on_fact, on_now, on_saw, on_await}
+use Rattle.cstn_follow.specs.Following.{Following, Heard, says, saves, begun, verdict_now, verdict_within, on_left_verdict, follows, verdict_line}
+use Rattle.cstn_follow.specs.FactLines.{on_result, records, refuses, refused_fact, unknown_name, unless_refused, all_done, on_known, on_did, nodes_of}
+use Rattle.cstn_follow.specs.FactLines.{unknown_of, on_fact, on_now, on_saw, on_await}
 use Rattle.cstn_follow.specs.PlanLines.{edited_network, on_refusal, on_edit, on_add, on_deadline}
 use Rattle.cstn_follow.specs.Questions.{next_after, check_after}
 use Rattle.cstn_follow.specs.Searches.{by_number, by_unless, by_after, by_refusal, blame_after}
 use Rattle.cstn_follow.specs.Hearing.{on_plan, on_other, on_line, counted, hear}
 use Rattle.cstn_follow.proofs.InOrder.{IsOfLetters, can_change, changed_in_order}
 use Rattle.cstn_follow.proofs.Edited.{left_fits, within_is}
-use Rattle.cstn_follow.proofs.GoesOn.{yes_can, no_cannot, full_is_above}
+use Rattle.cstn_follow.proofs.GoesOn.{verdict_right}
 use Rattle.cstn_follow.specs.Recorded.{IsFact, IsRecorded}
 use Rattle.cstn_follow.specs.Turns.{Writing, IsTrueOf, heard_by, turn_by}
 use Rattle.cstn_follow.proofs.RecordedFacts.{IsRefusal, fact_refusal, same_history, are_done, has_passed, has_come, is_expected}
@@ -66,7 +69,7 @@ follows_sound : (s next : Following) (text : Verdict → List ℕ) → IsSound s
     → IsTimelyHistory next.network next.history → All (λ (c : Constraint). c.id < next.fresh) next.network.base.constraints → IsSound (next_of (follows s next text))
 follows_sound s next text sound labelled named timely above = by_verdict (verdict_within next) refl
   where
-    by_verdict : (o : Option Verdict) → verdict_within next ≡ o → IsSound (next_of (on_verdict s next text o))
+    by_verdict : (o : Option Verdict) → verdict_within next ≡ o → IsSound (next_of (on_left_verdict s next text o))
     by_verdict None is = sound
     by_verdict (Some v) is = record { labelled = labelled; named = named; timely = timely; above = above; verdict = is ∙ ap Some (within_is next v is) }
 
@@ -281,6 +284,4 @@ begun_sound cap names m good few named =
 
 -- the verdict of a sound session is true of what has happened
 pub verdict_true : (s : Following) (v : Verdict) → IsSound s → verdict_now s ≡ v → IsTrueOf s v
-verdict_true s (Yes load) sound is = yes_can s.network s.history s.fresh s.cap load sound.labelled sound.timely sound.above (sound.verdict ∙ ap Some is)
-verdict_true s (No load) sound is = no_cannot s.network s.history s.fresh s.cap load sound.labelled sound.timely sound.above (sound.verdict ∙ ap Some is)
-verdict_true s Full sound is = full_is_above s.network s.history s.fresh s.cap sound.labelled sound.timely sound.above (sound.verdict ∙ ap Some is)
+verdict_true s v sound is = verdict_right s.network s.history s.fresh s.cap v sound.labelled sound.timely sound.above (sound.verdict ∙ ap Some is)

@@ -14,7 +14,7 @@ use Rattle.cstn_follow.specs.Findings.{verdict_of}
 use Rattle.cstn_follow.specs.declared.errors.FollowError.{FollowError}
 use Rattle.cstn_follow.specs.FactLines.{unless_refused}
 use Rattle.cstn_follow.specs.Following.{verdict_left}
-use Rattle.cstn_follow.specs.Sessions.{SessionParts, Records, followed, unrecorded}
+use Rattle.cstn_follow.specs.Sessions.{SessionParts, Records, session_parts, unrecorded}
 
 pub fact_refused : (o : Option FactRefusal) (told : Result History FactRefusal) (e : FactRefusal) → Some e ≡ o → unless_refused o told ≡ Err e
 fact_refused o told e is = ap (λ p. unless_refused p told) (sym is)
@@ -36,8 +36,8 @@ not_recorded later old (IsMemory e) none = refl
 -- what is found after these facts is recorded with them
 pub recorded : (x : ExecutionParts) (later : HistoryParts) (y : ExecutionParts) (cap edits : ℕ) (f g : Finding) (v : Verdict) → y ≡ record x { history = later }
     → v ≡ verdict_of g → verdict_left (the_labelled x.network) (the_history later) x.fresh cap ≡ Some (verdict_of g)
-    → Records (Ok (the_history later)) (followed x cap edits f) (followed y cap edits g) (Ok v)
+    → Records (Ok (the_history later)) (session_parts x cap edits f) (session_parts y cap edits g) (Ok v)
 recorded x later y cap edits f g v is said found =
-    subst (λ (z : ExecutionParts). Records (Ok (the_history later)) (followed x cap edits f) (followed z cap edits g) (Ok v)) (sym is)
-    (subst (λ (u : Verdict). Records (Ok (the_history later)) (followed x cap edits f) (followed (record x { history = later }) cap edits g) (Ok u)) (sym said)
+    subst (λ (z : ExecutionParts). Records (Ok (the_history later)) (session_parts x cap edits f) (session_parts z cap edits g) (Ok v)) (sym is)
+    (subst (λ (u : Verdict). Records (Ok (the_history later)) (session_parts x cap edits f) (session_parts (record x { history = later }) cap edits g) (Ok u)) (sym said)
     (refl, refl, found))

@@ -1,6 +1,7 @@
 -- Until when a time-point can wait is found by halving.
-use Rattle.std.proofs.Common.{ℕ, zero, suc, ◌≡◌, inl, inr, ◌+◌, ◌-◌, ◌*◌, ◌^◌, ◌<◌, ◌≤◌, Bool, true, false, List, [], ◌∷◌, ◌++◌, Option, Some, None, length, arith, refl, sym, subst, ap, ◌∙◌}
-use Rattle.std.specs.Prelude.{◌↔◌, ◌/◌, map, nat_lt, pos, ◌-ℤ◌, if◌then◌else◌}
+use Rattle.std.proofs.Common.{ℕ, zero, suc, ◌≡◌, inl, inr, ◌+◌, ◌-◌, ◌<◌, ◌≤◌, Bool, true, false, List, [], ◌∷◌, ◌++◌, Some, None, length, arith, refl, sym}
+use Rattle.std.proofs.Common.{subst, ap, ◌∙◌}
+use Rattle.std.specs.Prelude.{◌↔◌, pos, ◌-ℤ◌, if◌then◌else◌}
 use Rattle.std.specs.List.{All, filter_map}
 use Rattle.std.proofs.lemmas.Int.{ints}
 use Rattle.std.proofs.lemmas.Bool.{both_ways}
@@ -33,7 +34,7 @@ use Rattle.cstn_history.proofs.Waiting.{waits_both, waits_less, strategy_more, s
 use Rattle.cstn_check.proofs.Halves.{last_found as halved_last}
 use Rattle.cstn_check.proofs.Said.{said_is}
 use Rattle.cstn_follow.proofs.Constraints.{these_labelled, these_long}
-use Rattle.cstn_follow.specs.Waiting.{HasRoomToWait, waiting_one, rest_until, tried, waits_until}
+use Rattle.cstn_follow.specs.Waiting.{HasRoomToWait, waiting_one, rest_until, tried_until, waits_until}
 
 all_one : (P : Constraint → Type 0) → (d : Constraint) → P d → All P (d ∷ [])
 all_one P d here = All-cons P d [] here (λ i e inside. absurd (omega arith))
@@ -180,13 +181,13 @@ module _ (m : Labelled) (h : History) (fresh x : ℕ) (good : IsLabelled m) (tim
         )
 
     module _ (cap : ℕ) where
-      tried_is : (t : ℕ) (v : Bool) → tried m h fresh x cap t ≡ Some v → is_consistent (lowered (rest_until m h fresh x t)) ≡ v
+      tried_is : (t : ℕ) (v : Bool) → tried_until m h fresh x cap t ≡ Some v → is_consistent (lowered (rest_until m h fresh x t)) ≡ v
       tried_is t v e = (said_is cap (lowered (rest_until m h fresh x t)) v e).0
 
-      waits_by : (t : ℕ) → t ≤ most_deadline → tried m h fresh x cap t ≡ Some true → CanWait m h x t
+      waits_by : (t : ℕ) → t ≤ most_deadline → tried_until m h fresh x cap t ≡ Some true → CanWait m h x t
       waits_by t upto e = (wait_decided t upto).0 (tried_is t true e)
 
-      stops_by : (t : ℕ) → t ≤ most_deadline → tried m h fresh x cap t ≡ Some false → CanWait m h x t → ⊥
+      stops_by : (t : ℕ) → t ≤ most_deadline → tried_until m h fresh x cap t ≡ Some false → CanWait m h x t → ⊥
       stops_by t upto e waits = both_ways (is_consistent (lowered (rest_until m h fresh x t))) (tried_is t false e) ((wait_decided t upto).1 waits)
 
       -- x is executed in some scenario that agrees with the history
@@ -217,5 +218,5 @@ module _ (m : Labelled) (h : History) (fresh x : ℕ) (good : IsLabelled m) (tim
           let upto = waits.1.within w.0 x w.1 here none w.2 in
           let last = limit_upto x in
           omega arith in
-          halved_last (tried m h fresh x cap) (CanWait m h x) most_deadline waits_by stops_by (λ t u upto waits. waits_less m h x u t upto waits) 20
+          halved_last (tried_until m h fresh x cap) (CanWait m h x) most_deadline waits_by stops_by (λ t u upto waits. waits_less m h x u t upto waits) 20
           (record { low = h.now; high = m.base.deadline }) t (record { low = first; high = bounded; upto = in_time }) (omega arith) e

@@ -18,8 +18,8 @@ use Rattle.cstn_history.specs.Read.{the_history, the_fact_refusal}
 use Rattle.cstn_next.specs.declared.moments.NextMoment.{NextMoment}
 use Rattle.cstn_next.specs.Next.{IsAllDone, TellsNext}
 use Rattle.cstn_check.specs.Givers.{is_of, but}
-use Rattle.cstn_follow.specs.Blame.{alone, blamed}
-use Rattle.cstn_follow.specs.Executions.{left_of}
+use Rattle.cstn_follow.specs.Blame.{network_alone, ids_to_blame}
+use Rattle.cstn_follow.specs.Executions.{execution_left}
 use Rattle.cstn_follow.specs.Sessions.{SessionParts, execution_of}
 use Rattle.cstn_follow.specs.Waiting.{HasRoomToWait, waits_until}
 use Rattle.cstn_follow.specs.declared.answers.Outlook.{Outlook}
@@ -53,7 +53,7 @@ SaidNo s = (load : ℕ) × (s.verdict ≡ IsNo load)
 
 -- what is told by the bounds of the plan of what is left
 abbrev pub TellsByPlan : SessionParts → Option NextMoment → Type 0
-TellsByPlan s o = TellsNext (the_labelled s.network) (the_history s.history) (live_bounds (log_of (lowered (left_of (execution_of s))))) o
+TellsByPlan s o = TellsNext (the_labelled s.network) (the_history s.history) (live_bounds (log_of (lowered (execution_left (execution_of s))))) o
 
 -- what is next is told after a yes, by the plan of what is left
 abbrev pub TellsOutlook : SessionParts → Outlook → Type 0
@@ -67,8 +67,8 @@ TellsOutlook s IsNotKnown = s.verdict ≡ IsFull
 -- this is the refutation that ends the log of what is left, lowered
 abbrev pub IsLeftRefuted : SessionParts → RefutationParts → Type 0
 IsLeftRefuted s r =
-    (s.verdict ≡ IsNo r.load) × (the_steps r ≡ part (log_of (lowered (left_of (execution_of s)))))
-    × All (λ e. e.bound.node.0 < count (left_of (execution_of s)).base) r.steps
+    (s.verdict ≡ IsNo r.load) × (the_steps r ≡ part (log_of (lowered (execution_left (execution_of s)))))
+    × All (λ e. e.bound.node.0 < count (execution_left (execution_of s)).base) r.steps
 
 -- ---- until when
 
@@ -99,24 +99,24 @@ abbrev pub HasRoomLeftToWait : SessionParts → Type 0
 HasRoomLeftToWait s = HasRoomToWait (the_labelled s.network) (the_history s.history) s.fresh
 
 -- the moment until which x can wait, by halving; none where a log that is tried is full
-abbrev pub wait_of : SessionParts → ℕ → Option ℕ
-wait_of s x = waits_until (the_labelled s.network) (the_history s.history) s.fresh x s.cap
+abbrev pub wait_found : SessionParts → ℕ → Option ℕ
+wait_found s x = waits_until (the_labelled s.network) (the_history s.history) s.fresh x s.cap
 
 -- until when is told after a yes, where there is room for one constraint more
 abbrev pub TellsLatest : SessionParts → NodeId → Latest → Type 0
-TellsLatest s x (Until t) = HasRoomLeftToWait s × SaidYes s × (wait_of s x.0 ≡ Some t)
+TellsLatest s x (Until t) = HasRoomLeftToWait s × SaidYes s × (wait_found s x.0 ≡ Some t)
 TellsLatest s x (Refused e) = Unit
 TellsLatest s x TooManyConstraints = HasRoomLeftToWait s → ⊥
 TellsLatest s x Impossible = HasRoomLeftToWait s × SaidNo s
-TellsLatest s x Unknown = HasRoomLeftToWait s × ((s.verdict ≡ IsFull) ⊎ (SaidYes s × (wait_of s x.0 ≡ None)))
+TellsLatest s x Unknown = HasRoomLeftToWait s × ((s.verdict ≡ IsFull) ⊎ (SaidYes s × (wait_found s x.0 ≡ None)))
 
 -- ---- which constraints
 
 -- the history can't go on, by the constraints of these ids alone it can't either, and without any one of them it can
 pub record AreToBlame (m : Labelled) (h : History) (ids : List ℕ) : Type 0 where
   pub stuck : Can m h → ⊥
-  pub cannot : Can (alone m (is_of ids)) h → ⊥
-  pub needed : (id : ℕ) → Contains ids id → Can (alone m (but id (is_of ids))) h
+  pub cannot : Can (network_alone m (is_of ids)) h → ⊥
+  pub needed : (id : ℕ) → Contains ids id → Can (network_alone m (but id (is_of ids))) h
   pub ascending : AllPairs (λ a b. a < b) ids
 
 -- the answer is right: these are to blame, or some table continues the history
@@ -127,7 +127,7 @@ IsRightBlame m h IsUnfound = Unit
 
 -- the ids that are found; none where a log that is tried is full
 abbrev pub blame_of : SessionParts → Option (List ℕ)
-blame_of s = blamed (the_labelled s.network) (the_history s.history) s.fresh s.cap
+blame_of s = ids_to_blame (the_labelled s.network) (the_history s.history) s.fresh s.cap
 
 -- which is told after a no
 abbrev pub TellsBlame : SessionParts → ToBlame → Type 0

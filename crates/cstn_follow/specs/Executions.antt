@@ -24,5 +24,5 @@ pub record IsExecution (e : ExecutionParts) : Type 0 where
   pub low : e.fresh ≤ 4294000000
 
 -- what is left
-abbrev pub left_of : ExecutionParts → Labelled
-left_of e = rest (the_labelled e.network) (the_history e.history) e.fresh
+abbrev pub execution_left : ExecutionParts → Labelled
+execution_left e = rest (the_labelled e.network) (the_history e.history) e.fresh

@@ -53,11 +53,11 @@ all_done m t h (x ∷ xs) = unless_refused (done_refusal m h t x.0) (all_done m 
 abbrev pub unknown_of : List (List ℕ) → List (List ℕ) → Option (List ℕ)
 unknown_of names given = find (λ name. is_none (number_of names name)) given
 
-abbrev pub node_of : ℕ → NodeId
-node_of n = record { 0 = n }
+abbrev pub node_numbered : ℕ → NodeId
+node_numbered n = record { 0 = n }
 
 abbrev pub node_named : List (List ℕ) → List ℕ → Option NodeId
-node_named names name = option_map node_of (number_of names name)
+node_named names name = option_map node_numbered (number_of names name)
 
 abbrev pub nodes_of : List (List ℕ) → List (List ℕ) → List NodeId
 nodes_of names given = filter_map (node_named names) given

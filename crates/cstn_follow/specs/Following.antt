@@ -1,14 +1,17 @@
 -- Following what happens: a labelled network is told facts and edits, and asked what is next.
-use Rattle.std.specs.Prelude.{ℕ, zero, suc, Bool, false, ◌&&◌, ◌||◌, nat_le, List, [], ◌++◌, length, map, slice_index_or, Option, None, Some, if◌then◌else◌, codes, decimal}
+use Rattle.std.specs.Prelude.{ℕ, zero, suc, ◌<◌, Bool, false, ◌&&◌, ◌||◌, nat_le, List, [], ◌++◌, length, map, slice_index_or, Option, None, Some}
+use Rattle.std.specs.Prelude.{if◌then◌else◌, codes, decimal}
 use Rattle.std.specs.Option.{is_some}
 use Rattle.cstn_net.specs.Limits.{most_constraints}
 use Rattle.cstn_net.specs.Networks.{Network, count}
 use Rattle.cstn_lift.specs.Labelled.{Labelled}
 use Rattle.cstn_lift.specs.Completion.{completed_label}
 use Rattle.cstn_lift.specs.Lowered.{lowered}
+use Rattle.cstn_check.specs.Growth.{load_of}
 use Rattle.cstn_check.specs.Decisions.{verdict}
 use Rattle.cstn_check.specs.declared.verdicts.Verdict.{Verdict}
 use Rattle.cstn_check.specs.declared.verdicts.Verdict.TheVariants.{Yes, No, Full as IsFull}
+use Rattle.cstn_history.specs.Continuations.{Can}
 use Rattle.cstn_history.specs.Histories.{History, nothing_yet, is_done, allows}
 use Rattle.cstn_history.specs.Rest.{left, rest, sight_left}
 use Rattle.cstn_change.specs.Changes.{id_above}
@@ -57,12 +60,19 @@ verdict_now s = verdict s.cap (lowered (left_now s))
 abbrev pub has_few : Network → Bool
 has_few net = nat_le (length net.constraints) most_constraints
 
-abbrev pub fits : Labelled → History → ℕ → Bool
-fits m h fresh = has_few (lowered m) && (has_few (rest m h fresh).base && has_few (lowered (rest m h fresh)))
+abbrev pub is_within_limits : Labelled → History → ℕ → Bool
+is_within_limits m h fresh = has_few (lowered m) && (has_few (rest m h fresh).base && has_few (lowered (rest m h fresh)))
 
 -- the verdict on what is left, where there are no more constraints than that
 abbrev pub verdict_left : Labelled → History → ℕ → ℕ → Option Verdict
-verdict_left m h fresh cap = if fits m h fresh then Some (verdict cap (lowered (rest m h fresh))) else None
+verdict_left m h fresh cap = if is_within_limits m h fresh then Some (verdict cap (lowered (rest m h fresh))) else None
+
+-- a verdict on what is left is right: some table continues what has happened, or none does, or the log of what is left, lowered, has
+-- more entries than it may
+abbrev pub IsRightVerdict : Labelled → History → ℕ → ℕ → Verdict → Type 0
+IsRightVerdict m h fresh cap (Yes load) = Can m h
+IsRightVerdict m h fresh cap (No load) = Can m h → ⊥
+IsRightVerdict m h fresh cap IsFull = cap < load_of (lowered (rest m h fresh))
 
 abbrev pub verdict_within : Following → Option Verdict
 verdict_within s = verdict_left s.network s.history s.fresh s.cap
@@ -84,12 +94,12 @@ abbrev pub too_many : List ℕ
 too_many = line (codes "refused F8")
 
 -- the session that follows, of which this is said by its verdict, if it has one
-abbrev pub on_verdict : Following → Following → (Verdict → List ℕ) → Option Verdict → Heard
-on_verdict s next text None = says too_many s
-on_verdict s next text (Some v) = says (text v) next
+abbrev pub on_left_verdict : Following → Following → (Verdict → List ℕ) → Option Verdict → Heard
+on_left_verdict s next text None = says too_many s
+on_left_verdict s next text (Some v) = says (text v) next
 
 abbrev pub follows : Following → Following → (Verdict → List ℕ) → Heard
-follows s next text = on_verdict s next text (verdict_within next)
+follows s next text = on_left_verdict s next text (verdict_within next)
 
 -- the time-point is left to be executed, or its outcome is left to be told
 abbrev pub is_open : Labelled → History → ℕ → Bool

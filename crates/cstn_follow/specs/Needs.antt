@@ -15,7 +15,7 @@ abbrev pub HasSources : List ℕ → List ℕ → List ℕ → Type 0
 HasSources sources found numbers = (k : ℕ) → k < length sources → is_of found (get_or sources k 0) ≡ false → is_of numbers k ≡ false
 
 -- a check says no of a network without any of those of its numbered constraints whose sources aren't needed
-abbrev pub Settles : ℕ → Network → List ℕ → List ℕ → Type 0
-Settles cap net sources needed =
+abbrev pub NeedsNoOther : ℕ → Network → List ℕ → List ℕ → Type 0
+NeedsNoOther cap net sources needed =
     (test : ℕ → Bool) → ((k : ℕ) → test k ≡ false → (k < length sources) × (is_of needed (get_or sources k 0) ≡ false)) →
     said cap (with_some net test) ≡ Some false

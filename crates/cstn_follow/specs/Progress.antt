@@ -45,14 +45,14 @@ pub record IsDoing (m : Labelled) (h later : History) : Type 0 where
   pub recorded : later ≡ with_done h moment node.0
 
 -- one step of somebody who does what is named when it is named and tells what is awaited before time passes it
-abbrev pub IsStep : Labelled → History → History → Type 0
-IsStep m h later = HasRoomLeft m h × (IsPassing m h later ⊎ (IsTelling m h later ⊎ IsDoing m h later))
+abbrev pub IsHistoryStep : Labelled → History → History → Type 0
+IsHistoryStep m h later = HasRoomLeft m h × (IsPassing m h later ⊎ (IsTelling m h later ⊎ IsDoing m h later))
 
 -- such steps, each from the history before, and the history after them
-abbrev pub AreSteps : Labelled → History → List History → Type 0
-AreSteps m h [] = Unit {0}
-AreSteps m h (later ∷ more) = IsStep m h later × AreSteps m later more
+abbrev pub AreHistorySteps : Labelled → History → List History → Type 0
+AreHistorySteps m h [] = Unit {0}
+AreHistorySteps m h (later ∷ more) = IsHistoryStep m h later × AreHistorySteps m later more
 
-abbrev pub after : History → List History → History
-after h [] = h
-after h (later ∷ more) = after later more
+abbrev pub history_after : History → List History → History
+history_after h [] = h
+history_after h (later ∷ more) = history_after later more

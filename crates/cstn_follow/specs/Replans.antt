@@ -23,18 +23,18 @@ abbrev pub with_due : EditedNetwork → ℕ → EditedNetwork
 with_due e deadline = record e { net = record e.net { deadline = deadline } }
 
 -- the labelled network of a session as edited so, in which time-points have the labels that they had
-abbrev pub replanned : SessionParts → EditedNetwork → Labelled
-replanned s e = record (the_labelled s.network) { base = e.net }
+abbrev pub labelled_replanned : SessionParts → EditedNetwork → Labelled
+labelled_replanned s e = record (the_labelled s.network) { base = e.net }
 
 -- the verdict on what is left then, where there are no more constraints than there may be
 abbrev pub verdict_replanned : SessionParts → EditedNetwork → Option Verdict
-verdict_replanned s e = verdict_left (replanned s e) (the_history s.history) e.fresh s.cap
+verdict_replanned s e = verdict_left (labelled_replanned s e) (the_history s.history) e.fresh s.cap
 
 -- What a call that edits the network makes of a session, where this is the network as edited then: it is that, with the verdict on
 -- what is left then; or nothing has changed, since there would be too many constraints, or memory is refused.
 abbrev pub Replans : EditedNetwork → SessionParts → SessionParts → Result Verdict RestError → Type 0
 Replans e old new (Ok v) =
-    (the_labelled new.network ≡ replanned old e)
+    (the_labelled new.network ≡ labelled_replanned old e)
     × (new ≡ record old { network = new.network; edits = e.edits; fresh = e.fresh; verdict = v })
     × (verdict_replanned old e ≡ Some v)
 Replans e old new (Err AreTooMany) = (verdict_replanned old e ≡ None) × (new ≡ old)

@@ -15,7 +15,7 @@ use Rattle.cstn_follow.specs.Following.{Following, Heard, left_now, name_at, ver
 use Rattle.cstn_follow.specs.FactLines.{unknown_name, refused_fact}
 use Rattle.cstn_follow.specs.Questions.{tells, tells_verdict}
 use Rattle.cstn_follow.specs.Waiting.{waits_until}
-use Rattle.cstn_follow.specs.Blame.{blamed}
+use Rattle.cstn_follow.specs.Blame.{ids_to_blame}
 
 -- F8: what is left, and its lowered network, have no room for one constraint more
 abbrev pub has_place : Network → Bool
@@ -32,12 +32,12 @@ by_refusal s x None =
 abbrev pub by_line : List (List ℕ) → ℕ → ℕ → List ℕ
 by_line names t x = line (codes "by " ++ decimal t ++ 32 ∷ printed_name (name_at names x))
 
-abbrev pub by_text : Following → ℕ → Option ℕ → List ℕ
-by_text s x (Some t) = by_line s.names t x
-by_text s x None = full_line s.cap
+abbrev pub until_text : Following → ℕ → Option ℕ → List ℕ
+until_text s x (Some t) = by_line s.names t x
+until_text s x None = full_line s.cap
 
 abbrev pub by_after : Following → ℕ → Verdict → Heard
-by_after s x (Yes load) = tells s (by_text s x (waits_until s.network s.history s.fresh x s.cap))
+by_after s x (Yes load) = tells s (until_text s x (waits_until s.network s.history s.fresh x s.cap))
 by_after s x (No load) = tells_verdict s
 by_after s x Full = tells_verdict s
 
@@ -57,13 +57,13 @@ on_by s name = by_number s name (number_of s.names name)
 abbrev pub ids_text : List ℕ → List ℕ
 ids_text ids = flat_map (λ id. 32 ∷ decimal id) ids
 
-abbrev pub blame_text : ℕ → Option (List ℕ) → List ℕ
-blame_text cap (Some ids) = line (codes "blame" ++ ids_text ids)
-blame_text cap None = full_line cap
+abbrev pub blame_line : ℕ → Option (List ℕ) → List ℕ
+blame_line cap (Some ids) = line (codes "blame" ++ ids_text ids)
+blame_line cap None = full_line cap
 
 abbrev pub blame_after : Following → Verdict → Heard
 blame_after s (Yes load) = tells_verdict s
-blame_after s (No load) = tells s (blame_text s.cap (blamed s.network s.history s.fresh s.cap))
+blame_after s (No load) = tells s (blame_line s.cap (ids_to_blame s.network s.history s.fresh s.cap))
 blame_after s Full = tells_verdict s
 
 -- `blame`: which constraints are to blame

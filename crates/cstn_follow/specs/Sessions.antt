@@ -1,20 +1,17 @@
 -- Sessions that follow what happens: what contracts see of one, and what its calls make of it.
-use Rattle.std.specs.Prelude.{ℕ, ◌≡◌, ◌<◌, ◌≤◌, ◌+◌, ◌^◌, None, Some, Result, Ok, Err}
+use Rattle.std.specs.Prelude.{ℕ, ◌≡◌, ◌≤◌, ◌+◌, ◌^◌, None, Some, Result, Ok, Err}
 use Rattle.cstn_net.specs.Limits.{most_edits}
 use Rattle.cstn_lift.specs.Lowered.{lowered}
 use Rattle.cstn_lift.specs.Read.{LabelledParts, the_labelled}
-use Rattle.cstn_check.specs.Growth.{load_of}
 use Rattle.cstn_check.specs.declared.verdicts.Verdict.{Verdict}
-use Rattle.cstn_check.specs.declared.verdicts.Verdict.TheVariants.{Yes, No, Full}
 use Rattle.cstn_history.specs.declared.errors.RestError.{RestError}
 use Rattle.cstn_history.specs.declared.errors.RestError.TheVariants.{TooManyConstraints as IsTooMany, Memory as IsMemory}
-use Rattle.cstn_history.specs.Continuations.{Can}
 use Rattle.cstn_history.specs.Facts.{FactRefusal}
 use Rattle.cstn_history.specs.Histories.{History}
 use Rattle.cstn_history.specs.Read.{HistoryParts, the_history, the_fact_refusal}
-use Rattle.cstn_follow.specs.Executions.{ExecutionParts, IsExecution, left_of}
+use Rattle.cstn_follow.specs.Executions.{ExecutionParts, IsExecution, execution_left}
 use Rattle.cstn_follow.specs.Findings.{verdict_of, IsFindingOn}
-use Rattle.cstn_follow.specs.Following.{verdict_left}
+use Rattle.cstn_follow.specs.Following.{verdict_left, IsRightVerdict}
 use Rattle.cstn_follow.specs.declared.errors.FollowError.{FollowError}
 use Rattle.cstn_follow.specs.declared.errors.FollowError.TheVariants.{Refused, TooManyConstraints, Memory}
 use Rattle.cstn_follow.specs.declared.findings.Finding.{Finding}
@@ -34,8 +31,8 @@ abbrev pub execution_of : SessionParts → ExecutionParts
 execution_of s = record { network = s.network; history = s.history; fresh = s.fresh }
 
 -- the parts of what is carried out, with how many entries a log may have, how many edits were accepted, and what was found
-abbrev pub followed : ExecutionParts → ℕ → ℕ → Finding → SessionParts
-followed e cap edits finding = record {
+abbrev pub session_parts : ExecutionParts → ℕ → ℕ → Finding → SessionParts
+session_parts e cap edits finding = record {
   network = e.network;
   history = e.history;
   cap = cap;
@@ -49,7 +46,7 @@ pub record IsFollowed (e : ExecutionParts) (cap edits : ℕ) (finding : Finding)
   pub execution : IsExecution e
   pub few_edits : edits ≤ most_edits
   pub low : e.fresh ≤ 2 ^ 31 + edits
-  pub found : IsFindingOn cap (lowered (left_of e)) finding
+  pub found : IsFindingOn cap (lowered (execution_left e)) finding
   pub verdict : verdict_left (the_labelled e.network) (the_history e.history) e.fresh cap ≡ Some (verdict_of finding)
 
 -- what is true of each session
@@ -59,11 +56,9 @@ pub record IsSession (s : SessionParts) : Type 0 where
   pub low : s.fresh ≤ 2 ^ 31 + s.edits
   pub verdict : verdict_left (the_labelled s.network) (the_history s.history) s.fresh s.cap ≡ Some s.verdict
 
--- a verdict is right: some table continues what has happened, or none does, or the log of what is left has more entries than it may
-abbrev pub IsRightVerdict : SessionParts → Verdict → Type 0
-IsRightVerdict s (Yes load) = Can (the_labelled s.network) (the_history s.history)
-IsRightVerdict s (No load) = Can (the_labelled s.network) (the_history s.history) → ⊥
-IsRightVerdict s Full = s.cap < load_of (lowered (left_of (execution_of s)))
+-- a verdict is true of what has happened in a session
+abbrev pub IsRightNow : SessionParts → Verdict → Type 0
+IsRightNow s v = IsRightVerdict (the_labelled s.network) (the_history s.history) s.fresh s.cap v
 
 -- What a call that is told facts makes of a session, where these are what has happened then, or why they are refused: they are
 -- recorded, with the verdict on what is left then; or nothing has changed, since they are refused, or too many constraints would

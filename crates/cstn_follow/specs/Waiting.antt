@@ -40,12 +40,12 @@ abbrev pub said_until : Labelled → ℕ → ℕ → ℕ → ℕ → Option Bool
 said_until m fresh k cap t = said cap (lowered (with_constraint m (waiting_one fresh k t)))
 
 -- what is said of what is left with x at t or later
-abbrev pub tried : Labelled → History → ℕ → ℕ → ℕ → ℕ → Option Bool
-tried m h fresh x cap t = said_until (rest m h fresh) fresh (number_of m h x) cap t
+abbrev pub tried_until : Labelled → History → ℕ → ℕ → ℕ → ℕ → Option Bool
+tried_until m h fresh x cap t = said_until (rest m h fresh) fresh (number_of m h x) cap t
 
 -- until when x can wait, from now up to the deadline, by at most 20 tries; none where a log that was tried is full
 abbrev pub waits_until : Labelled → History → ℕ → ℕ → ℕ → Option ℕ
-waits_until m h fresh x cap = halving (tried m h fresh x cap) 20 (record { low = h.now; high = m.base.deadline })
+waits_until m h fresh x cap = halving (tried_until m h fresh x cap) 20 (record { low = h.now; high = m.base.deadline })
 
 -- the number of a refusal, and 0 for want of memory
 abbrev pub wait_number : WaitError → ℕ

@@ -9,7 +9,7 @@ ghost use Rattle.cstn_history.specs.Continuations.{Can};
 ghost use Rattle.cstn_history.specs.Rest.{rest};
 ghost use Rattle.cstn_history.specs.Read.{the_history, IsKeptFor};
 ghost use Rattle.cstn_history.specs.Handed.{HasRoom};
-ghost use Rattle.cstn_follow.specs.Blame.{TakesTries, alone, said_by, blamed};
+ghost use Rattle.cstn_follow.specs.Blame.{TakesTries, network_alone, said_by_network, ids_to_blame};
 
 use crate::errors::BlameError;
 use crate::laws::{blame_is_found, parts_are_labelled};
@@ -41,14 +41,14 @@ pub fn blame(
     requires cannot { Can (the_labelled network.now) (the_history history.now) → ⊥ }
 
     // By these constraints alone the history can't go on, and without any one of them it can.
-    ensures cannot { IfOk result (λ ids. Can (alone (the_labelled network.now) (is_of ids.items)) (the_history history.now) → ⊥) }
+    ensures cannot { IfOk result (λ ids. Can (network_alone (the_labelled network.now) (is_of ids.items)) (the_history history.now) → ⊥) }
     ensures needed { IfOk result (λ ids. (id : ℕ) → Contains ids.items id
-        → Can (alone (the_labelled network.now) (but id (is_of ids.items))) (the_history history.now)) }
+        → Can (network_alone (the_labelled network.now) (but id (is_of ids.items))) (the_history history.now)) }
     ensures ascending { IfOk result (λ ids. AllPairs (λ a b. a < b) ids.items) }
 
     // Unless memory is refused, it is refused exactly where a log that is tried is full.
-    ensures blamed { IfOk result (λ ids. blamed (the_labelled network.now) (the_history history.now) fresh cap.entries ≡ Some ids.items) }
-    ensures full { IsErrOf result BlameError.Full → blamed (the_labelled network.now) (the_history history.now) fresh cap.entries ≡ None }
+    ensures blamed { IfOk result (λ ids. ids_to_blame (the_labelled network.now) (the_history history.now) fresh cap.entries ≡ Some ids.items) }
+    ensures full { IsErrOf result BlameError.Full → ids_to_blame (the_labelled network.now) (the_history history.now) fresh cap.entries ≡ None }
 {
     blame_is_found();
     network.base();
@@ -68,7 +68,7 @@ fn blamed(
     cap: Cap,
 ) -> Result<Option<Vec<u32>>, AllocError>
     requires tries { TakesTries (the_labelled network.now) history.now fresh }
-    ensures { IfOk result (λ o. option_map (λ ids. ids.items) o ≡ blamed (the_labelled network.now) (the_history history.now) fresh cap.entries) }
+    ensures { IfOk result (λ o. option_map (λ ids. ids.items) o ≡ ids_to_blame (the_labelled network.now) (the_history history.now) fresh cap.entries) }
 {
     let blaming = Blaming {
         network,
@@ -98,7 +98,7 @@ struct Blaming<'a> {
 impl<'a> Trial for Blaming<'a> {
     ghost may = { λ b net. TakesTries (the_labelled b.network.now) b.history.now b.fresh × IsPart (the_labelled b.network.now).base net };
 
-    ghost says = { λ b. said_by (the_labelled b.network.now) (the_history b.history.now) b.fresh b.cap.entries };
+    ghost says = { λ b. said_by_network (the_labelled b.network.now) (the_history b.history.now) b.fresh b.cap.entries };
 
     fn find(&self, alloc: Global, net: Network) -> Result<Finding, AllocError> {
         said_by(alloc, self.network, self.history, self.fresh, net, self.cap)
@@ -116,8 +116,8 @@ fn said_by(
 ) -> Result<Finding, AllocError>
     requires tries { TakesTries (the_labelled network.now) history.now fresh }
     requires part { IsPart (the_labelled network.now).base (the_network base) }
-    ensures said { IfOk result (λ o. answer o ≡ said_by (the_labelled network.now) (the_history history.now) fresh cap.entries (the_network base)) }
-    ensures stands { IfOk result (λ o. IfNo o (Stands (said_by (the_labelled network.now) (the_history history.now) fresh cap.entries) (the_network base))) }
+    ensures said { IfOk result (λ o. answer o ≡ said_by_network (the_labelled network.now) (the_history history.now) fresh cap.entries (the_network base)) }
+    ensures stands { IfOk result (λ o. IfNo o (Stands (said_by_network (the_labelled network.now) (the_history history.now) fresh cap.entries) (the_network base))) }
 {
     parts_are_labelled();
     edits_keep_histories();

@@ -1,5 +1,5 @@
 // Labelled networks that are carried out.
-ghost use Rattle.std.specs.Prelude.{ℕ, ◌≡◌, ◌<◌, ◌≤◌, ◌^◌, None, Some, List, IsTrue, IfOk, IfErr, IsOk, IsErrOf};
+ghost use Rattle.std.specs.Prelude.{ℕ, ◌≡◌, ◌<◌, ◌≤◌, ◌^◌, None, Some, IsTrue, IfOk, IfErr, IsOk, IsErrOf};
 ghost use Rattle.std.specs.List.{All, AllPairs, Contains};
 ghost use Rattle.cstn_net.specs.Networks.{count};
 ghost use Rattle.cstn_lift.specs.Lowered.{lowered};
@@ -11,8 +11,8 @@ ghost use Rattle.cstn_history.specs.Read.{the_history, IsKeptFor};
 ghost use Rattle.cstn_history.specs.Rest.{is_left, rest};
 ghost use Rattle.cstn_change.specs.Changes.{id_above};
 ghost use Rattle.cstn_check.specs.Givers.{but, is_of};
-ghost use Rattle.cstn_follow.specs.Blame.{alone, blamed};
-ghost use Rattle.cstn_follow.specs.Executions.{IsExecution, left_of};
+ghost use Rattle.cstn_follow.specs.Blame.{network_alone, ids_to_blame};
+ghost use Rattle.cstn_follow.specs.Executions.{IsExecution, execution_left};
 ghost use Rattle.cstn_follow.specs.Findings.{verdict_of, IsFindingOn};
 ghost use Rattle.cstn_follow.specs.Following.{verdict_left};
 ghost use Rattle.cstn_follow.specs.Waiting.{HasRoomToWait, waits_until};
@@ -91,15 +91,15 @@ impl Execution {
 
     /// What is left. Refused where there are too many constraints.
     pub fn rest(&self, alloc: Global) -> Result<Labelled, RestError>
-        ensures rest { IfOk result (λ l. the_labelled l ≡ left_of self.now) }
-        ensures refused { IfErr result (IsRestRefusal (left_of self.now)) }
+        ensures rest { IfOk result (λ l. the_labelled l ≡ execution_left self.now) }
+        ensures refused { IfErr result (IsRestRefusal (execution_left self.now)) }
     {
         rest(alloc, &self.network, &self.history, self.fresh)
     }
 
     /// What a check finds of what is left. Refused where there are too many constraints.
     pub fn finding(&self, alloc: Global, cap: Cap) -> Result<Finding, RestError>
-        ensures finding { IfOk result (IsFindingOn cap.entries (lowered (left_of self.now))) }
+        ensures finding { IfOk result (IsFindingOn cap.entries (lowered (execution_left self.now))) }
         ensures verdict { IfOk result (λ f. verdict_left (the_labelled self.now.network) (the_history self.now.history) self.now.fresh cap.entries
             ≡ Some (verdict_of f)) }
         ensures many { IsErrOf result RestError.TooManyConstraints
@@ -116,7 +116,7 @@ impl Execution {
         cap: Cap,
     ) -> Result<Finding, RestError>
         requires kept { IsKeptFor (the_labelled self.now.network) later.now }
-        ensures finding { IfOk result (IsFindingOn cap.entries (lowered (left_of (record self.now { history = later.now })))) }
+        ensures finding { IfOk result (IsFindingOn cap.entries (lowered (execution_left (record self.now { history = later.now })))) }
         ensures verdict { IfOk result (λ f. verdict_left (the_labelled self.now.network) (the_history later.now) self.now.fresh cap.entries
             ≡ Some (verdict_of f)) }
         ensures many { IsErrOf result RestError.TooManyConstraints
@@ -188,16 +188,16 @@ impl Execution {
 
     /// The ids of the constraints that are to blame where what has happened can't go on.
     pub fn blame(&self, alloc: Global, cap: Cap) -> Result<Vec<u32>, BlameError>
-        requires room { HasRoom (left_of self.now) }
+        requires room { HasRoom (execution_left self.now) }
         requires cannot { Can (the_labelled self.now.network) (the_history self.now.history) → ⊥ }
-        ensures cannot { IfOk result (λ ids. Can (alone (the_labelled self.now.network) (is_of ids.items)) (the_history self.now.history) → ⊥) }
+        ensures cannot { IfOk result (λ ids. Can (network_alone (the_labelled self.now.network) (is_of ids.items)) (the_history self.now.history) → ⊥) }
         ensures needed { IfOk result (λ ids. (id : ℕ) → Contains ids.items id
-            → Can (alone (the_labelled self.now.network) (but id (is_of ids.items))) (the_history self.now.history)) }
+            → Can (network_alone (the_labelled self.now.network) (but id (is_of ids.items))) (the_history self.now.history)) }
         ensures ascending { IfOk result (λ ids. AllPairs (λ a b. a < b) ids.items) }
-        ensures blamed { IfOk result (λ ids. blamed (the_labelled self.now.network) (the_history self.now.history) self.now.fresh cap.entries
+        ensures blamed { IfOk result (λ ids. ids_to_blame (the_labelled self.now.network) (the_history self.now.history) self.now.fresh cap.entries
             ≡ Some ids.items) }
         ensures full { IsErrOf result BlameError.Full
-            → blamed (the_labelled self.now.network) (the_history self.now.history) self.now.fresh cap.entries ≡ None }
+            → ids_to_blame (the_labelled self.now.network) (the_history self.now.history) self.now.fresh cap.entries ≡ None }
     {
         blame(alloc, &self.network, &self.history, self.fresh, cap)
     }

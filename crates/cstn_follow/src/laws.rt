@@ -14,8 +14,8 @@ ghost use Rattle.cstn_history.specs.Rest.{is_left, number_of, rest, with_constra
 ghost use Rattle.cstn_history.specs.Facts.{done_refusal, with_done};
 ghost use Rattle.cstn_history.specs.Handed.{HasRoom};
 ghost use Rattle.cstn_check.specs.Givers.{is_of, but};
-ghost use Rattle.cstn_follow.specs.Blame.{alone, blamed};
-ghost use Rattle.cstn_follow.specs.Progress.{HasRoomLeft, IsQuietUpto, IsStep, AreSteps, after};
+ghost use Rattle.cstn_follow.specs.Blame.{network_alone, ids_to_blame};
+ghost use Rattle.cstn_follow.specs.Progress.{HasRoomLeft, IsQuietUpto, IsHistoryStep, AreHistorySteps, history_after};
 ghost use Rattle.cstn_follow.specs.Waiting.{HasRoomToWait, waiting_one, waits_until};
 
 /// Whoever does what is named when it is named, and tells what is awaited before time passes it, can go on: after such a step, and
@@ -24,10 +24,10 @@ ghost use Rattle.cstn_follow.specs.Waiting.{HasRoomToWait, waiting_one, waits_un
 pub fn next_keeps_going()
     ensures least { (m : Labelled) (h : History) → IsLabelled m → IsTimelyHistory m h → HasRoomLeft m h → Can m h
         → (table : Table) × Continues m h table × IsLeastTable m h table }
-    ensures step { (m : Labelled) (h later : History) → IsLabelled m → IsTimelyHistory m h → Can m h → IsStep m h later
+    ensures step { (m : Labelled) (h later : History) → IsLabelled m → IsTimelyHistory m h → Can m h → IsHistoryStep m h later
         → IsTimelyHistory m later × Can m later }
-    ensures steps { (m : Labelled) (h : History) (steps : List History) → IsLabelled m → IsTimelyHistory m h → Can m h → AreSteps m h steps
-        → IsTimelyHistory m (after h steps) × Can m (after h steps) }
+    ensures steps { (m : Labelled) (h : History) (steps : List History) → IsLabelled m → IsTimelyHistory m h → Can m h → AreHistorySteps m h steps
+        → IsTimelyHistory m (history_after h steps) × Can m (history_after h steps) }
     ensures accepted { (m : Labelled) (h : History) (t : ℕ) (x : NodeId) → IsLabelled m → IsTimelyHistory m h → IsNamed m h t x.0
         → done_refusal m h t x.0 ≡ None }
     ensures named { (m : Labelled) (h : History) (t y : ℕ) (x : NodeId) → IsLabelled m → IsTimelyHistory m h → HasRoomLeft m h → Can m h
@@ -56,24 +56,24 @@ pub fn waiting_is_found()
 /// A labelled network with some of its constraints is one, whose lowered network has no more constraints; and what is left of it
 /// has no more than what was left of the whole.
 pub fn parts_are_labelled()
-    ensures labelled { (m : Labelled) (test : ℕ → Bool) → IsLabelled m → IsLabelled (alone m test) }
+    ensures labelled { (m : Labelled) (test : ℕ → Bool) → IsLabelled m → IsLabelled (network_alone m test) }
     ensures short { (m : Labelled) (test : ℕ → Bool) → IsLabelled m
-        → length (lowered (alone m test)).constraints ≤ length (lowered m).constraints }
+        → length (lowered (network_alone m test)).constraints ≤ length (lowered m).constraints }
     ensures above { (m : Labelled) (test : ℕ → Bool) (fresh : ℕ) → All (λ c. c.id < fresh) m.base.constraints
-        → All (λ c. c.id < fresh) (alone m test).base.constraints }
+        → All (λ c. c.id < fresh) (network_alone m test).base.constraints }
     ensures room { (m : Labelled) (test : ℕ → Bool) (h : History) (fresh : ℕ) → IsLabelled m → HasRoom (rest m h fresh)
-        → HasRoom (rest (alone m test) h fresh) }
+        → HasRoom (rest (network_alone m test) h fresh) }
 {}
 
 /// Which constraints are to blame, where a history can't go on, is found by leaving out each in ascending order of their ids without
 /// which it can't go on either: by those that are found it can't go on, and without any one of them it can.
 pub fn blame_is_found()
     ensures cannot { (m : Labelled) (h : History) (fresh cap : ℕ) (ids : List ℕ) → IsLabelled m → IsTimelyHistory m h
-        → All (λ c. c.id < fresh) m.base.constraints → HasRoom (rest m h fresh) → (Can m h → ⊥) → blamed m h fresh cap ≡ Some ids
-        → Can (alone m (is_of ids)) h → ⊥ }
+        → All (λ c. c.id < fresh) m.base.constraints → HasRoom (rest m h fresh) → (Can m h → ⊥) → ids_to_blame m h fresh cap ≡ Some ids
+        → Can (network_alone m (is_of ids)) h → ⊥ }
     ensures needed { (m : Labelled) (h : History) (fresh cap id : ℕ) (ids : List ℕ) → IsLabelled m → IsTimelyHistory m h
-        → All (λ c. c.id < fresh) m.base.constraints → HasRoom (rest m h fresh) → blamed m h fresh cap ≡ Some ids
-        → Contains ids id → Can (alone m (but id (is_of ids))) h }
-    ensures ascending { (m : Labelled) (h : History) (fresh cap : ℕ) (ids : List ℕ) → IsLabelled m → blamed m h fresh cap ≡ Some ids
+        → All (λ c. c.id < fresh) m.base.constraints → HasRoom (rest m h fresh) → ids_to_blame m h fresh cap ≡ Some ids
+        → Contains ids id → Can (network_alone m (but id (is_of ids))) h }
+    ensures ascending { (m : Labelled) (h : History) (fresh cap : ℕ) (ids : List ℕ) → IsLabelled m → ids_to_blame m h fresh cap ≡ Some ids
         → AllPairs (λ a b. a < b) ids }
 {}

@@ -7,7 +7,7 @@ ghost use Rattle.cstn_lift.specs.Completion.{full_label};
 ghost use Rattle.cstn_lift.specs.Kept.{IsConstraintOf};
 ghost use Rattle.cstn_lift.specs.Lowered.{is_plain};
 ghost use Rattle.cstn_lift.specs.Read.{the_labelled};
-ghost use Rattle.cstn_follow.specs.Needs.{sources, HasSources, Settles};
+ghost use Rattle.cstn_follow.specs.Needs.{sources, HasSources, NeedsNoOther};
 
 use cstn_check::{Finding, find};
 use cstn_history::completed;
@@ -25,7 +25,7 @@ pub(crate) fn find_by_sources(
     cap: Cap,
 ) -> Result<Finding, AllocError>
     ensures said { IfOk result (λ o. answer o ≡ said cap.entries (the_network net)) }
-    ensures needed { IfOk result (λ o. IfNo o (Settles cap.entries (the_network net) sources.now)) }
+    ensures needed { IfOk result (λ o. IfNo o (NeedsNoOther cap.entries (the_network net) sources.now)) }
 {
     match find(alloc, net, cap)? {
         Finding::Full => Ok(Finding::Full),

@@ -1,5 +1,5 @@
 // Sessions that follow what happens.
-ghost use Rattle.std.specs.Prelude.{◌≡◌, ◌<◌, ◌≤◌, ◌^◌, ◌||◌, IfOk};
+ghost use Rattle.std.specs.Prelude.{◌≡◌, ◌<◌, ◌^◌, ◌||◌, IfOk};
 ghost use Rattle.std.specs.List.{All};
 ghost use Rattle.std.specs.Option.{is_some};
 ghost use Rattle.cstn_net.specs.Networks.{count};
@@ -10,7 +10,7 @@ ghost use Rattle.cstn_history.specs.Read.{the_history};
 ghost use Rattle.cstn_history.specs.Rest.{sight_left};
 ghost use Rattle.cstn_change.specs.Changes.{id_above};
 ghost use Rattle.cstn_follow.specs.Following.{any_below, is_open};
-ghost use Rattle.cstn_follow.specs.Sessions.{IsSession, IsRightVerdict};
+ghost use Rattle.cstn_follow.specs.Sessions.{IsSession, IsRightNow};
 
 mod edits;
 mod facts;
@@ -38,11 +38,11 @@ pub struct Session {
 }
 
 impl Model for Session {
-    ghost use Rattle.cstn_follow.specs.Sessions.{SessionParts, IsFollowed, followed};
+    ghost use Rattle.cstn_follow.specs.Sessions.{SessionParts, IsFollowed, session_parts};
 
     ghost Value = { SessionParts };
 
-    ghost view = { λ f. followed f.execution f.cap.entries f.edits f.finding };
+    ghost view = { λ f. session_parts f.execution f.cap.entries f.edits f.finding };
 
     ghost invariant = { λ f. IsFollowed f.execution f.cap.entries f.edits f.finding };
 }
@@ -77,7 +77,7 @@ impl Session {
     /// of what is left has more entries than it may.
     pub fn verdict(&self) -> Verdict
         ensures verdict { result ≡ self.now.verdict }
-        ensures right { IsRightVerdict self.now result }
+        ensures right { IsRightNow self.now result }
         ensures session { IsSession self.now }
     {
         self.finding.verdict()

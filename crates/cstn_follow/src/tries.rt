@@ -1,6 +1,5 @@
 // What a check says of what would be left.
-ghost use Rattle.std.specs.Prelude.{◌≡◌, ◌≤◌, length, map, IfOk};
-ghost use Rattle.cstn_label.specs.Read.{marks};
+ghost use Rattle.std.specs.Prelude.{◌≡◌, ◌≤◌, length, IfOk};
 ghost use Rattle.cstn_net.specs.Limits.{most_constraints};
 ghost use Rattle.cstn_net.specs.Read.{the_network};
 ghost use Rattle.cstn_lift.specs.Lowered.{lowered};
@@ -9,8 +8,8 @@ ghost use Rattle.cstn_lift.specs.WellFormed.{IsLabelled};
 ghost use Rattle.cstn_check.specs.Needs.{said};
 ghost use Rattle.cstn_follow.specs.Tries.{with_base};
 
+use cstn_change::labels_of;
 use cstn_check::{Check, Verdict, growth_decides};
-use cstn_label::{Label, NodeId};
 use cstn_lift::{Labelled, LiftError, labelled_networks_have_no_fault, lift};
 use cstn_log::Cap;
 use cstn_net::{Network, network_is_well_formed};
@@ -47,15 +46,4 @@ pub(crate) fn with_base(
         Err(LiftError::Memory(e)) => Err(e),
         Err(_) => unreachable!(),
     }
-}
-
-/// The labels of the time-points. Fails for want of memory alone.
-pub(crate) fn labels_of(alloc: Global, network: &Labelled) -> Result<Vec<Label>, AllocError>
-    ensures { IfOk result (λ v. map marks v.items ≡ (the_labelled network.now).labels) }
-{
-    let mut labels = Vec::new(alloc);
-    for x in 0..network.base().count() {
-        labels.push(network.label(NodeId(x)))?;
-    }
-    Ok(labels)
 }

@@ -7,7 +7,7 @@ ghost use Rattle.cstn_net.specs.Read.{the_network, the_constraint};
 ghost use Rattle.cstn_lift.specs.Lowered.{lowered};
 ghost use Rattle.cstn_lift.specs.Read.{the_labelled};
 ghost use Rattle.cstn_history.specs.Continuations.{Can, CanWait};
-ghost use Rattle.cstn_history.specs.Rest.{is_left, rest, with_constraint};
+ghost use Rattle.cstn_history.specs.Rest.{is_left, rest};
 ghost use Rattle.cstn_history.specs.Read.{the_history, IsKeptFor};
 ghost use Rattle.cstn_history.specs.Handed.{rest_number};
 ghost use Rattle.cstn_follow.specs.Waiting.{HasRoomToWait, TakesWaiting, waiting_one, said_until, waits_until, wait_number};

@@ -1,5 +1,6 @@
 -- With a larger cap the same is said, but where a log had more entries than the smaller one.
-use Rattle.std.proofs.Common.{ℕ, zero, suc, ◌≡◌, ◌+◌, ◌-◌, ◌≤◌, Bool, true, false, List, [], ◌∷◌, ◌++◌, Option, Some, None, arith, refl, sym, subst, ap, ◌∙◌, inl, inr}
+use Rattle.std.proofs.Common.{ℕ, zero, suc, ◌≡◌, ◌+◌, ◌-◌, ◌≤◌, Bool, true, false, List, [], ◌∷◌, ◌++◌, Option, Some, None, arith, refl, sym, subst, ap, ◌∙◌}
+use Rattle.std.proofs.Common.{inl, inr}
 use Rattle.std.specs.Prelude.{◌⊎◌, Result, Ok, Err, nat_lt, if◌then◌else◌, option_and_then, codes, decimal}
 use Rattle.std.specs.Option.{option_map}
 use Rattle.std.proofs.lemmas.Option.{same_Some}
@@ -26,17 +27,17 @@ use Rattle.cstn_save.specs.Canonical.{canonical}
 use Rattle.cstn_change.specs.Changes.{EditedNetwork, Change, removes, revalues, Refusal, refusal, after}
 use Rattle.cstn_change.specs.ChangeLines.{addition, accepted_text}
 use Rattle.cstn_follow.specs.Replans.{with_due}
-use Rattle.cstn_follow.specs.Following.{Following, Heard, says, saves, left_now, verdict_now, fits, on_verdict, follows, verdict_line}
+use Rattle.cstn_follow.specs.Following.{Following, Heard, says, saves, left_now, verdict_now, is_within_limits, on_left_verdict, follows, verdict_line}
 use Rattle.cstn_follow.specs.FactLines.{on_result, records, refuses, all_done, on_known, on_did, nodes_of, unknown_of, unless_refused, on_fact}
 use Rattle.cstn_follow.specs.PlanLines.{edited_network, replanned, on_refusal, on_edit, on_deadline}
 use Rattle.cstn_follow.specs.Questions.{next_after, check_after}
-use Rattle.cstn_follow.specs.Searches.{by_number, by_unless, by_after, by_text, by_refusal, blame_text, blame_after}
+use Rattle.cstn_follow.specs.Searches.{by_number, by_unless, by_after, until_text, by_refusal, blame_line, blame_after}
 use Rattle.cstn_check.specs.Givers.{ids_of, without}
 use Rattle.cstn_check.specs.Needs.{said}
 use Rattle.cstn_check.specs.Search.{narrowed, left_by, middle, halved, halving}
 use Rattle.cstn_follow.specs.Tries.{with_base}
-use Rattle.cstn_follow.specs.Waiting.{rest_until, tried, waits_until}
-use Rattle.cstn_follow.specs.Blame.{said_by, blamed}
+use Rattle.cstn_follow.specs.Waiting.{rest_until, tried_until, waits_until}
+use Rattle.cstn_follow.specs.Blame.{said_by_network, ids_to_blame}
 use Rattle.cstn_follow.specs.Hearing.{counted, on_plan, on_other, on_line, hear}
 use Rattle.cstn_follow.specs.Turns.{heard_by}
 use Rattle.cstn_follow.proofs.States.{IsSound, next_sound}
@@ -166,7 +167,7 @@ module _ (s : Following) (larger : ℕ) (upto : s.cap ≤ larger) where
       → ((v : Verdict) → (other v ≡ text v) ⊎ (text v ≡ full_line s.cap)) → (text Full ≡ full_line s.cap) ⊎ ((v w : Verdict) → other v ≡ text w)
       → Alike (follows s (record s { network = m; history = h; edits = e; fresh = f }) text)
       (follows Other (record Other { network = m; history = h; edits = e; fresh = f }) other)
-  follows_alike m h e f text other same full = by_fits (fits m h f) (verdict_alike s.cap larger upto (lowered (rest m h f))) full
+  follows_alike m h e f text other same full = by_fits (is_within_limits m h f) (verdict_alike s.cap larger upto (lowered (rest m h f))) full
     where
       texts : ((one m h f) ≡ Full) ⊎ ((two m h f) ≡ (one m h f)) → (text Full ≡ full_line s.cap) ⊎ ((v w : Verdict) → other v ≡ text w)
           → (other (two m h f) ≡ text (one m h f)) ⊎ (text (one m h f) ≡ full_line s.cap)
@@ -175,8 +176,8 @@ module _ (s : Following) (larger : ℕ) (upto : s.cap ≤ larger) where
       texts (inr is) says_full = subst (λ v. (other v ≡ text (one m h f)) ⊎ (text (one m h f) ≡ full_line s.cap)) (sym is) (same (one m h f))
 
       by_fits : (b : Bool) → ((one m h f) ≡ Full) ⊎ ((two m h f) ≡ (one m h f)) → (text Full ≡ full_line s.cap) ⊎ ((v w : Verdict) → other v ≡ text w)
-          → Alike (on_verdict s (record s { network = m; history = h; edits = e; fresh = f }) text (if b then Some (one m h f) else None))
-          (on_verdict Other (record Other { network = m; history = h; edits = e; fresh = f }) other (if b then Some (two m h f) else None))
+          → Alike (on_left_verdict s (record s { network = m; history = h; edits = e; fresh = f }) text (if b then Some (one m h f) else None))
+          (on_left_verdict Other (record Other { network = m; history = h; edits = e; fresh = f }) other (if b then Some (two m h f) else None))
       by_fits true alike says_full = (refl, texts alike says_full)
       by_fits false alike says_full = (refl, inl refl)
 
@@ -268,21 +269,21 @@ module _ (s : Following) (larger : ℕ) (upto : s.cap ≤ larger) where
   full_blame (No load) is = (refl, inr (verdict_told is))
   full_blame Full is = (refl, inr (verdict_told is))
 
-  blamed_alike : (one two : Option (List ℕ)) → SameIfSome one two → (blame_text larger two ≡ blame_text s.cap one) ⊎ (blame_text s.cap one ≡ full_line s.cap)
-  blamed_alike one two (inl none) = inr (ap (blame_text s.cap) none)
+  blamed_alike : (one two : Option (List ℕ)) → SameIfSome one two → (blame_line larger two ≡ blame_line s.cap one) ⊎ (blame_line s.cap one ≡ full_line s.cap)
+  blamed_alike one two (inl none) = inr (ap (blame_line s.cap) none)
   blamed_alike None two (inr same) = inr refl
-  blamed_alike (Some ids) two (inr same) = inl (ap (blame_text larger) same)
+  blamed_alike (Some ids) two (inr same) = inl (ap (blame_line larger) same)
 
   blame_alike : Alike (blame_after s (verdict_now s)) (blame_after Other (verdict_now Other))
   blame_alike = by_verdicts blame_after (λ load. (refl, now_told)) (λ load. (refl, found)) full_blame
     where
-      found : (blame_text larger (blamed s.network s.history s.fresh larger) ≡ blame_text s.cap (blamed s.network s.history s.fresh s.cap))
-          ⊎ (blame_text s.cap (blamed s.network s.history s.fresh s.cap) ≡ full_line s.cap)
+      found : (blame_line larger (ids_to_blame s.network s.history s.fresh larger) ≡ blame_line s.cap (ids_to_blame s.network s.history s.fresh s.cap))
+          ⊎ (blame_line s.cap (ids_to_blame s.network s.history s.fresh s.cap) ≡ full_line s.cap)
       found =
           let ids = ids_of s.network.base in
-          let one = said_by s.network s.history s.fresh s.cap in
-          let two = said_by s.network s.history s.fresh larger in
-          blamed_alike (blamed s.network s.history s.fresh s.cap) (blamed s.network s.history s.fresh larger)
+          let one = said_by_network s.network s.history s.fresh s.cap in
+          let two = said_by_network s.network s.history s.fresh larger in
+          blamed_alike (ids_to_blame s.network s.history s.fresh s.cap) (ids_to_blame s.network s.history s.fresh larger)
           (mapped_alike ids_of (left_by one ids s.network.base) (left_by two ids s.network.base)
           (left_alike one two (λ n. said_alike s.cap larger upto (lowered (rest (with_base s.network n) s.history s.fresh))) ids s.network.base))
 
@@ -291,18 +292,18 @@ module _ (s : Following) (larger : ℕ) (upto : s.cap ≤ larger) where
   full_wait x (No load) is = (refl, inr (verdict_told is))
   full_wait x Full is = (refl, inr (verdict_told is))
 
-  until_alike : (x : ℕ) (one two : Option ℕ) → SameIfSome one two → (by_text Other x two ≡ by_text s x one) ⊎ (by_text s x one ≡ full_line s.cap)
-  until_alike x one two (inl none) = inr (ap (by_text s x) none)
+  until_alike : (x : ℕ) (one two : Option ℕ) → SameIfSome one two → (until_text Other x two ≡ until_text s x one) ⊎ (until_text s x one ≡ full_line s.cap)
+  until_alike x one two (inl none) = inr (ap (until_text s x) none)
   until_alike x None two (inr same) = inr refl
-  until_alike x (Some t) two (inr same) = inl (ap (by_text Other x) same)
+  until_alike x (Some t) two (inr same) = inl (ap (until_text Other x) same)
 
   wait_alike : (x : ℕ) → Alike (by_after s x (verdict_now s)) (by_after Other x (verdict_now Other))
   wait_alike x = by_verdicts (λ t. by_after t x) (λ load. (refl, found)) (λ load. (refl, now_told)) (full_wait x)
     where
-      found : (by_text Other x (waits_until s.network s.history s.fresh x larger) ≡ by_text s x (waits_until s.network s.history s.fresh x s.cap))
-          ⊎ (by_text s x (waits_until s.network s.history s.fresh x s.cap) ≡ full_line s.cap)
+      found : (until_text Other x (waits_until s.network s.history s.fresh x larger) ≡ until_text s x (waits_until s.network s.history s.fresh x s.cap))
+          ⊎ (until_text s x (waits_until s.network s.history s.fresh x s.cap) ≡ full_line s.cap)
       found = until_alike x (waits_until s.network s.history s.fresh x s.cap) (waits_until s.network s.history s.fresh x larger)
-          (halving_alike (tried s.network s.history s.fresh x s.cap) (tried s.network s.history s.fresh x larger)
+          (halving_alike (tried_until s.network s.history s.fresh x s.cap) (tried_until s.network s.history s.fresh x larger)
           (λ t. said_alike s.cap larger upto (lowered (rest_until s.network s.history s.fresh x t))) 20 s.history.now s.network.base.deadline)
 
   unless_alike : (x : ℕ) (o : Option (List ℕ)) → Alike (by_unless s x o) (by_unless Other x o)

@@ -21,7 +21,7 @@ use Rattle.cstn_history.specs.Continuations.{Continues, Can}
 use Rattle.cstn_history.specs.Rest.{moment_done}
 use Rattle.cstn_history.proofs.Settled.{some_or_none, as_told, told_agrees, settles_holds}
 use Rattle.cstn_next.specs.Next.{IsAllDone}
-use Rattle.cstn_followed.specs.Finished.{IsMet, IsCarriedOut, AreAlike}
+use Rattle.cstn_followed.specs.Finished.{IsMet, IsCarriedOut, HaveTheSame}
 
 within_limit : (m : Labelled) (x t : ℕ) → t ≤ limit m.base x → t ≤ m.base.deadline
 within_limit m zero t upto = omega arith
@@ -114,7 +114,7 @@ module _ (m : Labelled) (h : History) (good : IsLabelled m) (known : IsHistory m
       ]
     ]
 
-    pub all_alike : (s r : Scenario) → AgreesWith h s → AgreesWith h r → AreAlike m s r
+    pub all_alike : (s r : Scenario) → AgreesWith h s → AgreesWith h r → HaveTheSame m s r
     all_alike s r agrees also = record {
       executed = alike_executed s r agrees also;
       in_force = λ c has force. marks_fit s r agrees also c has force;

@@ -23,7 +23,7 @@ use Rattle.cstn_reply.specs.Sessions.{Turn, more, last, wrong}
 use Rattle.cstn_reply.specs.Reached.{state_after}
 use Rattle.cstn_reply.proofs.Sessions.{FirstLeads, first_leads}
 use Rattle.cstn_save.specs.Canonical.{canonical}
-use Rattle.cstn_follow.specs.Following.{Following, Heard, says, saves, verdict_now, verdict_within, on_verdict, follows}
+use Rattle.cstn_follow.specs.Following.{Following, Heard, says, saves, verdict_now, verdict_within, on_left_verdict, follows}
 use Rattle.cstn_follow.specs.PlanLines.{edited_network, replanned, on_refusal, on_edit, on_add, on_deadline}
 use Rattle.cstn_follow.specs.Replans.{with_due}
 use Rattle.cstn_follow.specs.Hearing.{on_other, on_line, counted, hear}
@@ -34,8 +34,9 @@ use Rattle.cstn_follow.proofs.Points.{turn_keeps}
 use Rattle.cstn_followed.specs.Sessions.{IsReached, follow_turn}
 use Rattle.cstn_followed.specs.Answers.{Accepts}
 use Rattle.cstn_followed.specs.Plans.{IsRefusedBy}
-use Rattle.cstn_followed.specs.Journal.{is_refusal, accepted_of, unless_refused}
-use Rattle.cstn_followed.specs.Edits.{change_if, change_said, after_if, IsAcceptedText, plan_told, plan_by_lines, IsHistoryTold, IsHistoryByLines, IsEditLine, Edits, IsNew}
+use Rattle.cstn_followed.specs.Journal.{is_refusal, accepted_of, kept_unless_refused}
+use Rattle.cstn_followed.specs.Edits.{change_if, change_said, after_if, IsAcceptedText, plan_told, plan_by_lines, IsHistoryTold, IsHistoryByLines, IsEditLine}
+use Rattle.cstn_followed.specs.Edits.{Edits, IsNew}
 use Rattle.cstn_followed.proofs.Verdicts.{reached_sound, fact_accepted}
 use Rattle.cstn_followed.proofs.Refusals.{refusal_stays}
 use Rattle.cstn_followed.proofs.Journals.{accepted_more}
@@ -66,7 +67,7 @@ module _ (s : Following) where
   follows_says : (edit : Follow) (next : Following) (text : List ℕ) → Makes edit text next → Says edit (follows s next (λ v. text))
   follows_says edit next text made = by_verdict (verdict_within next)
     where
-      by_verdict : (o : Option Verdict) → Says edit (on_verdict s next (λ v. text) o)
+      by_verdict : (o : Option Verdict) → Says edit (on_left_verdict s next (λ v. text) o)
       by_verdict None = inl (refl, (codes "F8", refl))
       by_verdict (Some v) = inr made
 
@@ -242,12 +243,12 @@ told_more s g k first lines sound l rest = by_refusal (is_refusal l.text) refl
     names_are : l.next.names ≡ s.names
     names_are = (turn_keeps canonical s l.next first l.text sound l.answer).names
 
-    accepted_is : accepted_of s (first ∷ lines) ≡ unless_refused (is_refusal l.text) first (accepted_of l.next lines)
+    accepted_is : accepted_of s (first ∷ lines) ≡ kept_unless_refused (is_refusal l.text) first (accepted_of l.next lines)
     accepted_is = accepted_more s l.next first l.text lines l.answer
 
     by_refusal : (b : Bool) → is_refusal l.text ≡ b → AreTold s g (first ∷ lines)
     by_refusal true refused =
-        let gone = accepted_is ∙ ap (λ b. unless_refused b first (accepted_of l.next lines)) refused in
+        let gone = accepted_is ∙ ap (λ b. kept_unless_refused b first (accepted_of l.next lines)) refused in
         let same = refusal_stays s l.next first l.text sound l.answer refused in
         let plan_same : edited_network l.next ≡ edited_network s = ap edited_network same in
         let history_same : l.next.history ≡ s.history = ap (λ (x : Following). x.history) same in
@@ -262,7 +263,7 @@ told_more s g k first lines sound l rest = by_refusal (is_refusal l.text) refl
           fresh = (let more_fresh = rest.fresh in omega arith);
         }
     by_refusal false fine =
-        let kept = accepted_is ∙ ap (λ b. unless_refused b first (accepted_of l.next lines)) fine in
+        let kept = accepted_is ∙ ap (λ b. kept_unless_refused b first (accepted_of l.next lines)) fine in
         let one = line_told s l.next first l.text sound (follow_read first) refl l.answer fine in
         record {
           plan = rest.plan ∙ ap (λ ns. plan_by_lines ns (edited_network l.next) (accepted_of l.next lines)) names_are

@@ -13,7 +13,7 @@ use Rattle.cstn_reply.specs.declared.output.Outcome.TheVariants.{Good, Bad, Unfi
 use Rattle.cstn_follow.specs.Following.{Following, verdict_now, is_any_open, following_ending, outcome_by}
 use Rattle.cstn_follow.specs.Turns.{IsTrueOf}
 use Rattle.cstn_followed.specs.Sessions.{IsReached}
-use Rattle.cstn_followed.specs.Finished.{IsCarriedOut, AreAlike}
+use Rattle.cstn_followed.specs.Finished.{IsCarriedOut, HaveTheSame}
 use Rattle.cstn_followed.proofs.Verdicts.{reached_sound, states_true}
 use Rattle.cstn_followed.proofs.Questions.{nothing_left}
 use Rattle.cstn_followed.proofs.Carried.{carried_exactly, all_alike}
@@ -23,7 +23,7 @@ ended_exactly s reached over =
     let sound = reached_sound s reached in carried_exactly s.network s.history sound.labelled sound.timely.history over
 
 pub ended_alike : (s : Following) (a b : Scenario) → IsReached s → IsAllDone s.network s.history → AgreesWith s.history a → AgreesWith s.history b
-    → AreAlike s.network a b
+    → HaveTheSame s.network a b
 ended_alike s a b reached over agrees also =
     let sound = reached_sound s reached in all_alike s.network s.history sound.labelled sound.timely.history over a b agrees also
 

@@ -21,19 +21,20 @@ use Rattle.cstn_history.specs.Facts.{FactRefusal, OutOfRange, is_beyond, now_ref
 use Rattle.cstn_history.proofs.Followed.{step_is_done}
 use Rattle.cstn_history.proofs.NextMoment.{quiet_upto}
 use Rattle.cstn_history.proofs.Recorded.{put_there, put_other, timely_done}
-use Rattle.cstn_lines.specs.FollowLines.{Follow, follow_read, IsFollow, done_at, came_at, now_at, awaited_at, edits, ends_by, asks_next, asks_by, asks_blame, asks_rest}
+use Rattle.cstn_lines.specs.FollowLines.{Follow, follow_read, IsFollow, done_at, came_at, now_at, awaited_at, edits, ends_by, asks_next, asks_by, asks_blame}
+use Rattle.cstn_lines.specs.FollowLines.{asks_rest}
 use Rattle.cstn_lines.proofs.FollowLemmas.{follow_is}
 use Rattle.cstn_reply.specs.Texts.{line, full_line}
 use Rattle.cstn_reply.specs.Reached.{state_after}
-use Rattle.cstn_follow.specs.Following.{Following, Heard, says, saves, begun, verdict_now, verdict_within, on_verdict, verdict_line}
+use Rattle.cstn_follow.specs.Following.{Following, Heard, says, saves, begun, verdict_now, verdict_within, on_left_verdict, verdict_line}
 use Rattle.cstn_follow.specs.FactLines.{records, refuses, unless_refused, all_done, on_result, on_known, on_did, nodes_of, unknown_of, on_fact, on_now, on_saw}
 use Rattle.cstn_follow.specs.Hearing.{on_line, counted, hear}
 use Rattle.cstn_follow.specs.Progress.{HasRoomLeft, IsQuietUpto}
 use Rattle.cstn_follow.proofs.Going.{least_table, goes_on}
-use Rattle.cstn_follow.proofs.GoesOn.{left_says, no_cannot}
+use Rattle.cstn_follow.proofs.GoesOn.{left_says, verdict_right}
 use Rattle.cstn_save.specs.Canonical.{canonical}
 use Rattle.cstn_follow.specs.Turns.{heard_by}
-use Rattle.cstn_followed.specs.Plans.{KeepsToNext, KeepToNext, AreNamed, IsYes, KeepsGoing, KeepGoing}
+use Rattle.cstn_followed.specs.Plans.{KeepsToNext, KeepToNext, AreNamed, IsYesLine, KeepsGoing, KeepGoing}
 use Rattle.cstn_followed.specs.Sessions.{follow_turn}
 use Rattle.cstn_follow.proofs.RecordedFacts.{fact_refusal, undone_here, same_history}
 use Rattle.cstn_follow.proofs.States.{IsSound, counted_sound, next_sound, lines_sound, begun_sound}
@@ -94,7 +95,7 @@ all_named_done m h g t xs good timely room can quiet named is =
 -- the line is refused, or the answer is yes or full, and the session can go on
 abbrev Answer : Following → Heard → Type 0
 Answer s (says text next) =
-    (((next ≡ s) × ((why : List ℕ) × (text ≡ line (codes "refused " ++ why)))) ⊎ (IsYes text ⊎ (text ≡ full_line s.cap))) × Can next.network next.history
+    (((next ≡ s) × ((why : List ℕ) × (text ≡ line (codes "refused " ++ why)))) ⊎ (IsYesLine text ⊎ (text ≡ full_line s.cap))) × Can next.network next.history
 Answer s (saves m names next) = ⊥
 
 module _ (s : Following) (sound : IsSound s) (can : Can s.network s.history) where
@@ -115,10 +116,10 @@ module _ (s : Following) (sound : IsSound s) (can : Can s.network s.history) whe
   records_fact h later = by_verdict (verdict_within (record s { history = h })) refl
     where
       by_verdict : (o : Option Verdict) → verdict_within (record s { history = h }) ≡ o
-          → Answer s (on_verdict s (record s { history = h }) (verdict_line s.cap) o)
+          → Answer s (on_left_verdict s (record s { history = h }) (verdict_line s.cap) o)
       by_verdict None is = refused (codes "F8")
       by_verdict (Some (Yes load)) is = (inr (inl (load, refl)), later.1)
-      by_verdict (Some (No load)) is = absurd (no_cannot s.network h s.fresh s.cap load sound.labelled later.0 sound.above is later.1)
+      by_verdict (Some (No load)) is = absurd (verdict_right s.network h s.fresh s.cap (No load) sound.labelled later.0 sound.above is later.1)
       by_verdict (Some Full) is = (inr (inr refl), later.1)
 
   did_goes : (t : ℕ) (given : List (List ℕ)) → IsQuietUpto s.network s.history t → AreNamed s t given → Answer s (on_did s t given)

@@ -15,7 +15,7 @@ use Rattle.cstn_follow.specs.Hearing.{counted, on_line}
 use Rattle.cstn_follow.specs.Turns.{heard_by}
 use Rattle.cstn_follow.proofs.States.{IsSound, next_sound}
 use Rattle.cstn_followed.specs.Sessions.{follow_turn}
-use Rattle.cstn_followed.specs.Journal.{is_refusal, texts_of, accepted_of, unless_refused, with_count}
+use Rattle.cstn_followed.specs.Journal.{is_refusal, texts_of, accepted_of, kept_unless_refused, with_count}
 use Rattle.cstn_followed.proofs.Recounted.{Refuses, recounted, line_same}
 use Rattle.cstn_followed.proofs.Refusals.{refusal_stays}
 
@@ -76,8 +76,8 @@ pub record LeadsBack (s g : Following) (n j : ℕ) (lines : List (List ℕ)) : T
 
 -- what the first of the lines makes of them
 module _ (s next : Following) (first text : List ℕ) (lines : List (List ℕ)) (answered : follow_turn s first ≡ more text next) where
-  pub accepted_more : accepted_of s (first ∷ lines) ≡ unless_refused (is_refusal text) first (accepted_of next lines)
-  accepted_more = ap (λ turn. on_turn turn (λ words later. unless_refused (is_refusal words) first (accepted_of later lines)) (λ said. []) []) answered
+  pub accepted_more : accepted_of s (first ∷ lines) ≡ kept_unless_refused (is_refusal text) first (accepted_of next lines)
+  accepted_more = ap (λ turn. on_turn turn (λ words later. kept_unless_refused (is_refusal words) first (accepted_of later lines)) (λ said. []) []) answered
 
   pub texts_more : texts_of s (first ∷ lines) ≡ text ∷ texts_of next lines
   texts_more = ap (λ turn. on_turn turn (λ words later. words ∷ texts_of later lines) (λ said. []) []) answered
@@ -96,7 +96,7 @@ back_more s g n j k first lines sound upto l more_back = by_refusal (is_refusal 
     by_refusal : (b : Bool) → is_refusal l.text ≡ b → LeadsBack s g n j (first ∷ lines)
     by_refusal true refused =
         let gone : accepted_of s (first ∷ lines) ≡ accepted_of l.next lines =
-        accepted_more s l.next first l.text lines l.answer ∙ ap (λ b. unless_refused b first (accepted_of l.next lines)) refused in
+        accepted_more s l.next first l.text lines l.answer ∙ ap (λ b. kept_unless_refused b first (accepted_of l.next lines)) refused in
         let same : l.next ≡ counted s = refusal_stays s l.next first l.text sound l.answer refused in
         let start : with_count s n ≡ with_count l.next n = ap (λ x. with_count x n) (sym same) in
         let rest = more_back n j (omega arith) in
@@ -109,7 +109,7 @@ back_more s g n j k first lines sound upto l more_back = by_refusal (is_refusal 
         }
     by_refusal false accepted =
         let kept_is : accepted_of s (first ∷ lines) ≡ first ∷ accepted_of l.next lines =
-        accepted_more s l.next first l.text lines l.answer ∙ ap (λ b. unless_refused b first (accepted_of l.next lines)) accepted in
+        accepted_more s l.next first l.text lines l.answer ∙ ap (λ b. kept_unless_refused b first (accepted_of l.next lines)) accepted in
         let m = min (suc n) 16777217 in
         let turn = same_turn s l.next n first l.text l.answer accepted in
         let short = short_earlier (j + 1) (k + 1) first (omega arith) l.short in

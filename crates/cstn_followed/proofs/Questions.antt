@@ -1,5 +1,6 @@
 -- What is answered to the questions of a session that follows is true of what has happened.
-use Rattle.std.proofs.Common.{ℕ, zero, suc, ◌≡◌, ◌-◌, ◌<◌, Bool, true, false, not, ◌&&◌, List, [], length, Option, Some, None, arith, refl, sym, subst, ap, ◌∙◌, inl, inr}
+use Rattle.std.proofs.Common.{ℕ, zero, suc, ◌≡◌, ◌-◌, ◌<◌, Bool, true, false, not, ◌&&◌, List, [], length, Option, Some, None, arith, refl, sym, subst, ap, ◌∙◌}
+use Rattle.std.proofs.Common.{inl, inr}
 use Rattle.std.specs.Prelude.{◌↔◌, if◌then◌else◌, bytes_eq}
 use Rattle.std.specs.Option.{is_some}
 use Rattle.std.proofs.lemmas.Bool.{cases_eq, and_parts, or_from, or_parts, both_ways, ltb-true}
@@ -36,18 +37,19 @@ use Rattle.cstn_lines.specs.FollowLines.{Follow, follow_read, asks_next, asks_by
 use Rattle.cstn_reply.specs.Texts.{line}
 use Rattle.cstn_reply.specs.Sessions.{Turn, more, last, wrong}
 use Rattle.cstn_history.specs.Facts.{Undecided}
-use Rattle.cstn_follow.specs.Following.{Following, Heard, says, saves, left_now, verdict_now, verdict_within, verdict_line, too_many, is_open, any_below, is_any_open}
+use Rattle.cstn_follow.specs.Following.{Following, Heard, says, saves, left_now, verdict_now, verdict_within, verdict_line, too_many, is_open, any_below}
+use Rattle.cstn_follow.specs.Following.{is_any_open}
 use Rattle.cstn_follow.specs.FactLines.{refused_fact}
 use Rattle.cstn_follow.specs.Hearing.{counted, hear}
 use Rattle.cstn_follow.specs.Questions.{next_at, next_after}
-use Rattle.cstn_follow.specs.Searches.{has_place, by_refusal, by_text, by_after, by_unless, by_number, blame_text, blame_after}
+use Rattle.cstn_follow.specs.Searches.{has_place, by_refusal, until_text, by_after, by_unless, by_number, blame_line, blame_after}
 use Rattle.cstn_check.proofs.Halves.{none_found}
 use Rattle.cstn_check.proofs.Leaving.{found_own, found_none}
 use Rattle.cstn_check.proofs.Said.{said_full}
-use Rattle.cstn_follow.specs.Waiting.{HasRoomToWait, rest_until, tried, waits_until}
-use Rattle.cstn_follow.specs.Blame.{alone, said_by, blamed}
+use Rattle.cstn_follow.specs.Waiting.{HasRoomToWait, rest_until, tried_until, waits_until}
+use Rattle.cstn_follow.specs.Blame.{network_alone, said_by_network, ids_to_blame}
 use Rattle.cstn_follow.proofs.Blamed.{found_stops, found_needed, found_ascend}
-use Rattle.cstn_follow.proofs.GoesOn.{left_says, left_labelled, yes_can, no_cannot}
+use Rattle.cstn_follow.proofs.GoesOn.{left_says, left_labelled, verdict_right}
 use Rattle.cstn_follow.proofs.Until.{last_found}
 use Rattle.cstn_save.specs.Canonical.{canonical}
 use Rattle.cstn_follow.specs.Turns.{heard_by}
@@ -72,7 +74,7 @@ planned s load sound is =
     let room = (left_says s.network s.history s.fresh s.cap (Yes load) within).0 in
     let net = lowered (left_now s) in
     let good = lowered_well_formed (left_now s) left room.lowered in
-    let can = yes_can s.network s.history s.fresh s.cap load sound.labelled sound.timely sound.above within in
+    let can = verdict_right s.network s.history s.fresh s.cap (Yes load) sound.labelled sound.timely sound.above within in
     let consistent = (equivalent (left_now s) left).consistent.0 ((can_both s.network s.history s.fresh sound.labelled sound.timely.history).0 can) in
     record {
       labelled = sound.labelled;
@@ -127,14 +129,14 @@ module _ (s : Following) (sound : IsSound s) (x : ℕ) (here : x < count s.netwo
     wait_tells Full is = (refl, ap (verdict_line s.cap) is)
     wait_tells (Yes load) is = (refl, by_moment (waits_until s.network s.history s.fresh x s.cap) refl)
       where
-        by_moment : (o : Option ℕ) → waits_until s.network s.history s.fresh x s.cap ≡ o → AnswersWait s x (Yes load) (by_text (counted s) x o)
+        by_moment : (o : Option ℕ) → waits_until s.network s.history s.fresh x s.cap ≡ o → AnswersWait s x (Yes load) (until_text (counted s) x o)
         by_moment (Some t) found =
-            let can = yes_can s.network s.history s.fresh s.cap load sound.labelled sound.timely sound.above (sound.verdict ∙ ap Some is) in
+            let can = verdict_right s.network s.history s.fresh s.cap (Yes load) sound.labelled sound.timely sound.above (sound.verdict ∙ ap Some is) in
             let both = last_found s.network s.history s.fresh x sound.labelled sound.timely sound.above room here none (left_here x none possible)
             s.cap can t found in
             inl (t, record { waits = both.0; last = both.1 }, refl)
         by_moment None full =
-            let t = none_found (tried s.network s.history s.fresh x s.cap) 20 (record { low = s.history.now; high = s.network.base.deadline }) full in
+            let t = none_found (tried_until s.network s.history s.fresh x s.cap) 20 (record { low = s.history.now; high = s.network.base.deadline }) full in
             inr ((full, (t.0, said_full s.cap (lowered (rest_until s.network s.history s.fresh x t.0)) t.1)), refl)
 
   abbrev refusal : Bool → Bool → Option (List ℕ)
@@ -166,7 +168,7 @@ by_tells s name (Some x) sound is =
 blame_tells : (s : Following) (v : Verdict) → IsSound s → verdict_now s ≡ v → Tells (counted s) (AnswersBlame s v) (blame_after (counted s) v)
 blame_tells s (Yes load) sound is = (refl, ap (verdict_line s.cap) is)
 blame_tells s Full sound is = (refl, ap (verdict_line s.cap) is)
-blame_tells s (No load) sound is = (refl, by_ids (blamed s.network s.history s.fresh s.cap) refl)
+blame_tells s (No load) sound is = (refl, by_ids (ids_to_blame s.network s.history s.fresh s.cap) refl)
   where
     within : verdict_within s ≡ Some (No load)
     within = sound.verdict ∙ ap Some is
@@ -175,9 +177,9 @@ blame_tells s (No load) sound is = (refl, by_ids (blamed s.network s.history s.f
     room = (left_says s.network s.history s.fresh s.cap (No load) within).0
 
     never : Can s.network s.history → ⊥
-    never = no_cannot s.network s.history s.fresh s.cap load sound.labelled sound.timely sound.above within
+    never = verdict_right s.network s.history s.fresh s.cap (No load) sound.labelled sound.timely sound.above within
 
-    by_ids : (o : Option (List ℕ)) → blamed s.network s.history s.fresh s.cap ≡ o → AnswersBlame s (No load) (blame_text s.cap o)
+    by_ids : (o : Option (List ℕ)) → ids_to_blame s.network s.history s.fresh s.cap ≡ o → AnswersBlame s (No load) (blame_line s.cap o)
     by_ids (Some ids) found = inl (
       ids,
       record {
@@ -186,12 +188,12 @@ blame_tells s (No load) sound is = (refl, by_ids (blamed s.network s.history s.f
         cannot = found_stops s.network s.history s.fresh sound.labelled sound.timely sound.above room s.cap ids found never;
         needed = found_needed s.network s.history s.fresh sound.labelled sound.timely sound.above room s.cap ids found;
       },
-      found_own (said_by s.network s.history s.fresh s.cap) s.network.base ids found,
+      found_own (said_by_network s.network s.history s.fresh s.cap) s.network.base ids found,
       refl,
     )
     by_ids None full =
-        let t = found_none (said_by s.network s.history s.fresh s.cap) s.network.base full in
-        inr ((full, (t.0, said_full s.cap (lowered (rest (alone s.network t.0) s.history s.fresh)) t.1)), refl)
+        let t = found_none (said_by_network s.network s.history s.fresh s.cap) s.network.base full in
+        inr ((full, (t.0, said_full s.cap (lowered (rest (network_alone s.network t.0) s.history s.fresh)) t.1)), refl)
 
 -- ---- nothing is left
 

@@ -12,7 +12,7 @@ use Rattle.cstn_lines.specs.FollowLines.{Follow, done_at, came_at, now_at, await
 use Rattle.cstn_change.specs.Changes.{Change, removes, revalues, Refusal, refusal, after}
 use Rattle.cstn_change.specs.ChangeLines.{addition}
 use Rattle.cstn_follow.specs.Replans.{with_due}
-use Rattle.cstn_follow.specs.Following.{Following, Heard, says, saves, verdict_now, verdict_within, on_verdict, follows, verdict_line}
+use Rattle.cstn_follow.specs.Following.{Following, Heard, says, saves, verdict_now, verdict_within, on_left_verdict, follows, verdict_line}
 use Rattle.cstn_follow.specs.FactLines.{on_result, records, refuses, all_done, on_known, on_did, nodes_of, unknown_of, unless_refused, on_fact}
 use Rattle.cstn_follow.specs.PlanLines.{edited_network, replanned, on_refusal, on_edit, on_deadline}
 use Rattle.cstn_follow.specs.Questions.{next_after, check_after}
@@ -37,7 +37,7 @@ module _ (s : Following) (n : ℕ) where
   follows_same : (next : Following) (text : Verdict → List ℕ) → follows Other (with_count next n) text ≡ recounted n (follows s next text)
   follows_same next text = by_verdict (verdict_within next)
     where
-      by_verdict : (o : Option Verdict) → on_verdict Other (with_count next n) text o ≡ recounted n (on_verdict s next text o)
+      by_verdict : (o : Option Verdict) → on_left_verdict Other (with_count next n) text o ≡ recounted n (on_left_verdict s next text o)
       by_verdict None = refl
       by_verdict (Some v) = refl
 

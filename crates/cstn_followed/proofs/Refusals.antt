@@ -8,14 +8,15 @@ use Rattle.cstn_text.specs.Names.{number_of}
 use Rattle.cstn_check.specs.declared.verdicts.Verdict.{Verdict}
 use Rattle.cstn_check.specs.declared.verdicts.Verdict.TheVariants.{Yes, No, Full}
 use Rattle.cstn_lines.specs.EditLines.{Edit, added, removed, changed, asked}
-use Rattle.cstn_lines.specs.FollowLines.{Follow, follow_read, IsFollow, done_at, came_at, now_at, awaited_at, edits, ends_by, asks_next, asks_by, asks_blame, asks_rest}
+use Rattle.cstn_lines.specs.FollowLines.{Follow, follow_read, IsFollow, done_at, came_at, now_at, awaited_at, edits, ends_by, asks_next, asks_by, asks_blame}
+use Rattle.cstn_lines.specs.FollowLines.{asks_rest}
 use Rattle.cstn_lines.proofs.FollowLemmas.{follow_is}
 use Rattle.cstn_reply.specs.Texts.{line}
 use Rattle.cstn_reply.specs.Sessions.{Turn, more, last, wrong}
 use Rattle.cstn_change.specs.Changes.{Change, adds, removes, revalues, Refusal, refusal, after}
 use Rattle.cstn_change.specs.ChangeLines.{addition, accepted_text}
 use Rattle.cstn_follow.specs.Replans.{with_due}
-use Rattle.cstn_follow.specs.Following.{Following, Heard, says, saves, verdict_now, verdict_within, on_verdict, follows, verdict_line}
+use Rattle.cstn_follow.specs.Following.{Following, Heard, says, saves, verdict_now, verdict_within, on_left_verdict, follows, verdict_line}
 use Rattle.cstn_follow.specs.PlanLines.{edited_network, replanned, on_refusal, on_edit, on_deadline}
 use Rattle.cstn_follow.specs.Questions.{on_next, on_check}
 use Rattle.cstn_follow.specs.Searches.{on_by, on_blame}
@@ -62,7 +63,7 @@ module _ (s : Following) where
   follows_stays : (next : Following) (text : Verdict → List ℕ) → ((v : Verdict) → third (text v) ≡ 102 → ⊥) → StaysRefused s (follows s next text)
   follows_stays next text other = by_verdict (verdict_within next)
     where
-      by_verdict : (o : Option Verdict) → StaysRefused s (on_verdict s next text o)
+      by_verdict : (o : Option Verdict) → StaysRefused s (on_left_verdict s next text o)
       by_verdict None = λ refused. refl
       by_verdict (Some v) = λ refused. absurd (other v (refused_third (text v) refused))
 

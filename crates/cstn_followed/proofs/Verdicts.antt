@@ -7,7 +7,7 @@ use Rattle.cstn_lines.specs.FollowLines.{Follow, follow_read, IsFollow}
 use Rattle.cstn_lines.proofs.FollowLemmas.{follow_is}
 use Rattle.cstn_reply.specs.Sessions.{Turn, more, last, wrong}
 use Rattle.cstn_save.specs.Canonical.{canonical}
-use Rattle.cstn_follow.specs.Following.{Following, Heard, says, saves, begun, verdict_now, verdict_within, on_verdict, verdict_line}
+use Rattle.cstn_follow.specs.Following.{Following, Heard, says, saves, begun, verdict_now, verdict_within, on_left_verdict, verdict_line}
 use Rattle.cstn_follow.specs.FactLines.{records}
 use Rattle.cstn_follow.specs.Hearing.{on_line, counted, hear}
 use Rattle.cstn_follow.specs.Recorded.{IsFact, IsRecorded}
@@ -39,7 +39,7 @@ records_answer s fact h sound timely recorded = by_verdict (verdict_within next)
     next : Following
     next = record (counted s) { history = h }
 
-    by_verdict : (o : Option Verdict) → verdict_within next ≡ o → FactAnswer s fact (on_verdict (counted s) next (verdict_line s.cap) o)
+    by_verdict : (o : Option Verdict) → verdict_within next ≡ o → FactAnswer s fact (on_left_verdict (counted s) next (verdict_line s.cap) o)
     by_verdict None is = inl (refl, (codes "F8", refl))
     by_verdict (Some v) is =
         let same = within_is next v is in

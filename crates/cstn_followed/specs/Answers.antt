@@ -21,7 +21,7 @@ use Rattle.cstn_follow.specs.Questions.{next_text}
 use Rattle.cstn_follow.specs.Searches.{by_refusal, by_line, ids_text}
 use Rattle.cstn_follow.specs.Waiting.{rest_until, waits_until}
 use Rattle.cstn_check.specs.Givers.{ids_of}
-use Rattle.cstn_follow.specs.Blame.{alone, blamed}
+use Rattle.cstn_follow.specs.Blame.{network_alone, ids_to_blame}
 use Rattle.cstn_follow.specs.Recorded.{IsRecorded}
 use Rattle.cstn_follow.specs.Turns.{IsTrueOf}
 
@@ -89,12 +89,13 @@ AreOwn m ids = (id : ℕ) → Contains ids id → Contains (ids_of m.base) id
 -- entries than it may
 abbrev pub IsBlameFull : Following → Type 0
 IsBlameFull s =
-    (blamed s.network s.history s.fresh s.cap ≡ None)
-    × ((test : ℕ → Bool) × (s.cap < load_of (lowered (rest (alone s.network test) s.history s.fresh))))
+    (ids_to_blame s.network s.history s.fresh s.cap ≡ None)
+    × ((test : ℕ → Bool) × (s.cap < load_of (lowered (rest (network_alone s.network test) s.history s.fresh))))
 
 -- after no the text tells which ids are to blame, or that a log is full; after yes and full it is the line of the verdict
 abbrev pub AnswersBlame : Following → Verdict → List ℕ → Type 0
 AnswersBlame s (Yes load) text = text ≡ verdict_line s.cap (Yes load)
 AnswersBlame s (No load) text =
-    ((ids : List ℕ) × AreToBlame s.network s.history ids × AreOwn s.network ids × (text ≡ line (codes "blame" ++ ids_text ids))) ⊎ (IsBlameFull s × (text ≡ full_line s.cap))
+    ((ids : List ℕ) × AreToBlame s.network s.history ids × AreOwn s.network ids × (text ≡ line (codes "blame" ++ ids_text ids)))
+    ⊎ (IsBlameFull s × (text ≡ full_line s.cap))
 AnswersBlame s Full text = text ≡ verdict_line s.cap Full

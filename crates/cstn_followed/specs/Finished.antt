@@ -23,6 +23,6 @@ pub record IsCarriedOut (m : Labelled) (h : History) : Type 0 where
   pub deadline : (x t : ℕ) → h.done x ≡ Some t → t ≤ m.base.deadline
 
 -- all cases that agree with what was told are alike: the same time-points are executed, and the same constraints are in force
-pub record AreAlike (m : Labelled) (s r : Scenario) : Type 0 where
+pub record HaveTheSame (m : Labelled) (s r : Scenario) : Type 0 where
   pub executed : (x : ℕ) → x < count m.base → IsExecuted m s x → IsExecuted m r x
   pub in_force : (c : Constraint) → Contains m.base.constraints c → IsInForce m s c → IsInForce m r c

@@ -16,15 +16,15 @@ texts_of s [] = []
 texts_of s (first ∷ lines) = on_turn (follow_turn s first) (λ text next. text ∷ texts_of next lines) (λ said. []) []
 
 -- a line is left out where it is refused
-abbrev pub unless_refused : Bool → List ℕ → List (List ℕ) → List (List ℕ)
-unless_refused true line lines = lines
-unless_refused false line lines = line ∷ lines
+abbrev pub kept_unless_refused : Bool → List ℕ → List (List ℕ) → List (List ℕ)
+kept_unless_refused true line lines = lines
+kept_unless_refused false line lines = line ∷ lines
 
 -- those of the lines that are accepted, each in the state after the lines before it
 abbrev pub accepted_of : Following → List (List ℕ) → List (List ℕ)
 accepted_of s [] = []
 accepted_of s (first ∷ lines) =
-    on_turn (follow_turn s first) (λ text next. unless_refused (is_refusal text) first (accepted_of next lines)) (λ said. []) []
+    on_turn (follow_turn s first) (λ text next. kept_unless_refused (is_refusal text) first (accepted_of next lines)) (λ said. []) []
 
 -- each of the lines is accepted
 abbrev pub AreAccepted : Following → List (List ℕ) → Type 0

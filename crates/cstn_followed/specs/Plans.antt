@@ -46,15 +46,15 @@ abbrev pub IsRefusedBy : Following → List ℕ → Following → Type 0
 IsRefusedBy s text next = (next ≡ counted s) × ((why : List ℕ) × (text ≡ line (codes "refused " ++ why)))
 
 -- the text is the line of a yes
-abbrev pub IsYes : List ℕ → Type 0
-IsYes text = (load : ℕ) × (text ≡ yes_line load)
+abbrev pub IsYesLine : List ℕ → Type 0
+IsYesLine text = (load : ℕ) × (text ≡ yes_line load)
 
 -- the line is refused, or the answer is yes, or that the log of what is left is too long; and some table still continues what has
 -- happened
 pub record KeepsGoing (s : Following) (bytes : List ℕ) (next : Following) : Type 0 where
   pub text : List ℕ
   pub answer : follow_turn s bytes ≡ more text next
-  pub said : IsRefusedBy s text next ⊎ (IsYes text ⊎ (text ≡ full_line s.cap))
+  pub said : IsRefusedBy s text next ⊎ (IsYesLine text ⊎ (text ≡ full_line s.cap))
   pub can : Can next.network next.history
 
 -- it is so with each line, from the state after those before it

@@ -25,7 +25,7 @@ ghost use Rattle.cstn_follow.specs.Turns.{IsTrueOf};
 ghost use Rattle.cstn_followed.specs.Sessions.{IsReached, follow_turn};
 ghost use Rattle.cstn_followed.specs.Answers.{Accepts, AnswersNext, AnswersBy, AnswersBlame};
 ghost use Rattle.cstn_followed.specs.Plans.{IsRefusedBy, KeepToNext, KeepGoing};
-ghost use Rattle.cstn_followed.specs.Finished.{IsCarriedOut, AreAlike};
+ghost use Rattle.cstn_followed.specs.Finished.{IsCarriedOut, HaveTheSame};
 ghost use Rattle.cstn_followed.specs.Journal.{is_refusal, texts_of, accepted_of, with_cap, AreAccepted, AreSameButCount, AreSameUnlessFull};
 ghost use Rattle.cstn_followed.specs.Order.{AllTellPast, IsHistoryOf, TellTheSame};
 ghost use Rattle.cstn_followed.specs.Edits.{plan_by_lines, IsHistoryByLines, IsEditLine, Edits, IsNew};
@@ -80,7 +80,7 @@ pub fn finished_plans_are_carried_out()
     ensures good { (s : Following) → IsReached s → following_ending s ≡ say Good (codes "done") → IsCarriedOut s.network s.history }
     ensures bad { (s : Following) → IsReached s → following_ending s ≡ say Bad (codes "done") → IsCarriedOut s.network s.history → ⊥ }
     ensures alike { (s : Following) (a b : Scenario) → IsReached s → IsAllDone s.network s.history → AgreesWith s.history a → AgreesWith s.history b
-        → AreAlike s.network a b }
+        → HaveTheSame s.network a b }
 {}
 
 /// Of lines that lead to a state, those that were accepted lead to the same state but for the count of lines, and each of them is

@@ -7,7 +7,7 @@ ghost use Rattle.cstn_lift.specs.Read.{the_labelled};
 ghost use Rattle.cstn_history.specs.Read.{IsKeptFor};
 ghost use Rattle.cstn_change.specs.Changes.{IsBetween, CanChange, after, edited_base};
 ghost use Rattle.cstn_change.specs.Read.{the_change, the_refusal};
-ghost use Rattle.cstn_follow.specs.Sessions.{IsRightVerdict};
+ghost use Rattle.cstn_follow.specs.Sessions.{IsRightNow};
 ghost use Rattle.cstn_follow.specs.Replans.{MakesChange, Replans, edited_now, with_due, change_refused, unreplanned};
 
 use super::Session;
@@ -25,7 +25,7 @@ impl Session {
     pub fn edit(&mut self, change: Change) -> Result<Verdict, ReplanError>
         requires between { IsBetween (the_labelled self.old.network).base (the_change change) }
         ensures edited { MakesChange (the_change change) self.old self.new result }
-        ensures right { IfOk result (IsRightVerdict self.new) }
+        ensures right { IfOk result (IsRightNow self.new) }
     {
         if let Some(error) = self.change_refused(change) {
             return Err(ReplanError::Refused(error));
@@ -42,7 +42,7 @@ impl Session {
     pub fn deadline(&mut self, deadline: u32) -> Result<Verdict, RestError>
         requires range { deadline ≤ most_deadline }
         ensures due { Replans (with_due (edited_now self.old) deadline) self.old self.new result }
-        ensures right { IfOk result (IsRightVerdict self.new) }
+        ensures right { IfOk result (IsRightNow self.new) }
     {
         let network = match with_deadline(self.alloc, self.network(), deadline) {
             Ok(network) => network,
@@ -74,7 +74,7 @@ impl Session {
         requires possible { CanChange most_constraints (the_labelled self.old.network).base (the_change change) }
         requires few { self.old.edits < most_edits }
         ensures edited { Replans (after (edited_now self.old) (the_change change)) self.old self.new result }
-        ensures right { IfOk result (IsRightVerdict self.new) }
+        ensures right { IfOk result (IsRightNow self.new) }
     {
         ids_stay_below();
         let network = match changed(self.alloc, self.network(), self.fresh(), change) {
@@ -96,7 +96,7 @@ impl Session {
         requires low { fresh ≤ 2 ^ 31 + edits }
         requires labels { (the_labelled network).labels ≡ (the_labelled self.old.network).labels }
         ensures replanned { Replans (edited_base (the_labelled network) fresh edits) self.old self.new result }
-        ensures right { IfOk result (IsRightVerdict self.new) }
+        ensures right { IfOk result (IsRightNow self.new) }
     {
         let finding = match self
             .execution

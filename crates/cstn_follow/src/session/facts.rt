@@ -4,7 +4,7 @@ ghost use Rattle.cstn_lift.specs.Read.{the_labelled};
 ghost use Rattle.cstn_history.specs.Facts.{told_refusal, expected_refusal, now_refusal, at_now, with_told, with_expected};
 ghost use Rattle.cstn_history.specs.Read.{the_history, IsKeptFor, the_fact_refusal};
 ghost use Rattle.cstn_follow.specs.FactLines.{all_done, unless_refused};
-ghost use Rattle.cstn_follow.specs.Sessions.{IsRightVerdict, Records, unrecorded};
+ghost use Rattle.cstn_follow.specs.Sessions.{IsRightNow, Records, unrecorded};
 
 use super::Session;
 use crate::errors::FollowError;
@@ -19,7 +19,7 @@ impl Session {
     /// applies of `OutOfRange`, `NoSuch`, `Done` and `Undecided`, in turn, and with `TooManyConstraints`.
     pub fn did(&mut self, moment: u32, nodes: &[NodeId]) -> Result<Verdict, FollowError>
         ensures recorded { Records (all_done (the_labelled self.old.network) moment (the_history self.old.history) nodes.now) self.old self.new result }
-        ensures right { IfOk result (IsRightVerdict self.new) }
+        ensures right { IfOk result (IsRightNow self.new) }
     {
         let mut later = self.history().copy(self.alloc)?;
         if let Err(error) = execute_all(&mut later, self.execution.network(), moment, nodes) {
@@ -34,7 +34,7 @@ impl Session {
     pub fn saw(&mut self, moment: u32, p: Prop, value: bool) -> Result<Verdict, FollowError>
         ensures recorded { Records (unless_refused (told_refusal (the_labelled self.old.network) (the_history self.old.history) moment p.index)
             (Ok (with_told (the_history self.old.history) moment p.index value))) self.old self.new result }
-        ensures right { IfOk result (IsRightVerdict self.new) }
+        ensures right { IfOk result (IsRightNow self.new) }
     {
         let mut later = self.history().copy(self.alloc)?;
         if let Err(error) = later.observe(self.execution.network(), moment, p, value) {
@@ -48,7 +48,7 @@ impl Session {
     pub fn now(&mut self, moment: u32) -> Result<Verdict, FollowError>
         ensures recorded { Records (unless_refused (now_refusal (the_history self.old.history) moment) (Ok (at_now (the_history self.old.history) moment)))
             self.old self.new result }
-        ensures right { IfOk result (IsRightVerdict self.new) }
+        ensures right { IfOk result (IsRightNow self.new) }
     {
         let mut later = self.history().copy(self.alloc)?;
         if let Err(error) = later.pass(moment) {
@@ -62,7 +62,7 @@ impl Session {
     pub fn expect(&mut self, moment: u32, p: Prop) -> Result<Verdict, FollowError>
         ensures recorded { Records (unless_refused (expected_refusal (the_labelled self.old.network) (the_history self.old.history) moment p.index)
             (Ok (with_expected (the_history self.old.history) moment p.index))) self.old self.new result }
-        ensures right { IfOk result (IsRightVerdict self.new) }
+        ensures right { IfOk result (IsRightNow self.new) }
     {
         let mut later = self.history().copy(self.alloc)?;
         if let Err(error) = later.expect(self.execution.network(), moment, p) {
@@ -75,7 +75,7 @@ impl Session {
     fn record(&mut self, later: History) -> Result<Verdict, FollowError>
         requires kept { IsKeptFor (the_labelled self.old.network) later }
         ensures recorded { Records (Ok (the_history later)) self.old self.new result }
-        ensures right { IfOk result (IsRightVerdict self.new) }
+        ensures right { IfOk result (IsRightNow self.new) }
     {
         let finding = match self.execution.finding_after(self.alloc, &later, self.cap) {
             Ok(finding) => finding,

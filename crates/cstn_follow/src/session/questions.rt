@@ -7,10 +7,9 @@ ghost use Rattle.cstn_lift.specs.Read.{the_labelled};
 ghost use Rattle.cstn_plan.specs.Plans.{the_bounds};
 ghost use Rattle.cstn_check.specs.Growth.{log_of, live_bounds};
 ghost use Rattle.cstn_history.specs.Read.{the_history, the_fact_refusal};
-ghost use Rattle.cstn_history.specs.Rest.{is_left};
 ghost use Rattle.cstn_follow.specs.Answers.{IsRightOutlook, TellsOutlook, IsLeftRefuted, IsRightLatest, TellsLatest, IsRightBlame, TellsBlame};
 ghost use Rattle.cstn_follow.specs.Answers.{SaidNo, SaidYes, wait_refusal, HasRoomLeftToWait};
-ghost use Rattle.cstn_follow.specs.Executions.{left_of};
+ghost use Rattle.cstn_follow.specs.Executions.{execution_left};
 ghost use Rattle.cstn_follow.specs.Sessions.{execution_of};
 
 use super::Session;
@@ -43,8 +42,8 @@ impl Session {
     // What is next by this plan of what is left.
     fn next_planned(&self, plan: &SoundPlan) -> Result<Outlook, AllocError>
         requires yes { SaidYes self.now }
-        requires planned { the_network plan.now.net ≡ lowered (left_of (execution_of self.now)) }
-        requires live { the_bounds plan.now.bounds ≡ live_bounds (log_of (lowered (left_of (execution_of self.now)))) }
+        requires planned { the_network plan.now.net ≡ lowered (execution_left (execution_of self.now)) }
+        requires live { the_bounds plan.now.bounds ≡ live_bounds (log_of (lowered (execution_left (execution_of self.now)))) }
         ensures right { IfOk result (IsRightOutlook (the_labelled self.now.network) (the_history self.now.history)) }
         ensures told { IfOk result (TellsOutlook self.now) }
     {
@@ -68,7 +67,7 @@ impl Session {
 
     /// What is left. Fails for want of memory alone.
     pub fn rest(&self) -> Result<Labelled, AllocError>
-        ensures rest { IfOk result (λ l. the_labelled l ≡ left_of (execution_of self.now)) }
+        ensures rest { IfOk result (λ l. the_labelled l ≡ execution_left (execution_of self.now)) }
     {
         match self.execution.rest(self.alloc) {
             Ok(rest) => Ok(rest),

@@ -10,7 +10,8 @@ use Rattle.cstn_net.specs.Read.{the_network, the_constraint}
 use Rattle.cstn_change.specs.Changes.{ValueRange}
 use Rattle.cstn_change.specs.declared.errors.EditError.TheVariants.{NotObserved}
 use Rattle.cstn_label.proofs.PlainLabels.{plain_true}
-use Rattle.cstn_change.proofs.RefusalLemmas.{add_out_of_range, add_not_plain, add_by_observed, value_true, value_false, plain_false, least_first, none_first, least_prop}
+use Rattle.cstn_change.proofs.RefusalLemmas.{add_out_of_range, add_not_plain, add_by_observed, value_true, value_false, plain_false, least_first, none_first}
+use Rattle.cstn_change.proofs.RefusalLemmas.{least_prop}
 use Rattle.cstn_change.proofs.refusals.add_refusal.Goals as goal
 
 -- there is room for one more among the constraints of the definition

@@ -8,7 +8,8 @@ use Rattle.cstn_check.specs.Growth.{grow}
 use Rattle.cstn_check.specs.declared.growth.Grown.TheVariants.{Full}
 use Rattle.cstn_check.proofs.Starts.{GoesOn}
 use Rattle.cstn_edit.specs.Sessions.{verdict_by}
-use Rattle.cstn_edit.proofs.VerdictLemmas.{log_on, small_where_empty, room_where_not, small_outcome, small_after, grown_outcome, grown_log, verdict_is, yes_by, yes_spent, spent_entries}
+use Rattle.cstn_edit.proofs.VerdictLemmas.{log_on, small_where_empty, room_where_not, small_outcome, small_after, grown_outcome, grown_log, verdict_is, yes_by}
+use Rattle.cstn_edit.proofs.VerdictLemmas.{yes_spent, spent_entries}
 use Rattle.cstn_edit.proofs.answers.answer.Goals as goal
 
 pub grow_further-grown-requires-clause-growable : goal.grow_further-grown-requires-clause-growable
@@ -89,3 +90,6 @@ returns-clause-spent c = λ load said.
 
 pub returns-clause-most_tries : goal.returns-clause-most_tries
 returns-clause-most_tries c = λ settled afresh. c.grow_further-grown.ensures.most_tries settled (not_full c)
+
+pub returns-clause-ids : goal.returns-clause-ids
+returns-clause-ids c = λ afresh. c.grow_further-grown.ensures.grown.ids

@@ -14,7 +14,7 @@ use Rattle.cstn_check.specs.Needs.{said}
 use Rattle.cstn_follow.specs.Tries.{with_base}
 use Rattle.cstn_follow.specs.Needs.{sources}
 use Rattle.cstn_follow.proofs.Fewer.{stands_by}
-use Rattle.cstn_follow.specs.Blame.{alone}
+use Rattle.cstn_follow.specs.Blame.{network_alone}
 use Rattle.cstn_follow.proofs.Parts.{not_too_many}
 use Rattle.cstn_follow.proofs.blames.said_by.Goals as goal
 
@@ -36,7 +36,7 @@ rest-requires-clause-kept c =
     let m = the_labelled c.args.network.now in
     let h = the_history c.args.history.now in
     let kept = c.requires.tries.kept in
-    let part = alone m c.requires.part.0 in
+    let part = network_alone m c.requires.part.0 in
     let timely = c.edits_keep_histories.ensures.history m h m.base.deadline part.base.constraints kept.history kept.in_time in
     subst (λ (l : Labelled). IsKeptFor l c.args.history.now) (sym (c.in_ok-less.ensures.base ∙ ap (with_base m) c.requires.part.1))
     (record { one_each = kept.one_each; wide = kept.wide; history = timely.history; in_time = timely.in_time })

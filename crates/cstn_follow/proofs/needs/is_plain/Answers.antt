@@ -1,4 +1,5 @@
-use Rattle.std.proofs.Common.{◌≡◌, Bool, true, false, refl, rules, sym, subst}
+use Rattle.std.proofs.Common.{◌≡◌, rules, sym, subst}
+use Rattle.cstn_facts.proofs.Booleans.{same_truth}
 use Rattle.cstn_label.specs.Labels.{IsPlain}
 use Rattle.cstn_label.specs.Read.{marks}
 use Rattle.cstn_net.specs.Read.{the_constraint}
@@ -7,11 +8,6 @@ use Rattle.cstn_lift.specs.Lowered.{is_plain}
 use Rattle.cstn_lift.specs.Read.{the_labelled}
 use Rattle.cstn_follow.proofs.needs.is_plain.Goals as goal
 
-same_test : (a b : Bool) → (a ≡ true → b ≡ true) → (b ≡ true → a ≡ true) → a ≡ b
-same_test true b there back = sym (there refl)
-same_test false true there back = back refl
-same_test false false there back = refl
-
 pub returns : goal.returns
 returns c =
     let m = the_labelled c.args.network.now in
@@ -19,4 +15,4 @@ returns c =
     let whole : marks c.completed.result ≡ full = search rules in
     let told = c.plain_constraints_are_kept.ensures.plain m (the_constraint c.args.c.now) c.base.ensures.labelled c.requires.given in
     let said = c.is_plain.ensures.plain in
-    same_test c.is_plain.result (is_plain full) (λ t. told.1 (subst IsPlain whole (said.0 t))) (λ t. said.1 (subst IsPlain (sym whole) (told.0 t)))
+    same_truth c.is_plain.result (is_plain full) (λ t. told.1 (subst IsPlain whole (said.0 t))) (λ t. said.1 (subst IsPlain (sym whole) (told.0 t)))

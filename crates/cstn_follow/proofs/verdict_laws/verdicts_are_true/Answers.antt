@@ -1,9 +1,5 @@
-use Rattle.cstn_follow.proofs.GoesOn.{yes_can, no_cannot, full_is_above}
+use Rattle.cstn_follow.proofs.GoesOn.{verdict_right}
 use Rattle.cstn_follow.proofs.verdict_laws.verdicts_are_true.Goals as goal
 
 pub returns : goal.returns
-returns c = record {
-  yes = yes_can;
-  no = no_cannot;
-  full = full_is_above;
-}
+returns c = record { right = verdict_right }

@@ -3,7 +3,7 @@ use Rattle.std.proofs.lemmas.Int.{to_z-of_z}
 use Rattle.cstn_label.specs.Read.{marks}
 use Rattle.cstn_change.specs.Changes.{adds, refusal}
 use Rattle.cstn_change.specs.Read.{the_refusal}
-use Rattle.cstn_edit.specs.Sessions.{SessionParts}
+use Rattle.cstn_edit.specs.Sessions.{EditSessionParts}
 use Rattle.cstn_edit.specs.Edits.{edited_of, with_change, the_session}
 use Rattle.cstn_reply.specs.Texts.{line}
 use Rattle.cstn_edit.proofs.Edits.{accepted, refused}
@@ -26,7 +26,7 @@ returns c =
             ∙ ap (λ (xs : List ℕ). xs ++ line (codes "added " ++ decimal w.in-Ok.id)) c.requires.empty
             ∙ ap (λ (id : ℕ). line (codes "added " ++ decimal id)) w.in-Ok.ensures.id)
             (w.in-Ok.ensures.session refl ∙ ap (λ (most : ℤ). with_change (the_session s) (adds c.args.from.0 c.args.to.0 most a)) same)
-            (ap (λ (x : SessionParts). x.cap) w.in-Ok.ensures.added)
+            (ap (λ (x : EditSessionParts). x.cap) w.in-Ok.ensures.added)
         | in-Err w ↦
             refused c.args.self.now s c.add.new.self c.self.inside.names c.self.inside.verdict c.self.view_is c.self.invariant.0.room change c.match-add.text
             (the_refusal w.in-Err.error) (w.in-Err.ensures.refusal ∙ why) (w.text-is ∙ w.put_refusal.ensures.line) w.in-Err.ensures.refused

@@ -11,9 +11,9 @@ use Rattle.cstn_net.specs.Read.{the_network, the_constraint}
 use Rattle.cstn_change.specs.Changes.{adds, refusal}
 use Rattle.cstn_change.specs.Read.{the_refusal}
 use Rattle.cstn_change.specs.declared.errors.EditError.TheVariants.{NoRoom, ValueRange, NotObserved}
-use Rattle.cstn_edit.specs.Sessions.{SessionParts}
+use Rattle.cstn_edit.specs.Sessions.{EditSessionParts}
 use Rattle.cstn_edit.specs.Edits.{the_session, with_change}
-use Rattle.cstn_edit.specs.Fresh.{ids_of}
+use Rattle.cstn_edit.specs.Fresh.{constraint_ids}
 use Rattle.cstn_edit.proofs.EditLemmas.{added_seen, refusal_seen, refused_where}
 use Rattle.cstn_edit.proofs.FreshLemmas.{some_short, added_freshened}
 use Rattle.cstn_edit.proofs.AddLemmas.{added_session}
@@ -40,7 +40,7 @@ invariant_of-self c =
 pub unwrap-requires : goal.unwrap-requires
 unwrap-requires c =
     let room = c.in_default.ensures.possible.room in
-    let some = some_short c.self.inside.fresh.items (ids_of c.self.inside.net.constraints) c.self.invariant.1.some in
+    let some = some_short c.self.inside.fresh.items (constraint_ids c.self.inside.net.constraints) c.self.invariant.1.some in
     c.push.ensures.succeeds (omega (arith, some, room, length-map c.self.inside.net.constraints the_constraint, length-map c.self.inside.net.constraints (λ (d : Constraint). d.id), c.self.invariant.1.for_fresh, c.self.inside.fresh.ok))
 
 pub returns-in-Some-clause-refusal : goal.returns-in-Some-clause-refusal
@@ -58,7 +58,7 @@ returns-in-Some-clause-no_room c = λ room.
     let both = c.in-Some.ensures.no_room room in
     let fits = c.self.invariant.0.fits in
     refused_where _ c.args.self.now c.in-Some.error (NoRoom room)
-    (λ (v : SessionParts). (v.edits < most_edits) × (length v.net.constraints ≡ v.room) × (room ≡ v.room)) c.self.view_is (
+    (λ (v : EditSessionParts). (v.edits < most_edits) × (length v.net.constraints ≡ v.room) × (room ≡ v.room)) c.self.view_is (
       λ e. let said = both.0 e in (said.0, (let full = said.1 in omega arith), said.2),
       λ said. both.1 (said.0, (let full = said.1 in omega arith), said.2),
     )
@@ -66,12 +66,12 @@ returns-in-Some-clause-no_room c = λ room.
 pub returns-in-Some-clause-value : goal.returns-in-Some-clause-value
 returns-in-Some-clause-value c = λ v.
     refused_where _ c.args.self.now c.in-Some.error (ValueRange v)
-    (λ (s : SessionParts). (s.edits < most_edits) × (length s.net.constraints < s.room) × (IsValue c.args.most → ⊥) × (v ≡ c.args.most)) c.self.view_is
+    (λ (s : EditSessionParts). (s.edits < most_edits) × (length s.net.constraints < s.room) × (IsValue c.args.most → ⊥) × (v ≡ c.args.most)) c.self.view_is
     (rw (to_z-of_z w32 c.args.most c.ranges.most) at (c.in-Some.ensures.value v))
 
 pub returns-in-Some-clause-observed : goal.returns-in-Some-clause-observed
 returns-in-Some-clause-observed c = λ p.
     refused_where _ c.args.self.now c.in-Some.error (NotObserved p)
-    (λ (s : SessionParts). (s.edits < most_edits) × (length s.net.constraints < s.room) × IsValue c.args.most × IsPlain (marks c.args.label)
+    (λ (s : EditSessionParts). (s.edits < most_edits) × (length s.net.constraints < s.room) × IsValue c.args.most × IsPlain (marks c.args.label)
     × IsLeastUnobserved (the_network s.net) (marks c.args.label) p.index) c.self.view_is
     (rw (to_z-of_z w32 c.args.most c.ranges.most) at (c.in-Some.ensures.observed p))

@@ -4,7 +4,7 @@ use Rattle.cstn_log.specs.Entries.{the_entries, first_entries}
 use Rattle.std.proofs.Common.{◌≡◌}
 use Rattle.std.proofs.lemmas.Bool.{false≢true}
 use Rattle.cstn_edit.specs.Edits.{Session}
-use Rattle.cstn_edit.specs.Fresh.{ids_of}
+use Rattle.cstn_edit.specs.Fresh.{constraint_ids}
 use Rattle.cstn_edit.proofs.FreshLemmas.{some_none}
 use Rattle.cstn_edit.proofs.StartLemmas.{started_log, started_session, started_seen}
 use Rattle.cstn_net.specs.Read.{NetworkParts}
@@ -26,7 +26,7 @@ invariant_of-result c =
           (omega (arith, c.id_above-next.ensures.above, c.id_above-next.ensures.small)) c.in_ok-reserve.ensures.room kept
           c.in_ok-log.ensures.births c.id_above-next.ensures.above,
       record {
-        some = rw c.in_ok-fresh.ensures.items (some_none (ids_of c.reserve.new.self.constraints));
+        some = rw c.in_ok-fresh.ensures.items (some_none (constraint_ids c.reserve.new.self.constraints));
         spent = λ t. absurd (false≢true t);
         for_fresh = omega (arith, c.in_ok-fresh.ensures.capacity);
         for_list = omega (arith, c.in_ok-list.ensures.capacity);

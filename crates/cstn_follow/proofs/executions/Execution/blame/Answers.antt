@@ -2,17 +2,17 @@ use Rattle.std.proofs.Common.{ℕ, sym, subst}
 use Rattle.std.specs.Prelude.{IfOk}
 use Rattle.std.specs.List.{Contains}
 use Rattle.cstn_check.specs.Givers.{but, is_of}
-use Rattle.cstn_follow.specs.Blame.{alone}
+use Rattle.cstn_follow.specs.Blame.{network_alone}
 use Rattle.cstn_history.specs.Continuations.{Can}
 use Rattle.cstn_history.specs.Handed.{HasRoom}
 use Rattle.cstn_history.specs.Read.{the_history}
 use Rattle.cstn_lift.specs.Read.{the_labelled}
-use Rattle.cstn_follow.specs.Executions.{ExecutionParts, left_of}
+use Rattle.cstn_follow.specs.Executions.{ExecutionParts, execution_left}
 use Rattle.cstn_follow.proofs.executions.Execution.blame.Goals as goal
 
 pub blame-requires-clause-room : goal.blame-requires-clause-room
-blame-requires-clause-room c = subst (λ (e : ExecutionParts). HasRoom (left_of e)) (sym c.self.view_is) c.requires.room
+blame-requires-clause-room c = subst (λ (e : ExecutionParts). HasRoom (execution_left e)) (sym c.self.view_is) c.requires.room
 
 pub returns-clause-needed : goal.returns-clause-needed
 returns-clause-needed c = subst (λ (e : ExecutionParts). IfOk c.blame.result (λ ids. (id : ℕ) → Contains ids.items id
-    → Can (alone (the_labelled e.network) (but id (is_of ids.items))) (the_history e.history))) c.self.view_is c.blame.ensures.needed
+    → Can (network_alone (the_labelled e.network) (but id (is_of ids.items))) (the_history e.history))) c.self.view_is c.blame.ensures.needed

@@ -5,12 +5,12 @@ use Rattle.cstn_history.specs.Read.{the_history}
 use Rattle.cstn_history.specs.declared.errors.RestError.TheVariants.{TooManyConstraints}
 use Rattle.cstn_lift.specs.Lowered.{lowered}
 use Rattle.cstn_lift.specs.Read.{the_labelled}
-use Rattle.cstn_follow.specs.Executions.{ExecutionParts, left_of}
+use Rattle.cstn_follow.specs.Executions.{ExecutionParts, execution_left}
 use Rattle.cstn_follow.specs.Findings.{IsFindingOn, verdict_of}
 use Rattle.cstn_follow.proofs.executions.Execution.finding.Goals as goal
 
 pub returns-clause-finding : goal.returns-clause-finding
-returns-clause-finding c = subst (λ (e : ExecutionParts). IfOk c.finding_left.result (IsFindingOn c.args.cap.entries (lowered (left_of e)))) c.self.view_is
+returns-clause-finding c = subst (λ (e : ExecutionParts). IfOk c.finding_left.result (IsFindingOn c.args.cap.entries (lowered (execution_left e)))) c.self.view_is
     c.finding_left.ensures.finding
 
 pub returns-clause-verdict : goal.returns-clause-verdict

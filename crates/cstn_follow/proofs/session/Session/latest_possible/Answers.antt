@@ -3,7 +3,7 @@ use Rattle.std.specs.Prelude.{Err}
 use Rattle.cstn_lift.specs.Read.{the_labelled}
 use Rattle.cstn_history.specs.Continuations.{Can}
 use Rattle.cstn_history.specs.Read.{the_history}
-use Rattle.cstn_follow.specs.Answers.{HasRoomLeftToWait, IsLatest, wait_of}
+use Rattle.cstn_follow.specs.Answers.{HasRoomLeftToWait, IsLatest, wait_found}
 use Rattle.cstn_follow.specs.Sessions.{SessionParts, IsSession}
 use Rattle.cstn_follow.proofs.Found.{followed_session, can_go_on}
 use Rattle.cstn_follow.proofs.session.Session.latest_possible.Goals as goal
@@ -28,9 +28,9 @@ returns-in-Ok-clause-right c = (
 
 pub returns-in-Ok-clause-told : goal.returns-in-Ok-clause-told
 returns-in-Ok-clause-told c =
-    (c.requires.room, c.requires.yes, subst (λ (s : SessionParts). wait_of s c.args.x.0 ≡ Some c.in-Ok.moment) c.self.view_is c.in-Ok.ensures.until)
+    (c.requires.room, c.requires.yes, subst (λ (s : SessionParts). wait_found s c.args.x.0 ≡ Some c.in-Ok.moment) c.self.view_is c.in-Ok.ensures.until)
 
 pub returns-in-Err-Full-clause-told : goal.returns-in-Err-Full-clause-told
 returns-in-Err-Full-clause-told c =
     let full = (c.latest.ensures.full (c.in-Err-Full.is ∙ ap (λ d. Err d) c.in-Err-Full.field-0-is)).1 in
-    (c.requires.room, inr (c.requires.yes, subst (λ (s : SessionParts). wait_of s c.args.x.0 ≡ None) c.self.view_is full))
+    (c.requires.room, inr (c.requires.yes, subst (λ (s : SessionParts). wait_found s c.args.x.0 ≡ None) c.self.view_is full))

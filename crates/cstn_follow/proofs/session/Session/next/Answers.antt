@@ -2,7 +2,7 @@ use Rattle.std.proofs.Common.{subst, ap, ◌∙◌}
 use Rattle.cstn_lift.specs.Lowered.{lowered}
 use Rattle.cstn_check.specs.Growth.{log_of, live_bounds}
 use Rattle.cstn_follow.specs.Answers.{SaidYes, SaidNo}
-use Rattle.cstn_follow.specs.Executions.{left_of}
+use Rattle.cstn_follow.specs.Executions.{execution_left}
 use Rattle.cstn_follow.specs.Sessions.{SessionParts, IsSession, execution_of}
 use Rattle.cstn_follow.specs.Findings.{verdict_of}
 use Rattle.cstn_follow.proofs.Found.{followed_session, right_verdict, planned_says}
@@ -15,13 +15,13 @@ pub next_planned-requires-clause-planned : goal.next_planned-requires-clause-pla
 next_planned-requires-clause-planned c =
     let w = c.self.inside in
     (planned_says w.execution w.cap.entries w.edits w.finding _ _ c.self.invariant c.in-Planned.is).1
-    ∙ ap (λ (s : SessionParts). lowered (left_of (execution_of s))) c.self.view_is
+    ∙ ap (λ (s : SessionParts). lowered (execution_left (execution_of s))) c.self.view_is
 
 pub next_planned-requires-clause-live : goal.next_planned-requires-clause-live
 next_planned-requires-clause-live c =
     let w = c.self.inside in
     (planned_says w.execution w.cap.entries w.edits w.finding _ _ c.self.invariant c.in-Planned.is).2
-    ∙ ap (λ (s : SessionParts). live_bounds (log_of (lowered (left_of (execution_of s))))) c.self.view_is
+    ∙ ap (λ (s : SessionParts). live_bounds (log_of (lowered (execution_left (execution_of s))))) c.self.view_is
 
 pub returns-in-Refuted-clause-right : goal.returns-in-Refuted-clause-right
 returns-in-Refuted-clause-right c =

@@ -7,7 +7,7 @@ use Rattle.cstn_change.specs.Changes.{EditedNetwork, edited_base}
 use Rattle.cstn_follow.specs.Following.{verdict_left}
 use Rattle.cstn_follow.specs.Executions.{ExecutionParts}
 use Rattle.cstn_follow.specs.Replans.{Replans}
-use Rattle.cstn_follow.specs.Sessions.{SessionParts, followed}
+use Rattle.cstn_follow.specs.Sessions.{SessionParts, session_parts}
 use Rattle.cstn_follow.proofs.Found.{is_followed, found_right}
 use Rattle.cstn_follow.proofs.Changed.{labels_stay, not_replanned, replanned_by}
 use Rattle.cstn_follow.proofs.session.Session.replan.Goals as goal
@@ -17,7 +17,7 @@ returns-in-Err-clause-replanned c =
     let w = c.self.inside in
     let a = c.args in
     let e : EditedNetwork = edited_base (the_labelled a.network) a.fresh a.edits in
-    let old : SessionParts = followed w.execution w.cap.entries w.edits w.finding in
+    let old : SessionParts = session_parts w.execution w.cap.entries w.edits w.finding in
     let labels = subst (λ (s : SessionParts). (the_labelled a.network).labels ≡ (the_labelled s.network).labels) (sym c.self.view_is) c.requires.labels in
     let is = sym (labels_stay old a.network a.fresh a.edits labels) in
     subst (λ (s : SessionParts). Replans e s s (Err c.in-Err.error)) c.self.view_is
@@ -38,7 +38,7 @@ returns-clause-replanned c =
     let f = c.in-Ok.finding in
     let v = c.verdict-verdict.result in
     let e : EditedNetwork = edited_base (the_labelled a.network) a.fresh a.edits in
-    let new : SessionParts = followed c.replan.new.self w.cap.entries a.edits f in
+    let new : SessionParts = session_parts c.replan.new.self w.cap.entries a.edits f in
     let labels = subst (λ (s : SessionParts). (the_labelled a.network).labels ≡ (the_labelled s.network).labels) (sym c.self.view_is) c.requires.labels in
     subst (λ (s : SessionParts). Replans e s new (Ok v)) c.self.view_is
     (replanned_by w.execution c.replan.new.self a.network a.fresh w.cap.entries w.edits a.edits w.finding f v c.replan.ensures.replanned labels
