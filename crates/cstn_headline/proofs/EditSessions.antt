@@ -38,7 +38,7 @@ use Rattle.cstn_reply.specs.Sessions.{Turn, more, last, wrong, on_turn}
 use Rattle.cstn_edit.specs.Editing.{Editing, begun_editing, answered_edit, answered_change, answered, edit_turn, edit_ending, verdict_text, outcome_text, last_checked}
 use Rattle.cstn_reply.specs.Reached.{state_after}
 use Rattle.cstn_reply.proofs.Sessions.{first_leads, says_next}
-use Rattle.cstn_top.specs.Accepted.{IsNoText, HasIds}
+use Rattle.cstn_headline.specs.Accepted.{IsNoText, HasIds}
 use Rattle.cstn_top.specs.Lines.{AreAnswered}
 use Rattle.cstn_headline.proofs.ReadBack.{StepsBack}
 use Rattle.cstn_headline.proofs.EditTexts.{next_small, kept_text}

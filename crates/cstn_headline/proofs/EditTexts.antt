@@ -1,18 +1,14 @@
 -- What an edit session says after no is accepted by a replay on the network as edited.
-use Rattle.std.proofs.Common.{◌≡◌, ◌≢◌, ℕ, ◌+◌, ◌-◌, ◌≤◌, ◌<◌, ◌^◌, Bool, true, false, List, [], ◌∷◌, length, get_or, Some, refl, sym, ap, subst, inl, inr, arith}
-use Rattle.std.specs.Prelude.{nat_lt, nat_le, Result, Ok, Err, if◌then◌else◌, codes, pos, ◌≤ℤ◌, slice_get, Option, None}
+use Rattle.std.proofs.Common.{◌≡◌, ℕ, ◌+◌, ◌-◌, ◌≤◌, ◌<◌, ◌^◌, Bool, true, false, List, [], ◌∷◌, length, get_or, Some, refl, sym, ap, subst, arith}
+use Rattle.std.specs.Prelude.{nat_le, Result, Ok, Err, if◌then◌else◌, pos, ◌≤ℤ◌, slice_get, Option, None}
 use Rattle.std.specs.List.{All}
 use Rattle.std.proofs.lemmas.Int.{ints}
 use Rattle.std.proofs.lemmas.Bool.{leb-false}
 use Rattle.std.proofs.lemmas.List.Elements.{All-contains}
 use Rattle.std.proofs.lemmas.Option.{slice_get_within, slice_get-get_or}
-use Rattle.cstn_label.specs.declared.marks.Mark.{Mark}
-use Rattle.cstn_label.specs.declared.marks.Mark.TheVariants.{Absent, Yes, No, Unknown}
 use Rattle.cstn_label.specs.Bounds.{Bound}
-use Rattle.cstn_label.specs.Labels.{Label}
 use Rattle.cstn_net.specs.Limits.{most_load, most_edits, most_constraints}
 use Rattle.cstn_net.specs.Networks.{Network, Constraint, IsWellFormed, IsOnObserved, count, limit}
-use Rattle.cstn_text.specs.Limits.{most_text}
 use Rattle.cstn_rules.specs.declared.entries.Why.{Why}
 use Rattle.cstn_rules.specs.declared.entries.Why.TheVariants.{Base, Chain, Wait}
 use Rattle.cstn_rules.specs.Derivations.{Entry, Follows, IsRefutation}
@@ -26,19 +22,14 @@ use Rattle.cstn_text.specs.Names.{AreNames}
 use Rattle.cstn_refute.specs.Texts.{Told, tells, told, shown}
 use Rattle.cstn_refute.specs.Written.{ArePlaces, IsPrintableStep, AreWritten}
 use Rattle.cstn_lines.specs.EditLines.{Edit, added, removed, changed, asked, edit_read}
-use Rattle.cstn_reply.specs.Texts.{say}
-use Rattle.cstn_top.specs.Plans.{Plan, replays, IsOutput}
-use Rattle.cstn_top.specs.Answers.{Answer, by_text}
 use Rattle.cstn_top.specs.commands.Replay.{replayed_steps, replayed}
-use Rattle.cstn_top.specs.Accepted.{IsAccepted, IsNoText, HasIds}
-use Rattle.cstn_reply.specs.declared.output.Outcome.TheVariants.{Good}
+use Rattle.cstn_headline.specs.Accepted.{IsAccepted, IsNoText, HasIds}
 use Rattle.cstn_change.specs.Changes.{EditedNetwork, Change, adds, removes, revalues, Refusal, EditLimit, unedited, refusal, after, if_accepted}
 use Rattle.cstn_change.specs.ChangeLines.{addition, after_change, after_edit, after_lines}
 use Rattle.cstn_change.proofs.IdLemmas.{above_small, one_id}
 use Rattle.cstn_top.proofs.Listing.{limit_in_time}
 use Rattle.cstn_headline.proofs.Lengths.{steps_text_short}
-use Rattle.cstn_top.proofs.ReadBack.{no_refutation}
-use Rattle.cstn_headline.proofs.ReadBack.{StepsBack}
+use Rattle.cstn_headline.proofs.ReadBack.{letters_alone, short_text, replay_accepted, StepsBack}
 
 -- ---- ids stay numbers of 32 bits
 
@@ -96,30 +87,6 @@ next_small names net lines small =
     omega (arith, few, next)
 
 -- ---- the text of a kept list that refutes
-
-absent : (m : Mark) → (m ≢ Absent → ⊥) → m ≡ Absent
-absent Absent never = refl
-absent Yes never = absurd (never (λ e. cc))
-absent No never = absurd (never (λ e. cc))
-absent Unknown never = absurd (never (λ e. cc))
-
--- a label that marks observed propositions alone marks none above the letters
-letters_alone : (net : Network) (a : Label) → IsWellFormed net → IsOnObserved net a → (p : ℕ) → 52 ≤ p → a p ≡ Absent
-letters_alone net a good on p above = absent (a p) (λ named. let seen = on p named in let below = good.letters seen.0 p seen.1 in omega (arith, above, below))
-
--- a text that is short enough isn't refused for its length
-short_text : (speaks : List ℕ → Answer) (text : List ℕ) (names : List (List ℕ)) (net : Network) → length text ≤ most_text → by_text speaks text names net ≡ speaks text names net
-short_text speaks text names net short = within most_text (length text) _ (speaks text names net) short
-  where
-    within : (n m : ℕ) (one other : Plan) → m ≤ n → (if nat_lt n m then one else other) ≡ other
-    within n m one other le = grind arith
-
-replay_accepted : (net : Network) (steps : List Entry) → IsRefutation net steps → IsAccepted (replays steps net)
-replay_accepted net steps refutation live said = (only, λ same. inl (refutation, same))
-  where
-    only : IsOutput (replays steps net) live said → said ≡ say Good (codes "accepted")
-    only (inl found) = found.1
-    only (inr found) = absurd (no_refutation net steps found.0 found.1 refutation)
 
 module _ (names : List (List ℕ)) (net : Network) (good : IsWellFormed net) (named : length names ≡ count net) (ids : HasIds net)
     (list : List Entry) (kept : IsKept net list) (few : length list ≤ most_load) (refutation : IsRefutation net list) where

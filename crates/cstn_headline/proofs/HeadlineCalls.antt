@@ -5,15 +5,15 @@ use Rattle.cstn_request.specs.Requests.{Request}
 use Rattle.cstn_reply.specs.Written.{LiveState, IsWritten}
 use Rattle.cstn_reply.specs.declared.status.Status.{Status}
 use Rattle.cstn_top.specs.Plans.{Ends}
-use Rattle.cstn_top.specs.Dispatch.{command_of, plan_at}
-use Rattle.cstn_top.specs.Meanings.{IsStopped}
+use Rattle.cstn_top.specs.Dispatch.{plan_at}
+use Rattle.cstn_top.specs.Meanings.{IsStopped, IsRanged}
 use Rattle.cstn_top.specs.Told.{IsTold}
 use Rattle.cstn_headline.specs.Headline.{HasContents, IsCall}
 
 -- what was written for a request, whose cap is in range
 abbrev Tells : Request → LiveState → LiveState → List ℕ → Status → List (List ℕ) → Option (List ℕ) → Type 0
 Tells request before after old status contents new =
-    Ends (plan_at request contents) before after (Some old) new status × (command_of request).ranged
+    Ends (plan_at request contents) before after (Some old) new status × IsRanged request
 
 -- a call that wrote this text, and wasn't stopped
 wrote : (request : Request) (contents : List (List ℕ)) (live old text : List ℕ) (new : Option (List ℕ)) (status : Status) (before after : LiveState) → before.left ≡ Some live → (IsStopped status → ⊥) → new ≡ Some (old ++ text) → Tells request before after old status contents new → IsCall request contents live old new status

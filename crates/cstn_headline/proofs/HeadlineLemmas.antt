@@ -2,8 +2,6 @@
 use Rattle.std.proofs.Common.{◌≡◌, ℕ, ◌≤◌, ◌<◌, List, [], ◌∷◌, ◌++◌, map, refl, sym, ap, ◌∙◌, subst, inl, inr, arith}
 use Rattle.std.specs.Prelude.{◌⊎◌, Option, None, Some, Result, IfSome, IsSomeAnd, codes}
 use Rattle.std.specs.List.{All}
-use Rattle.std.proofs.lemmas.Option.{same_Some}
-use Rattle.std.proofs.lemmas.List.{append_cancel_left}
 use Rattle.std.proofs.lemmas.List.Elements.{All-head, All-tail}
 use Rattle.cstn_io.specs.Contents.{IsAllOf}
 use Rattle.cstn_net.specs.Networks.{Network}
@@ -19,37 +17,36 @@ use Rattle.cstn_check.specs.Growth.{load_of}
 use Rattle.cstn_lines.specs.Pieces.{lines_of}
 use Rattle.cstn_request.specs.Requests.{Request, check, run, edit, replay}
 use Rattle.cstn_reply.specs.Texts.{Said, yes_line}
+use Rattle.cstn_top.proofs.Labels.{of_parts, labelled_then}
+use Rattle.cstn_top.proofs.Endings.{status_alone, EndsAs, end_status}
+use Rattle.cstn_headline.specs.Headline.{CallTells, Document, network, printed_names, HasStrategy, load, edited, Call, Checked, Ran, Replayed, Edited, Decides, IsEditedVerdict, WasWritten, IsExecutedOver}
+use Rattle.cstn_headline.specs.Telling.{Telling, Tells, OfLabelled}
+use Rattle.cstn_headline.specs.commands.Check.{check_telling}
+use Rattle.cstn_headline.specs.commands.Run.{AnswersLeast, WroteRun, run_telling}
+use Rattle.cstn_headline.specs.commands.Edit.{AtLastCheck, WroteEdits, edit_telling}
+use Rattle.cstn_headline.specs.commands.Replay.{replay_telling}
+use Rattle.cstn_headline.proofs.Checks.{VerdictsLabelled, check_verdicts}
+use Rattle.cstn_headline.proofs.records.Run.{yes_planned, answers_least}
 use Rattle.cstn_top.specs.Plans.{IsOutput}
 use Rattle.cstn_top.specs.Answers.{LabelledAnswer, of_lowered, on_labelled, by_text}
 use Rattle.cstn_top.specs.commands.Check.{checked}
 use Rattle.cstn_top.specs.Verdicts.{IsLabelledYes}
-use Rattle.cstn_top.specs.Accepted.{IsNoText}
-use Rattle.cstn_top.specs.commands.Replay.{replayed, IsRefutedBy}
+use Rattle.cstn_top.specs.commands.Replay.{replayed}
 use Rattle.cstn_top.specs.Dispatch.{plan_at}
 use Rattle.cstn_top.specs.Meanings.{IsStopped}
-use Rattle.cstn_top.specs.commands.Run.{run_bounds, AnswersLeast, WroteRun}
-use Rattle.cstn_top.specs.commands.Edit.{IsVerdictOn, EditEnds, WroteEdits}
-use Rattle.cstn_request.specs.Documents.{AreEmpty, AreUnlabelled}
+use Rattle.cstn_top.specs.commands.Run.{run_bounds}
+use Rattle.cstn_request.specs.Documents.{AreEmpty, AreUnlabelled, parts_of, HasLabelled, HasNetwork, IsNoDocument, IsRefused}
 use Rattle.cstn_reply.specs.Statuses.{status_of}
 use Rattle.cstn_reply.specs.Written.{LiveState}
 use Rattle.cstn_reply.specs.declared.status.Status.{Status}
 use Rattle.cstn_reply.specs.declared.status.Status.TheVariants.{Good as IsYesStatus, Bad as IsNoStatus, Full as IsFullStatus}
 use Rattle.cstn_reply.specs.declared.output.Outcome.{Outcome}
 use Rattle.cstn_reply.specs.declared.output.Outcome.TheVariants.{Good, Bad, Words, Document as IsRefusedOutcome, Full, Unfinished, Script, Wide}
-use Rattle.cstn_request.specs.Documents.{parts_of, HasLabelled, HasNetwork, IsNoDocument, IsRefused}
 use Rattle.cstn_edit.specs.Editing.{begun_editing, last_checked}
 use Rattle.cstn_run.specs.Meanings.{said_to, WasNamed, IsCarriedThrough}
-use Rattle.cstn_refute.specs.Texts.{told as told_by}
 use Rattle.cstn_headline.specs.EditSessions.{IsNoCheck, IsAtLastCheck}
-use Rattle.cstn_headline.specs.Headline.{Document, network, printed_names, HasStrategy, load, edited, Call, Checked, Ran, Replayed, Edited, Decides, IsEditedVerdict, WasWritten, IsExecutedOver}
 use Rattle.cstn_top.proofs.Documents.{labelled_says}
-use Rattle.cstn_top.proofs.Labels.{labelled_then}
-use Rattle.cstn_top.proofs.Meanings.{VerdictsLabelled}
-use Rattle.cstn_top.proofs.records.Check.{check_tells}
-use Rattle.cstn_top.proofs.Endings.{EndsAs, end_status}
 use Rattle.cstn_headline.proofs.EditSessions.{last_is}
-use Rattle.cstn_headline.proofs.Dispatch.{proved}
-use Rattle.cstn_headline.proofs.Dispatched.{WroteEvidence, IsEnded}
 use Rattle.cstn_headline.proofs.Standing.{YesAccepted, NoAccepted}
 use Rattle.cstn_headline.proofs.Told.{call_tells}
 
@@ -130,7 +127,7 @@ check_said d cap before status ended = (ended.2.0.outcome, ended.2.2, tells ende
         by_said (inl refused) = absurd (is_document d refused.1)
         by_said (inr has) =
             of_document d (λ names m. VerdictsLabelled cap m said.outcome)
-            (labelled_then d.bytes d.asked.deadline (λ names m. IsOutput (checked cap names (lowered m)) live said) (λ names m. VerdictsLabelled cap m said.outcome) has (check_tells cap live said))
+            (labelled_then d.bytes d.asked.deadline (λ names m. IsOutput (checked cap names (lowered m)) live said) (λ names m. VerdictsLabelled cap m said.outcome) has (check_verdicts cap live said))
 
 pub check_is_decided : (d : Document) (cap : ℕ) (c : Checked d cap) → ((c.status ≡ IsFullStatus) × (cap < load d)) ⊎ (Decides c.status (HasStrategy d) × (load d ≤ cap))
 check_is_decided d cap c =
@@ -142,8 +139,7 @@ check_is_decided d cap c =
 pub run_is_least : (d : Document) → HasStrategy d → AnswersLeast (printed_names d) (network d) (run_bounds (network d))
 run_is_least d has =
     let within : load d ≤ load d = omega arith in
-    subst (λ (r : Result Parts DocumentRefusal). IfSome (parts_of r) (λ parts. IsFit parts → IsLabelledYes (load d) (labelled_of parts) → AnswersLeast (map printed_name parts.names) (labelled_of parts) (run_bounds (labelled_of parts)))) d.reads
-    ((proved (run d.asked (load d))).least (d.bytes ∷ [])) d.fit (has, within)
+    answers_least (printed_names d) (network d) (run_bounds (network d)) (yes_planned (load d) d.parts.names (network d) (of_parts d.bytes d.asked.deadline d.parts d.reads d.fit) (has, within))
 
 -- where answers are least, what was named is written
 is_written : (names : List (List ℕ)) (m : Labelled) (lines : List (List ℕ)) (x t : ℕ) → AnswersLeast names m (run_bounds m) → WasNamed names m (run_bounds m) lines x t → WasWritten names m lines x t
@@ -162,47 +158,40 @@ executed_over names m lines text least text_is through = record {
   meets = λ s c from to agrees has force one two. through.led.meets s c from to agrees has force ((through.timely.named c.from from).1 one) ((through.timely.named c.to to).1 two);
 }
 
-pub run_is_executed : YesAccepted → NoAccepted → (d : Document) (cap : ℕ) (c : Ran d cap) → c.status ≡ IsYesStatus → IsExecutedOver (printed_names d) (network d) (lines_of c.live) c.text
-run_is_executed yes_text no_text d cap c good = by_wrote tells.0 tells.1
-  where
-    carries : List (List ℕ) → Labelled → Type 0
-    carries ns l = IsLabelledYes cap l × WroteRun c.before.left (Some c.old) (Some (c.old ++ c.text)) (map printed_name ns) l (run_bounds l) (IsCarriedThrough (map printed_name ns) l (run_bounds l))
+-- what an outcome tells of a document tells it of its network
+tells_of : (d : Document) (o other : Outcome) (telling : List (List ℕ) → Labelled → Telling) → OfLabelled d.bytes d.asked.deadline o telling → o ≡ other → Tells (telling d.parts.names (network d)) other
+tells_of d o other telling (inl refused) is = absurd (is_document d refused.1)
+tells_of d o other telling (inr has) is = subst (Tells (telling d.parts.names (network d))) is (of_document d (λ names m. Tells (telling names m) o) has)
 
+pub run_is_executed : YesAccepted → NoAccepted → (d : Document) (cap : ℕ) (c : Ran d cap) → c.status ≡ IsYesStatus → IsExecutedOver (printed_names d) (network d) (lines_of c.live) c.text
+run_is_executed yes_text no_text d cap c good =
+    let tells = call_tells yes_text no_text (run d.asked cap) (d.bytes ∷ []) c in
+    let is = tells_of d tells.0 Good (run_telling cap (Some c.live) c.text) tells.2 (status_alone tells.0 Good (sym tells.1 ∙ good)) in
+    by_wrote is.0 is.1
+  where
     printed : List (List ℕ)
     printed = map printed_name d.parts.names
 
-    tells : carries d.parts.names (network d)
-    tells = of_document d carries ((call_tells yes_text no_text (run d.asked cap) (d.bytes ∷ []) c).carried_out good)
-
-    said : List ℕ → List ℕ
-    said xs = yes_line (load d) ++ (said_to printed (network d) (run_bounds (network d)) (lines_of xs)).text
-
-    by_wrote : IsLabelledYes cap (network d) → WroteRun c.before.left (Some c.old) (Some (c.old ++ c.text)) printed (network d) (run_bounds (network d)) (IsCarriedThrough printed (network d) (run_bounds (network d))) →
-        IsExecutedOver printed (network d) (lines_of c.live) c.text
+    by_wrote : IsLabelledYes cap (network d) → WroteRun (Some c.live) c.text printed (network d) (IsCarriedThrough printed (network d) (run_bounds (network d))) → IsExecutedOver printed (network d) (lines_of c.live) c.text
     by_wrote yes' w =
+        let same : w.live ≡ c.live = w.all c.live refl in
         executed_over printed (network d) (lines_of c.live) c.text (run_is_least d yes'.0)
-        (append_cancel_left c.old c.text (said c.live) (same_Some (c.old ++ c.text) (c.old ++ said c.live) (w.wrote ∙ ap (λ (xs : List ℕ). Some (c.old ++ said xs)) (w.all c.live c.live_is))))
-        (subst (λ (xs : List ℕ). IsCarriedThrough printed (network d) (run_bounds (network d)) (lines_of xs)) (w.all c.live c.live_is) w.of_lines)
+        (w.text_is ∙ ap (λ (xs : List ℕ). yes_line (load d) ++ (said_to printed (network d) (run_bounds (network d)) (lines_of xs)).text) same)
+        (subst (λ (xs : List ℕ). IsCarriedThrough printed (network d) (run_bounds (network d)) (lines_of xs)) same w.of_lines)
 
 -- ---- the derivation
 
 pub derivation_passes : YesAccepted → NoAccepted → (d : Document) (cap : ℕ) (c : Checked d cap) → c.status ≡ IsNoStatus → (file : List ℕ) (r : Replayed d file c.text) → r.status ≡ IsYesStatus
 derivation_passes yes_text no_text d cap c no' file r =
-    by_evidence (subst (λ (s : Status). IsStopped s ⊎ WroteEvidence (Some c.old) (Some (c.old ++ c.text)) s (check d.asked cap) (d.bytes ∷ [])) no' (call_tells yes_text no_text (check d.asked cap) (d.bytes ∷ []) c).evidence)
-  where
-    accepts : IsNoText d.parts.names (lowered (network d)) c.text → r.status ≡ IsYesStatus
-    accepts no_text =
-        let ended = ends (replay d.asked file) (d.bytes ∷ c.text ∷ []) r in
-        ended.2.2 ∙ ap (λ (s : Said). status_of s.outcome) ((no_text ended.0 ended.2.0).0 (answers (of_lowered (by_text replayed c.text)) d ended.0 ended.2.0 ended.2.1))
-
-    by_evidence : IsStopped IsNoStatus ⊎ WroteEvidence (Some c.old) (Some (c.old ++ c.text)) IsNoStatus (check d.asked cap) (d.bytes ∷ []) → r.status ≡ IsYesStatus
-    by_evidence (inl stopped) = absurd (c.unstopped (subst IsStopped (sym no') stopped))
-    by_evidence (inr (wrote, same, has)) =
-        accepts (subst (IsNoText d.parts.names (lowered (network d))) (sym (append_cancel_left c.old c.text wrote (same_Some (c.old ++ c.text) (c.old ++ wrote) same)))
-        (of_document d (λ ns l. IsNoText ns (lowered l) wrote) has))
+    let tells = call_tells yes_text no_text (check d.asked cap) (d.bytes ∷ []) c in
+    let is = tells_of d tells.0 Bad (check_telling cap c.text) tells.2 (status_alone tells.0 Bad (sym tells.1 ∙ no')) in
+    let ended = ends (replay d.asked file) (d.bytes ∷ c.text ∷ []) r in
+    ended.2.2 ∙ ap (λ (s : Said). status_of s.outcome) ((is.1 ended.0 ended.2.0).0 (answers (of_lowered (by_text replayed c.text)) d ended.0 ended.2.0 ended.2.1))
 
 pub replay_is_sound : YesAccepted → NoAccepted → (d : Document) (file text : List ℕ) (r : Replayed d file text) → r.status ≡ IsYesStatus → HasStrategy d → ⊥
-replay_is_sound yes_text no_text d file text r good = (of_document d (λ ns l. IsRefutedBy (told_by ns text) (lowered l) × (IsLabelledConsistent l → ⊥)) ((call_tells yes_text no_text (replay d.asked file) (d.bytes ∷ text ∷ []) r).good good)).1
+replay_is_sound yes_text no_text d file text r good =
+    let tells = call_tells yes_text no_text (replay d.asked file) (d.bytes ∷ text ∷ []) r in
+    (tells_of d tells.0 Good (replay_telling text) tells.2 (status_alone tells.0 Good (sym tells.1 ∙ good))).2
 
 -- ---- edits
 
@@ -225,13 +214,8 @@ same_front P x never (z ∷ xs) (y ∷ ys) us vs one two same =
     let later = same_front P x never xs ys us vs one two rest in
     cc
 
-verdict_decides : (cap : ℕ) (status : Status) (net : Network) → IsVerdictOn cap status (Some net) → IsEditedVerdict cap net status
-verdict_decides cap status net (inl yes') = inr (yes_decides status (IsConsistent net) yes'.0 yes'.1)
-verdict_decides cap status net (inr (inl no')) = inr (no_decides status (IsConsistent net) no'.0 no'.1)
-verdict_decides cap status net (inr (inr full)) = inl full
-
 pub edits_are_decided : YesAccepted → NoAccepted → (d : Document) (cap : ℕ) (edits : List (List ℕ)) (e : Edited d cap edits) → IsEditedVerdict cap (edited d edits) e.call.status
-edits_are_decided yes_text no_text d cap edits e = by_ended (call_tells yes_text no_text (edit d.asked cap) (d.bytes ∷ []) e.call).ended
+edits_are_decided yes_text no_text d cap edits e = by_tells (call_tells yes_text no_text (edit d.asked cap) (d.bytes ∷ []) e.call)
   where
     names : List (List ℕ)
     names = d.parts.names
@@ -239,20 +223,28 @@ edits_are_decided yes_text no_text d cap edits e = by_ended (call_tells yes_text
     base : Network
     base = (network d).base
 
-    by_last : (last : Option Network) → IsAtLastCheck names base (lines_of e.call.live) last → IsVerdictOn cap e.call.status last → IsEditedVerdict cap (edited d edits) e.call.status
-    by_last None all verdict = absurd (none_in IsNoCheck edits (codes "check") e.later (subst (All IsNoCheck) e.lines_are all) refl)
-    by_last (Some net) (front, back, is, no_check, same) verdict =
+    by_last : (holds : Option Network → Type 0) (last : Option Network) → IsAtLastCheck names base (lines_of e.call.live) last → holds last → holds (Some (edited d edits))
+    by_last holds None all has = absurd (none_in IsNoCheck edits (codes "check") e.later (subst (All IsNoCheck) e.lines_are all) refl)
+    by_last holds (Some net) (front, back, is, no_check, same) has =
         let fronts : front ≡ edits = same_front IsNoCheck (codes "check") (λ never. never refl) front edits back e.later no_check e.last (sym is ∙ e.lines_are) in
-        verdict_decides cap e.call.status (edited d edits) (subst (λ (n : Network). IsVerdictOn cap e.call.status (Some n)) (same ∙ ap (edited d) fronts) verdict)
+        subst (λ (n : Network). holds (Some n)) (same ∙ ap (edited d) fronts) has
 
-    by_lines : EditEnds cap e.call.status names base (lines_of e.call.live) → IsEditedVerdict cap (edited d edits) e.call.status
-    by_lines (inl (answered, verdict)) = by_last (last_checked (begun_editing cap names base) None (lines_of e.call.live)) (last_is cap names base (lines_of e.call.live) answered) verdict
-    by_lines (inr (script, stops)) = absurd (e.read script)
+    -- what holds of the network at the last check holds of the one that is edited by the lines before it
+    last_holds : (holds : Option Network → Type 0) → WroteEdits cap (Some e.call.live) e.call.text names base (AtLastCheck cap names base holds) → holds (Some (edited d edits))
+    last_holds holds w =
+        let at = subst (λ (xs : List ℕ). AtLastCheck cap names base holds (lines_of xs)) (w.all e.call.live refl) w.of_lines in
+        by_last holds (last_checked (begun_editing cap names base) None (lines_of e.call.live)) (last_is cap names base (lines_of e.call.live) at.0) at.1
 
-    by_wrote : WroteEdits cap e.call.before.left (Some e.call.old) (Some (e.call.old ++ e.call.text)) e.call.status names base → IsEditedVerdict cap (edited d edits) e.call.status
-    by_wrote w = by_lines (subst (λ (xs : List ℕ). EditEnds cap e.call.status names base (lines_of xs)) (w.all e.call.live e.call.live_is) w.ends)
+    by_outcome : (o : Outcome) → e.call.status ≡ status_of o → Tells (edit_telling cap (Some e.call.live) e.call.text names base) o → IsEditedVerdict cap (edited d edits) e.call.status
+    by_outcome Good at w = inr (yes_decides e.call.status (IsConsistent (edited d edits)) at (last_holds (λ last. IfSome last IsConsistent) w))
+    by_outcome Bad at w = inr (no_decides e.call.status (IsConsistent (edited d edits)) at (last_holds (λ last. IsSomeAnd last (λ net. IsConsistent net → ⊥)) w))
+    by_outcome Full at w = inl (at, last_holds (λ last. IsSomeAnd last (λ net. cap < load_of net)) w)
+    by_outcome Script at w = absurd (e.read at)
+    by_outcome Words at never = absurd never
+    by_outcome IsRefusedOutcome at never = absurd never
+    by_outcome Unfinished at never = absurd never
+    by_outcome Wide at never = absurd never
 
-    by_ended : IsStopped e.call.status ⊎ IsEnded e.call.status e.call.before.left (Some e.call.old) (Some (e.call.old ++ e.call.text)) (edit d.asked cap) (d.bytes ∷ []) → IsEditedVerdict cap (edited d edits) e.call.status
-    by_ended (inl stopped) = absurd (e.call.unstopped stopped)
-    by_ended (inr (inl refused)) = absurd (is_plain_document d e.plain refused.1)
-    by_ended (inr (inr has)) = by_wrote (of_plain_document d (λ ns net. WroteEdits cap e.call.before.left (Some e.call.old) (Some (e.call.old ++ e.call.text)) e.call.status ns net) has)
+    by_tells : CallTells (edit d.asked cap) (d.bytes ∷ []) e.call → IsEditedVerdict cap (edited d edits) e.call.status
+    by_tells (o, at, inl refused) = absurd (is_plain_document d e.plain refused.1)
+    by_tells (o, at, inr has) = by_outcome o at (of_plain_document d (λ ns net. Tells (edit_telling cap (Some e.call.live) e.call.text ns net) o) has)

@@ -1,6 +1,6 @@
 -- A check of the document of what is left tells whether what has happened can go on.
-use Rattle.std.proofs.Common.{ℕ, ◌≡◌, ◌≤◌, List, [], ◌∷◌, length, Option, None, Some, sym, subst, ap}
-use Rattle.std.specs.Prelude.{Result, IsSomeAnd, codes}
+use Rattle.std.proofs.Common.{ℕ, ◌≡◌, ◌≤◌, List, [], ◌∷◌, length, Option, None, Some, sym, subst, ap, ◌∙◌, inl, inr}
+use Rattle.std.specs.Prelude.{Result, IsSomeAnd, codes, ◌⊎◌}
 use Rattle.cstn_net.specs.Limits.{most_constraints}
 use Rattle.cstn_net.specs.Strategies.{IsConsistent}
 use Rattle.cstn_lift.specs.Labelled.{Labelled}
@@ -20,20 +20,24 @@ use Rattle.cstn_reply.specs.Texts.{Said}
 use Rattle.cstn_reply.specs.Sessions.{more}
 use Rattle.cstn_reply.specs.Reached.{state_after}
 use Rattle.cstn_reply.specs.declared.output.Outcome.{Outcome}
-use Rattle.cstn_reply.specs.declared.output.Outcome.TheVariants.{Good, Bad}
-use Rattle.cstn_request.specs.Documents.{parts_of, HasLabelled}
+use Rattle.cstn_reply.specs.declared.output.Outcome.TheVariants.{Good, Bad, Document}
+use Rattle.cstn_request.specs.Documents.{parts_of, HasLabelled, IsNoDocument}
 use Rattle.cstn_follow.specs.Following.{Following, begun, left_now, names_left, verdict_now}
 use Rattle.cstn_follow.proofs.GoesOn.{left_labelled}
 use Rattle.cstn_follow.proofs.Points.{lines_keep}
 use Rattle.cstn_follow.proofs.States.{IsSound, begun_sound, lines_sound}
 use Rattle.cstn_top.specs.Dispatch.{plan_at}
 use Rattle.cstn_top.specs.Plans.{IsOutput}
-use Rattle.cstn_top.specs.Verdicts.{IsLabelledYes, IsLabelledNo}
+use Rattle.cstn_top.specs.Verdicts.{IsLabelledYes}
+use Rattle.cstn_headline.specs.Verdicts.{IsLabelledNo}
 use Rattle.cstn_top.specs.commands.Follow.{follow_turn}
 use Rattle.cstn_headline.proofs.LeftDocuments.{renumbered, read_back, lowered_same, left_unseen, names_of_left}
 use Rattle.cstn_headline.proofs.LeftReplayed.{AreUnseen, DocumentsBack, text_of, named_still, unseen_still}
-use Rattle.cstn_top.proofs.Handled.{IsRight}
-use Rattle.cstn_top.proofs.records.Check.{check_handled}
+use Rattle.cstn_top.specs.Answers.{of_lowered}
+use Rattle.cstn_top.specs.commands.Check.{checked}
+use Rattle.cstn_top.proofs.Documents.{labelled_says}
+use Rattle.cstn_top.proofs.Labels.{labelled_then}
+use Rattle.cstn_headline.proofs.Checks.{VerdictsLabelled, check_verdicts}
 
 module _ (backs : DocumentsBack) where
   -- what holds of the document of a labelled network holds of it under other ids
@@ -80,17 +84,21 @@ module _ (backs : DocumentsBack) where
         (left_unseen s.network s.history s.fresh sound.labelled sound.timely.history hidden) holds asked.deadline plain
         (subst (λ (b : List ℕ). HasLabelled b asked.deadline (λ ns l. holds l)) (sym bytes_are) has)
 
-    right : (o : Outcome) → said.outcome ≡ o → IsRight None o (check asked checks) (bytes ∷ [])
-    right o is = subst (λ (x : Outcome). IsRight None x (check asked checks) (bytes ∷ [])) is
-        ((check_handled asked checks).right None (bytes ∷ []) live said (λ xs told. absurd (cc)) output)
+    -- the document isn't refused, and its check is right
+    right : (o : Outcome) → said.outcome ≡ o → (o ≡ Document → ⊥) → HasLabelled bytes asked.deadline (λ ns l. VerdictsLabelled checks l o)
+    right o is unrefused = subst (λ (x : Outcome). HasLabelled bytes asked.deadline (λ ns l. VerdictsLabelled checks l x)) is (by_said (labelled_says (of_lowered (checked checks)) bytes asked.deadline live said output))
+      where
+        by_said : ((said.outcome ≡ Document) × IsNoDocument bytes asked.deadline) ⊎ HasLabelled bytes asked.deadline (λ ns l. IsOutput (checked checks ns (lowered l)) live said) → HasLabelled bytes asked.deadline (λ ns l. VerdictsLabelled checks l said.outcome)
+        by_said (inl refused) = absurd (unrefused (sym is ∙ refused.0))
+        by_said (inr has) = labelled_then bytes asked.deadline (λ ns l. IsOutput (checked checks ns (lowered l)) live said) (λ ns l. VerdictsLabelled checks l said.outcome) has (check_verdicts checks live said)
 
     pub checked_yes : said.outcome ≡ Good → Can s.network s.history
     checked_yes is =
-        let both = on_left (IsLabelledYes checks) (right Good is) in
+        let both = on_left (IsLabelledYes checks) (right Good is (λ same. let f : ⊥ = cc in f)) in
         (can_both s.network s.history s.fresh sound.labelled sound.timely.history).1 (consistent_back (left_now s) left_good both.0 both.1.0)
 
     pub checked_no : said.outcome ≡ Bad → Can s.network s.history → ⊥
     checked_no is can =
-        let both = on_left (IsLabelledNo checks) (right Bad is) in
+        let both = on_left (IsLabelledNo checks) (right Bad is (λ same. let f : ⊥ = cc in f)) in
         both.1.0 (consistent_on (left_now s) left_good both.0
         ((can_both s.network s.history s.fresh sound.labelled sound.timely.history).0 can))

@@ -33,7 +33,7 @@ use Rattle.cstn_follow.specs.Following.{Following, begun, left_now, names_left, 
 use Rattle.cstn_follow.specs.Hearing.{counted}
 use Rattle.cstn_follow.specs.Questions.{check_after}
 use Rattle.cstn_follow.proofs.GoesOn.{left_says, left_labelled}
-use Rattle.cstn_top.specs.Accepted.{IsAccepted, IsNoText}
+use Rattle.cstn_headline.specs.Accepted.{IsAccepted, IsNoText}
 use Rattle.cstn_top.specs.Answers.{of_lowered, by_text}
 use Rattle.cstn_top.specs.Dispatch.{plan_at}
 use Rattle.cstn_top.specs.commands.Replay.{replayed}

@@ -1,17 +1,24 @@
 -- Texts that are written, and read back.
+pub mod LogTexts
 pub mod Lengths
 pub mod ReadBack
 -- What is said of a network stands for it.
+pub mod EvidenceLemmas
 pub mod Standing
-pub mod Accepted
+pub mod Trees
+pub mod Checks
+pub mod Edited
+pub mod Drills
 -- Each request has an output.
 pub mod SomeFault
 pub mod SomeOutput
--- What is proved of each request.
-pub mod Dispatched
-pub mod Proved
-pub mod records
 pub mod Dispatch
+-- What the output of each request tells.
+pub mod Telling
+pub mod Sessions
+pub mod Hosting
+pub mod records
+pub mod Proved
 -- What a call tells.
 pub mod Calls
 pub mod Told

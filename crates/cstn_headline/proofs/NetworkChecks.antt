@@ -31,8 +31,8 @@ use Rattle.cstn_top.specs.Meanings.{IsStopped}
 use Rattle.cstn_top.specs.Told.{IsTold}
 use Rattle.cstn_top.proofs.Endings.{EndsAs, end_status}
 use Rattle.cstn_top.proofs.Labels.{of_parts}
-use Rattle.cstn_top.proofs.Meanings.{VerdictsLabelled}
-use Rattle.cstn_headline.specs.Headline.{Document, network}
+use Rattle.cstn_headline.proofs.Checks.{VerdictsLabelled}
+use Rattle.cstn_headline.specs.Headline.{Document}
 use Rattle.cstn_headline.specs.Networks.{AskCheck, IsNamedNetwork, HasDocument, most_bounds, IsDecided}
 use Rattle.cstn_headline.proofs.HeadlineLemmas.{check_said}
 use Rattle.cstn_headline.proofs.SameStrategies.{consistent_back, consistent_on}

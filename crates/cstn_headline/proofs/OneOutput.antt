@@ -20,7 +20,7 @@ use Rattle.cstn_replay.specs.Texts.{IsReplay}
 use Rattle.cstn_closed.specs.Certificates.{IsCertificate}
 use Rattle.cstn_tree.specs.Unfolded.{IsTreeText}
 use Rattle.cstn_reply.specs.declared.output.Outcome.TheVariants.{Good, Bad, Document}
-use Rattle.cstn_top.proofs.ReadBack.{no_refutation}
+use Rattle.cstn_headline.proofs.LogTexts.{no_refutation}
 
 same_number : (k j : ℕ) → (k < j → ⊥) → (j < k → ⊥) → k ≡ j
 same_number k j above below = omega (arith, above, below)

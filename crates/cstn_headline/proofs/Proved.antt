@@ -1,47 +1,86 @@
 -- What is proved of each request beside what `run` needs.
-use Rattle.std.proofs.Common.{◌≡◌, ℕ, List}
+use Rattle.std.proofs.Common.{ℕ, List, ap}
 use Rattle.std.specs.Prelude.{Option}
-use Rattle.cstn_io.specs.Contents.{IsAllOf, with_bytes}
-use Rattle.cstn_request.specs.Requests.{Request}
+use Rattle.cstn_io.specs.Contents.{IsAllOf}
 use Rattle.cstn_reply.specs.Texts.{Said}
 use Rattle.cstn_top.specs.Plans.{IsOutput}
-use Rattle.cstn_top.specs.Dispatch.{plan_at}
-use Rattle.cstn_reply.specs.Statuses.{status_of}
-use Rattle.cstn_reply.specs.declared.output.Outcome.{Outcome}
-use Rattle.cstn_reply.specs.declared.output.Outcome.TheVariants.{Good, Bad, Words, Document, Full, Unfinished, Script, Wide}
-use Rattle.cstn_top.proofs.Dispatched.{IsRanged}
-use Rattle.cstn_headline.proofs.Dispatched.{IsComplete, IsEvidence, IsLeastRun, IsCarriedOut, IsLeftUnfinished, IsEnded, AreHeld}
+use Rattle.cstn_top.specs.Dispatch.{plan_at, file_in, proof_in}
+use Rattle.cstn_request.specs.Requests.{Request, of_network, of_labelled, of_text, of_document, drill, host, version}
+use Rattle.cstn_request.specs.declared.words.NetworkVerb.TheVariants.{Check, Closed, Tight, Conflict, Tree, Edit}
+use Rattle.cstn_request.specs.declared.words.LabelledVerb.TheVariants.{Follow, Run}
+use Rattle.cstn_request.specs.declared.words.TextVerb.TheVariants.{Replay, Closedcheck, Treecheck}
+use Rattle.cstn_request.specs.declared.words.DocumentVerb.TheVariants.{Save}
+use Rattle.cstn_top.specs.Meanings.{IsRanged}
+use Rattle.cstn_top.specs.Answers.{of_lowered, by_text}
+use Rattle.cstn_top.specs.commands.Check.{checked}
+use Rattle.cstn_top.specs.commands.Closed.{listed}
+use Rattle.cstn_top.specs.commands.Tight.{tightened}
+use Rattle.cstn_top.specs.commands.Conflict.{blamed}
+use Rattle.cstn_top.specs.commands.Tree.{unfolded}
+use Rattle.cstn_top.specs.commands.Edit.{edited}
+use Rattle.cstn_top.specs.commands.Follow.{followed}
+use Rattle.cstn_top.specs.commands.Run.{carried_out}
+use Rattle.cstn_top.specs.commands.Replay.{replayed}
+use Rattle.cstn_top.specs.commands.Closedcheck.{certified}
+use Rattle.cstn_top.specs.commands.Treecheck.{tree_checked}
+use Rattle.cstn_top.specs.commands.Save.{saved}
+use Rattle.cstn_headline.specs.Tells.{RequestTells}
+use Rattle.cstn_headline.specs.commands.Check.{check_telling}
+use Rattle.cstn_headline.specs.commands.Closed.{closed_telling}
+use Rattle.cstn_headline.specs.commands.Tight.{tight_telling}
+use Rattle.cstn_headline.specs.commands.Conflict.{conflict_telling}
+use Rattle.cstn_headline.specs.commands.Tree.{tree_telling}
+use Rattle.cstn_headline.specs.commands.Edit.{edit_telling}
+use Rattle.cstn_headline.specs.commands.Follow.{follow_telling}
+use Rattle.cstn_headline.specs.commands.Run.{run_telling}
+use Rattle.cstn_headline.specs.commands.Replay.{replay_telling}
+use Rattle.cstn_headline.specs.commands.Closedcheck.{closedcheck_telling}
+use Rattle.cstn_headline.specs.commands.Treecheck.{treecheck_telling}
+use Rattle.cstn_headline.specs.commands.Save.{save_telling}
+use Rattle.cstn_headline.proofs.Drills.{counts_right}
 use Rattle.cstn_headline.proofs.Standing.{YesAccepted, NoAccepted}
-use Rattle.cstn_reply.specs.declared.status.Status.TheVariants.{Good as IsGoodStatus, Bad as IsBadStatus, Unfinished as IsUnfinishedStatus}
-use Rattle.cstn_headline.proofs.SomeOutput.{HasSome, PartsMade, TreesMade, StepsWritten, BoundsWritten}
+use Rattle.cstn_headline.proofs.Telling.{labelled_told, network_told, only_told}
+use Rattle.cstn_headline.proofs.records.Check.{check_tells}
+use Rattle.cstn_headline.proofs.records.Closed.{closed_tells}
+use Rattle.cstn_headline.proofs.records.Tight.{tight_tells}
+use Rattle.cstn_headline.proofs.records.Conflict.{conflict_tells}
+use Rattle.cstn_headline.proofs.records.Tree.{tree_tells}
+use Rattle.cstn_headline.proofs.records.Edit.{edit_tells}
+use Rattle.cstn_headline.proofs.records.Follow.{follow_tells}
+use Rattle.cstn_headline.proofs.records.Run.{run_tells}
+use Rattle.cstn_headline.proofs.records.Host.{host_told}
+use Rattle.cstn_headline.proofs.records.Replay.{replay_tells}
+use Rattle.cstn_headline.proofs.records.Closedcheck.{closedcheck_tells}
+use Rattle.cstn_headline.proofs.records.Treecheck.{treecheck_tells}
 
--- the laws by which each request has an output
-pub record Laws : Type 0 where
-  pub made : PartsMade
-  pub trees : TreesMade
-  pub steps : StepsWritten
-  pub bounds : BoundsWritten
-
--- what else is proved of a request
-pub record IsProved (request : Request) : Type 0 where
-  -- each output is complete and evidence
-  pub complete : (contents : List (List ℕ)) (live : List ℕ) (said : Said) → IsOutput (plan_at request contents) live said → IsComplete (status_of said.outcome) request contents
-  pub evidence : YesAccepted → NoAccepted → (contents : List (List ℕ)) (live : List ℕ) (said : Said) → IsRanged request → IsOutput (plan_at request contents) live said → IsEvidence request (status_of said.outcome) said.text contents
-  -- the answers to lines are least, and an output ends as is told
-  pub least : (contents : List (List ℕ)) → IsLeastRun request contents
-  pub ended : (told old new : Option (List ℕ)) (contents : List (List ℕ)) (live : List ℕ) (said : Said) → IsAllOf told live → new ≡ with_bytes old said.text → IsOutput (plan_at request contents) live said → IsEnded (status_of said.outcome) told old new request contents
-  pub carried_out : (told old new : Option (List ℕ)) (contents : List (List ℕ)) → IsEnded IsGoodStatus told old new request contents → IsCarriedOut told old new request contents
-  pub unfinished : (told old new : Option (List ℕ)) (contents : List (List ℕ)) → IsEnded IsUnfinishedStatus told old new request contents → IsLeftUnfinished told old new request contents
-  -- it can't be that there is no output
-  pub some : Laws → (contents : List (List ℕ)) (live : List ℕ) → IsRanged request → AreHeld request contents → HasSome (plan_at request contents) live
-
--- where no text is evidence after Good and after Bad, nothing is asked of any
-pub no_evidence : (request : Request) (contents : List (List ℕ)) (text : List ℕ) → IsEvidence request IsGoodStatus text contents → IsEvidence request IsBadStatus text contents → (o : Outcome) → IsEvidence request (status_of o) text contents
-no_evidence request contents text good bad Good = good
-no_evidence request contents text good bad Bad = bad
-no_evidence request contents text good bad Words = tt
-no_evidence request contents text good bad Document = tt
-no_evidence request contents text good bad Full = tt
-no_evidence request contents text good bad Unfinished = tt
-no_evidence request contents text good bad Script = tt
-no_evidence request contents text good bad Wide = tt
+-- each output of a request tells what its outcome does
+pub tells : YesAccepted → NoAccepted → (request : Request) → IsRanged request → (told : Option (List ℕ)) (contents : List (List ℕ)) (live : List ℕ) (said : Said) → IsAllOf told live → IsOutput (plan_at request contents) live said →
+    RequestTells request said.outcome told said.text contents
+tells yes_text no_text (of_network Check asked cap) capped told contents live said all output =
+    labelled_told (of_lowered (checked cap)) (file_in contents) asked.deadline live said (check_telling cap said.text) (check_tells no_text cap capped live said) output
+tells yes_text no_text (of_network Closed asked cap) capped told contents live said all output =
+    labelled_told (of_lowered (listed cap)) (file_in contents) asked.deadline live said (closed_telling cap said.text) (closed_tells yes_text no_text cap capped live said) output
+tells yes_text no_text (of_network Tight asked cap) capped told contents live said all output =
+    labelled_told (of_lowered (tightened cap)) (file_in contents) asked.deadline live said (tight_telling cap said.text) (tight_tells yes_text no_text cap capped live said) output
+tells yes_text no_text (of_network Conflict asked cap) capped told contents live said all output =
+    network_told (blamed cap) (file_in contents) asked.deadline live said (conflict_telling cap said.text) (conflict_tells yes_text no_text cap capped live said) output
+tells yes_text no_text (of_network Tree asked cap) capped told contents live said all output =
+    network_told (unfolded cap) (file_in contents) asked.deadline live said (tree_telling cap said.text) (tree_tells no_text cap capped live said) output
+tells yes_text no_text (of_network Edit asked cap) capped told contents live said all output =
+    network_told (edited cap) (file_in contents) asked.deadline live said (edit_telling cap told said.text) (edit_tells cap told live said all) output
+tells yes_text no_text (of_labelled Follow asked cap) capped told contents live said all output =
+    labelled_told (followed cap) (file_in contents) asked.deadline live said (follow_telling cap told said.text) (follow_tells cap told live said all) output
+tells yes_text no_text (of_labelled Run asked cap) capped told contents live said all output =
+    labelled_told (carried_out cap) (file_in contents) asked.deadline live said (run_telling cap told said.text) (λ names m of. run_tells cap told live said all names m of no_text capped) output
+tells yes_text no_text (of_text Replay asked proof) ranged told contents live said all output =
+    labelled_told (of_lowered (by_text replayed (proof_in contents))) (file_in contents) asked.deadline live said (replay_telling (proof_in contents)) (replay_tells (proof_in contents) live said) output
+tells yes_text no_text (of_text Closedcheck asked proof) ranged told contents live said all output =
+    labelled_told (of_lowered (by_text certified (proof_in contents))) (file_in contents) asked.deadline live said (closedcheck_telling (proof_in contents)) (closedcheck_tells (proof_in contents) live said) output
+tells yes_text no_text (of_text Treecheck asked proof) ranged told contents live said all output =
+    network_told (by_text tree_checked (proof_in contents)) (file_in contents) asked.deadline live said (treecheck_telling (proof_in contents)) (treecheck_tells (proof_in contents) live said) output
+tells yes_text no_text (of_document Save asked) ranged told contents live said all output =
+    labelled_told saved (file_in contents) asked.deadline live said (save_telling said.text) (λ names m of is. only_told _ said.outcome (ap (λ (s : Said). s.outcome) is) (ap (λ (s : Said). s.text) is)) output
+tells yes_text no_text (drill number) ranged told contents live said all output =
+    only_told _ said.outcome (ap (λ (s : Said). s.outcome) output) (counts_right number 64, ap (λ (s : Said). s.text) output)
+tells yes_text no_text (host files deadline cap) capped told contents live said all output = host_told no_text cap capped deadline contents told live said all output
+tells yes_text no_text (version release) ranged told contents live said all output = only_told _ said.outcome (ap (λ (s : Said). s.outcome) output) (ap (λ (s : Said). s.text) output)

@@ -37,12 +37,12 @@ use Rattle.cstn_top.specs.Plans.{Plan, says, replays, certifies, IsOutput}
 use Rattle.cstn_top.specs.Answers.{Answer, by_text}
 use Rattle.cstn_top.specs.commands.Replay.{replayed_steps, replayed}
 use Rattle.cstn_top.specs.commands.Closedcheck.{certified_bounds, certified}
-use Rattle.cstn_top.specs.Accepted.{IsAccepted, IsYesText, IsNoText, HasIds}
+use Rattle.cstn_headline.specs.Accepted.{IsAccepted, IsYesText, IsNoText, HasIds}
 use Rattle.cstn_reply.specs.declared.output.Outcome.TheVariants.{Good, Script}
 use Rattle.cstn_tight.proofs.ClosedLemmas.{live_short, some_live}
 use Rattle.cstn_top.proofs.Listing.{limit_in_time}
 use Rattle.cstn_headline.proofs.Lengths.{bounds_text_short, steps_text_short}
-use Rattle.cstn_top.proofs.ReadBack.{listed_faultless, refuted_by_log, no_refutation}
+use Rattle.cstn_headline.proofs.LogTexts.{listed_faultless, refuted_by_log, no_refutation}
 
 absent : (m : Mark) → (m ≢ Absent → ⊥) → m ≡ Absent
 absent Absent never = refl
@@ -51,7 +51,7 @@ absent No never = absurd (never (λ e. cc))
 absent Unknown never = absurd (never (λ e. cc))
 
 -- a label that marks observed propositions alone marks none above the letters
-letters_alone : (net : Network) (a : Label) → IsWellFormed net → IsOnObserved net a → (p : ℕ) → 52 ≤ p → a p ≡ Absent
+pub letters_alone : (net : Network) (a : Label) → IsWellFormed net → IsOnObserved net a → (p : ℕ) → 52 ≤ p → a p ≡ Absent
 letters_alone net a good on p above = absent (a p) (λ named. let seen = on p named in let below = good.letters seen.0 p seen.1 in omega (arith, above, below))
 
 some_load : (net : Network) → IsWellFormed net → 1 ≤ load_of net
@@ -127,7 +127,7 @@ module _ (names : List (List ℕ)) (net : Network) (good : IsWellFormed net) (na
       }
 
 -- a text that is short enough isn't refused for its length
-short_text : (speaks : List ℕ → Answer) (text : List ℕ) (names : List (List ℕ)) (net : Network) → length text ≤ most_text → by_text speaks text names net ≡ speaks text names net
+pub short_text : (speaks : List ℕ → Answer) (text : List ℕ) (names : List (List ℕ)) (net : Network) → length text ≤ most_text → by_text speaks text names net ≡ speaks text names net
 short_text speaks text names net short = within most_text (length text) (says (say Script (codes "script long"))) (speaks text names net) short
   where
     within : (n m : ℕ) (one other : Plan) → m ≤ n → (if nat_lt n m then one else other) ≡ other
@@ -140,7 +140,7 @@ certificate_accepted names net bounds faultless closed live said = (only, λ sam
     only (inl found) = found.2
     only (inr found) = absurd (faultless found.0 found.1.fault)
 
-replay_accepted : (net : Network) (steps : List Entry) → IsRefutation net steps → IsAccepted (replays steps net)
+pub replay_accepted : (net : Network) (steps : List Entry) → IsRefutation net steps → IsAccepted (replays steps net)
 replay_accepted net steps refutation live said = (only, λ same. inl (refutation, same))
   where
     only : IsOutput (replays steps net) live said → said ≡ say Good (codes "accepted")

@@ -1,6 +1,6 @@
 -- What is written as evidence passes when it is handed in with the same document.
 use Rattle.std.proofs.Common.{◌≡◌, ℕ, ◌≤◌, Bool, true, false, List, [], ◌∷◌, length, refl, sym, ap, subst, inl, inr, arith}
-use Rattle.std.specs.Prelude.{nat_lt, if◌then◌else◌, Option, Result, Ok, Err, IsSomeAnd, codes}
+use Rattle.std.specs.Prelude.{nat_lt, if◌then◌else◌, Option, Result, Ok, Err, IsSomeAnd, codes, None}
 use Rattle.cstn_net.specs.Limits.{most_load}
 use Rattle.cstn_element.specs.Results.{Refusal as DocumentRefusal}
 use Rattle.cstn_graphml.specs.Document.{Parts, document}
@@ -11,22 +11,26 @@ use Rattle.cstn_request.specs.Limits.{most_document}
 use Rattle.cstn_top.specs.Plans.{Plan, says, judges, IsOutput}
 use Rattle.cstn_top.specs.Answers.{LabelledAnswer, of_lowered, judged, on_labelled, by_text}
 use Rattle.cstn_top.specs.commands.Check.{checked}
-use Rattle.cstn_top.specs.Accepted.{IsAccepted}
+use Rattle.cstn_headline.specs.Accepted.{IsAccepted, IsYesText, IsNoText}
 use Rattle.cstn_top.specs.commands.Closed.{listed}
 use Rattle.cstn_top.specs.commands.Replay.{replayed}
 use Rattle.cstn_top.specs.commands.Closedcheck.{certified}
 use Rattle.cstn_top.specs.commands.Run.{carried_out}
 use Rattle.cstn_top.specs.Dispatch.{plan_at}
-use Rattle.cstn_reply.specs.Statuses.{status_of}
 use Rattle.cstn_reply.specs.declared.output.Outcome.{Outcome}
 use Rattle.cstn_reply.specs.declared.output.Outcome.TheVariants.{Good, Bad, Document}
 use Rattle.cstn_request.specs.Documents.{parts_of, HasLabelled}
+use Rattle.cstn_lift.specs.Labelled.{Labelled}
+use Rattle.cstn_lift.specs.Lowered.{lowered}
+use Rattle.cstn_io.specs.Contents.{IsAllOf}
+use Rattle.cstn_top.proofs.Labels.{labelled_then}
+use Rattle.cstn_headline.specs.Telling.{Telling, Tells, OfLabelled}
+use Rattle.cstn_headline.specs.commands.Check.{check_telling}
+use Rattle.cstn_headline.specs.commands.Closed.{closed_telling}
+use Rattle.cstn_headline.specs.commands.Run.{run_telling}
+use Rattle.cstn_headline.proofs.Proved.{tells}
 use Rattle.cstn_headline.proofs.Standing.{YesAccepted, NoAccepted}
-use Rattle.cstn_headline.proofs.records.Check.{check_proved}
-use Rattle.cstn_headline.proofs.records.Run.{run_proved}
-use Rattle.cstn_headline.proofs.records.Closed.{closed_proved}
 use Rattle.cstn_headline.proofs.OneOutput.{OneJudgement}
-use Rattle.cstn_headline.proofs.Dispatched.{IsEvidence}
 
 -- a document that isn't refused isn't too long
 not_long : (answer : LabelledAnswer) (bytes : List ℕ) (deadline : Option ℕ) (live : List ℕ) (said : Said) → (said.outcome ≡ Document → ⊥) → IsOutput (on_labelled answer bytes deadline) live said → nat_lt most_document (length bytes) ≡ false
@@ -57,27 +61,39 @@ bad_differs o is also = grind arith
 good_differs : (o : Outcome) → o ≡ Good → o ≡ Document → ⊥
 good_differs o is also = grind arith
 
+-- what an outcome tells of a document that isn't refused
+told_of : (bytes : List ℕ) (deadline : Option ℕ) (o other : Outcome) (telling : List (List ℕ) → Labelled → Telling) → o ≡ other → (o ≡ Document → ⊥) → OfLabelled bytes deadline o telling → HasLabelled bytes deadline (λ names m. Tells (telling names m) other)
+told_of bytes deadline o other telling is never (inl refused) = absurd (never refused.0)
+told_of bytes deadline o other telling is never (inr has) = subst (λ (x : Outcome). HasLabelled bytes deadline (λ names m. Tells (telling names m) x)) is has
+
+untold : (live : List ℕ) → IsAllOf None live
+untold live = λ xs told. absurd (cc)
+
 module _ (one : OneJudgement) (yes_text : YesAccepted) (no_text : NoAccepted) where
   pub check_passes : (asked : Asked) (cap : ℕ) (file bytes live : List ℕ) (said : Said) → cap ≤ most_load → IsOutput (plan_at (check asked cap) (bytes ∷ [])) live said → said.outcome ≡ Bad → IsAccepted (plan_at (replay asked file) (bytes ∷ said.text ∷ []))
   check_passes asked cap file bytes live said capped output no' =
       labelled_accepted one (of_lowered (by_text replayed said.text)) bytes asked.deadline
       (not_long (of_lowered (checked cap)) bytes asked.deadline live said (bad_differs said.outcome no') output)
-      (subst (λ (o : Outcome). IsEvidence (check asked cap) (status_of o) said.text (bytes ∷ [])) no' ((check_proved asked cap).evidence yes_text no_text (bytes ∷ []) live said capped output))
+      (labelled_then bytes asked.deadline (λ names m. Tells (check_telling cap said.text names m) Bad) (λ names m. IsNoText names (lowered m) said.text)
+      (told_of bytes asked.deadline said.outcome Bad (check_telling cap said.text) no' (bad_differs said.outcome no') (tells yes_text no_text (check asked cap) capped None (bytes ∷ []) live said (untold live) output)) (λ names m of both. both.1))
 
   pub run_passes : (asked : Asked) (cap : ℕ) (file bytes live : List ℕ) (said : Said) → cap ≤ most_load → IsOutput (plan_at (run asked cap) (bytes ∷ [])) live said → said.outcome ≡ Bad → IsAccepted (plan_at (replay asked file) (bytes ∷ said.text ∷ []))
   run_passes asked cap file bytes live said capped output no' =
       labelled_accepted one (of_lowered (by_text replayed said.text)) bytes asked.deadline
       (not_long (carried_out cap) bytes asked.deadline live said (bad_differs said.outcome no') output)
-      (subst (λ (o : Outcome). IsEvidence (run asked cap) (status_of o) said.text (bytes ∷ [])) no' ((run_proved asked cap).evidence yes_text no_text (bytes ∷ []) live said capped output))
+      (labelled_then bytes asked.deadline (λ names m. Tells (run_telling cap None said.text names m) Bad) (λ names m. IsNoText names (lowered m) said.text)
+      (told_of bytes asked.deadline said.outcome Bad (run_telling cap None said.text) no' (bad_differs said.outcome no') (tells yes_text no_text (run asked cap) capped None (bytes ∷ []) live said (untold live) output)) (λ names m of both. both.1))
 
   pub closed_passes : (asked : Asked) (cap : ℕ) (file bytes live : List ℕ) (said : Said) → cap ≤ most_load → IsOutput (plan_at (closed asked cap) (bytes ∷ [])) live said → said.outcome ≡ Bad → IsAccepted (plan_at (replay asked file) (bytes ∷ said.text ∷ []))
   closed_passes asked cap file bytes live said capped output no' =
       labelled_accepted one (of_lowered (by_text replayed said.text)) bytes asked.deadline
       (not_long (of_lowered (listed cap)) bytes asked.deadline live said (bad_differs said.outcome no') output)
-      (subst (λ (o : Outcome). IsEvidence (closed asked cap) (status_of o) said.text (bytes ∷ [])) no' ((closed_proved asked cap).evidence yes_text no_text (bytes ∷ []) live said capped output))
+      (labelled_then bytes asked.deadline (λ names m. Tells (closed_telling cap said.text names m) Bad) (λ names m. IsNoText names (lowered m) said.text)
+      (told_of bytes asked.deadline said.outcome Bad (closed_telling cap said.text) no' (bad_differs said.outcome no') (tells yes_text no_text (closed asked cap) capped None (bytes ∷ []) live said (untold live) output)) (λ names m of both. both.1))
 
   pub bounds_pass : (asked : Asked) (cap : ℕ) (file bytes live : List ℕ) (said : Said) → cap ≤ most_load → IsOutput (plan_at (closed asked cap) (bytes ∷ [])) live said → said.outcome ≡ Good → IsAccepted (plan_at (closedcheck asked file) (bytes ∷ said.text ∷ []))
   bounds_pass asked cap file bytes live said capped output yes' =
       labelled_accepted one (of_lowered (by_text certified said.text)) bytes asked.deadline
       (not_long (of_lowered (listed cap)) bytes asked.deadline live said (good_differs said.outcome yes') output)
-      (subst (λ (o : Outcome). IsEvidence (closed asked cap) (status_of o) said.text (bytes ∷ [])) yes' ((closed_proved asked cap).evidence yes_text no_text (bytes ∷ []) live said capped output))
+      (labelled_then bytes asked.deadline (λ names m. Tells (closed_telling cap said.text names m) Good) (λ names m. IsYesText names (lowered m) said.text)
+      (told_of bytes asked.deadline said.outcome Good (closed_telling cap said.text) yes' (good_differs said.outcome yes') (tells yes_text no_text (closed asked cap) capped None (bytes ∷ []) live said (untold live) output)) (λ names m of both. both.2))

@@ -13,7 +13,7 @@ use Rattle.cstn_reply.specs.Texts.{line, yes_line, full_line}
 use Rattle.cstn_reply.specs.Reached.{Says}
 use Rattle.cstn_change.specs.ChangeLines.{network_after}
 use Rattle.cstn_edit.specs.Editing.{begun_editing, edit_turn, edit_ending}
-use Rattle.cstn_top.specs.Accepted.{IsNoText, HasIds}
+use Rattle.cstn_headline.specs.Accepted.{IsNoText, HasIds}
 
 -- the text says yes, with a load of at most `cap`, and the network is consistent
 pub record SaysYes (cap : ℕ) (net : Network) (text : List ℕ) : Type 0 where

@@ -18,8 +18,8 @@ use Rattle.cstn_request.specs.Requests.{Asked, Request, check, run, edit, replay
 use Rattle.cstn_reply.specs.Written.{LiveState}
 use Rattle.cstn_request.specs.Limits.{most_document}
 use Rattle.cstn_top.specs.Plans.{Ends}
-use Rattle.cstn_top.specs.Dispatch.{command_of, plan_at}
-use Rattle.cstn_top.specs.Meanings.{IsStopped}
+use Rattle.cstn_top.specs.Dispatch.{plan_at}
+use Rattle.cstn_top.specs.Meanings.{IsStopped, IsRanged}
 use Rattle.cstn_top.specs.commands.Run.{run_bounds}
 use Rattle.cstn_request.specs.Documents.{AreEmpty}
 use Rattle.cstn_request.specs.Files.{file_at}
@@ -28,6 +28,9 @@ use Rattle.cstn_reply.specs.declared.status.Status.TheVariants.{Good, Bad, Full,
 use Rattle.cstn_run.specs.Meanings.{end_of, said_to, GuideSays, WasNamed}
 use Rattle.cstn_reply.specs.Texts.{yes_line}
 use Rattle.cstn_change.specs.ChangeLines.{network_after}
+use Rattle.cstn_reply.specs.Statuses.{status_of}
+use Rattle.cstn_reply.specs.declared.output.Outcome.{Outcome}
+use Rattle.cstn_headline.specs.Tells.{RequestTells}
 use Rattle.cstn_headline.specs.EditSessions.{IsNoCheck}
 
 -- the bytes are a document with the deadline that is asked for, and its parts make a labelled network
@@ -69,9 +72,13 @@ pub record Call (request : Request) (contents : List (List ℕ)) : Type 0 where
   pub after : LiveState
   pub old : List ℕ
   pub output : Ends (plan_at request contents) before after (Some old) (Some (old ++ text)) status
-  pub ranged : (command_of request).ranged
+  pub ranged : IsRanged request
   pub live_is : before.left ≡ Some live
   pub unstopped : IsStopped status → ⊥
+
+-- what the status of the call tells, with the text that was written
+abbrev pub CallTells : (request : Request) (contents : List (List ℕ)) → Call request contents → Type 0
+CallTells request contents c = (outcome : Outcome) × (c.status ≡ status_of outcome) × RequestTells request outcome (Some c.live) c.text contents
 
 -- it is told what files there are, and those that the request names have these contents
 abbrev pub HasContents : Option (List ℕ → Option (List ℕ)) → Request → List (List ℕ) → Type 0

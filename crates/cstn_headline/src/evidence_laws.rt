@@ -8,7 +8,7 @@ ghost use Rattle.cstn_check.specs.Growth.{log_of, load_of, live_bounds};
 ghost use Rattle.cstn_text.specs.Names.{AreNames};
 ghost use Rattle.cstn_refute.specs.Texts.{shown as shown_steps};
 ghost use Rattle.cstn_closed.specs.Texts.{shown as shown_bounds};
-ghost use Rattle.cstn_top.specs.Accepted.{IsYesText, IsNoText, HasIds};
+ghost use Rattle.cstn_headline.specs.Accepted.{IsYesText, IsNoText, HasIds};
 
 use cstn_closed::closed_texts_are_read_back;
 use cstn_refute::texts_are_read_back;

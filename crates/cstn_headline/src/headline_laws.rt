@@ -5,10 +5,10 @@ ghost use Rattle.cstn_lines.specs.Pieces.{lines_of};
 ghost use Rattle.cstn_request.specs.Requests.{Request};
 ghost use Rattle.cstn_reply.specs.declared.status.Status.{Status};
 ghost use Rattle.cstn_reply.specs.declared.status.Status.TheVariants.{Good, Bad, Full};
-ghost use Rattle.cstn_top.specs.commands.Run.{AnswersLeast, run_bounds};
-ghost use Rattle.cstn_headline.specs.Headline.{Document, network, printed_names, HasStrategy, load, edited, Call, HasContents, IsCall};
+ghost use Rattle.cstn_top.specs.commands.Run.{run_bounds};
+ghost use Rattle.cstn_headline.specs.commands.Run.{AnswersLeast};
+ghost use Rattle.cstn_headline.specs.Headline.{Document, network, printed_names, HasStrategy, load, edited, Call, CallTells, HasContents, IsCall};
 ghost use Rattle.cstn_headline.specs.Headline.{Checked, Ran, Replayed, Edited, Decides, IsEditedVerdict, IsExecutedOver};
-ghost use Rattle.cstn_top.specs.Dispatch.{command_of};
 ghost use Rattle.cstn_top.specs.Meanings.{IsStopped};
 ghost use Rattle.cstn_top.specs.Told.{IsTold, view};
 ghost use Rattle.cstn_headline.specs.Told.{IsToldOf};
@@ -36,15 +36,16 @@ pub fn the_headline()
     evidence_is_accepted();
 }
 
-/// All that a call tells follows from what was written, for the contents of the files that its words name: the status tells that a
-/// network has a strategy or has none, that a log is too long, or that a text is right or wrong; what was written as evidence is
-/// accepted; each answer of a run is of least moments; and a run and an edit session end by the network and by the lines.
+/// A call was stopped by a fault or by want of memory, or its status and the text that was written tell, of the contents of the files
+/// that its words name and of the lines of the live source, what `RequestTells` says of its request: that a network has a strategy or
+/// has none, that a log is too long, that a text or a document is right, wrong or refused, and how a session ended. There is no other
+/// case, and what was written as evidence is accepted.
 pub fn calls_tell<S: Source>()
     ensures told { (words : Option Request) (files : Option (List ℕ → Option (List ℕ))) (before after : S) (old new : Option (List ℕ)) (status : Status)
         (told : IsTold words files (view S.left S.faults) before after old new status)
-        → IfSome words (λ request. IsToldOf (view S.left S.faults before) old new status told.contents (command_of request)) }
+        → IfSome words (IsToldOf (view S.left S.faults before) old new status told.contents) }
     ensures call { (request : Request) (contents : List (List ℕ)) (c : Call request contents)
-        → IsToldOf c.before (Some c.old) (Some (c.old ++ c.text)) c.status contents (command_of request) }
+        → CallTells request contents c }
 {
     evidence_is_accepted();
 }

@@ -12,10 +12,12 @@ ghost use Rattle.cstn_edit.specs.Editing.{Editing, begun_editing, edit_turn, las
 ghost use Rattle.cstn_reply.specs.Sessions.{more};
 ghost use Rattle.cstn_reply.specs.Reached.{state_after};
 ghost use Rattle.cstn_request.specs.Limits.{most_document};
-ghost use Rattle.cstn_top.specs.Accepted.{HasIds, IsAccepted};
+ghost use Rattle.cstn_headline.specs.Accepted.{HasIds, IsAccepted};
 ghost use Rattle.cstn_top.specs.Plans.{Plan, IsOutput};
 ghost use Rattle.cstn_top.specs.Lines.{AreAnswered};
-ghost use Rattle.cstn_top.specs.Dispatch.{command_of, plan_at};
+ghost use Rattle.cstn_top.specs.Dispatch.{plan_at};
+ghost use Rattle.cstn_top.specs.Meanings.{IsRanged};
+ghost use Rattle.cstn_headline.specs.Tells.{AreHeld};
 ghost use Rattle.cstn_request.specs.Requests.{Asked, Request, check, run, closed, replay, closedcheck};
 ghost use Rattle.cstn_reply.specs.Texts.{Said, line};
 ghost use Rattle.cstn_reply.specs.declared.output.Outcome.TheVariants.{Good, Bad};
@@ -67,7 +69,7 @@ pub fn least_deadlines_are_lowered()
 /// And it can't be that a request has none, where values of the program can hold what its documents say, and its cap is in range.
 pub fn outputs_are_one()
     ensures one { (plan : Plan) (live : List ℕ) (one other : Said) → IsOutput plan live one → IsOutput plan live other → one ≡ other }
-    ensures some { (request : Request) (contents : List (List ℕ)) (live : List ℕ) → (command_of request).ranged → (command_of request).held contents
+    ensures some { (request : Request) (contents : List (List ℕ)) (live : List ℕ) → IsRanged request → AreHeld request contents
         → ((said : Said) → IsOutput (plan_at request contents) live said → ⊥) → ⊥ }
 {
     documents_have_one_answer();

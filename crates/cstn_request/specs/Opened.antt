@@ -1,5 +1,5 @@
 -- Documents and texts that were read.
-use Rattle.std.specs.Prelude.{◌≡◌, ℕ, ◌≤◌, ◌<◌, ◌^◌, [], ◌∷◌, List, length, Option, Result, Ok, codes}
+use Rattle.std.specs.Prelude.{◌≡◌, ℕ, ◌≤◌, ◌<◌, ◌^◌, Bool, true, false, [], ◌∷◌, List, length, Option, Result, Ok, codes}
 use Rattle.std.specs.List.{All}
 use Rattle.cstn_net.specs.Networks.{Network, IsWellFormed, count}
 use Rattle.cstn_net.specs.Read.{NetworkParts, the_network}
@@ -95,6 +95,15 @@ IsRefusal bytes deadline said = IsSaidOf bytes deadline (the_said said) × (said
 
 abbrev pub IsPlainRefusal : List ℕ → Option ℕ → SaidText → Type 0
 IsPlainRefusal bytes deadline said = IsSaidPlainly bytes deadline (the_said said) × (said.outcome ≡ Document)
+
+-- the bytes are a document of this network, by whether labels are taken; and likewise what is said of it where it is refused
+abbrev pub IsNetworkOf : Bool → List ℕ → Option ℕ → NamedNetwork → Type 0
+IsNetworkOf true = IsLoweredOf
+IsNetworkOf false = IsPlainOf
+
+abbrev pub IsNetworkRefusal : Bool → List ℕ → Option ℕ → SaidText → Type 0
+IsNetworkRefusal true = IsRefusal
+IsNetworkRefusal false = IsPlainRefusal
 
 -- the network of a labelled one was taken, since no time-point has a label
 pub record IsTakenOf (l : LabelledParts) (names : List (List ℕ)) (d : NamedNetwork) : Type 0 where

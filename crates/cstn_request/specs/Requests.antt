@@ -1,11 +1,19 @@
 -- Which words are a request.
-use Rattle.std.specs.Prelude.{ℕ, Bool, nat_le, nat_eq, ◌&&◌, if◌then◌else◌, List, [], ◌∷◌, length, Option, None, Some, codes}
+use Rattle.std.specs.Prelude.{ℕ, Bool, true, false, nat_le, nat_eq, ◌&&◌, if◌then◌else◌, List, [], ◌∷◌, length, Option, None, Some, codes}
 use Rattle.std.specs.Option.{option_map, option_and_then, unwrap_or}
 use Rattle.std.specs.Cmp.Lexicographic.{pointwise}
 use Rattle.cstn_net.specs.Limits.{most_deadline, most_load}
 use Rattle.cstn_text.specs.Numbers.{number_read}
 use Rattle.cstn_request.specs.Limits.{usual_cap, most_host_cap, most_files}
 use Rattle.cstn_request.specs.declared.words.Release.{Release}
+use Rattle.cstn_request.specs.declared.words.NetworkVerb.{NetworkVerb}
+use Rattle.cstn_request.specs.declared.words.NetworkVerb.TheVariants.{Check, Closed, Tight, Conflict, Tree, Edit}
+use Rattle.cstn_request.specs.declared.words.LabelledVerb.{LabelledVerb}
+use Rattle.cstn_request.specs.declared.words.LabelledVerb.TheVariants.{Follow, Run}
+use Rattle.cstn_request.specs.declared.words.TextVerb.{TextVerb}
+use Rattle.cstn_request.specs.declared.words.TextVerb.TheVariants.{Replay, Closedcheck, Treecheck}
+use Rattle.cstn_request.specs.declared.words.DocumentVerb.{DocumentVerb}
+use Rattle.cstn_request.specs.declared.words.DocumentVerb.TheVariants.{Save}
 
 -- the two texts are the same
 abbrev pub is_same : List ℕ → List ℕ → Bool
@@ -16,25 +24,69 @@ pub record Asked : Type 0 where
   pub file : List ℕ
   pub deadline : Option ℕ
 
--- A request: a command with the file of a document and the deadline that is to hold, and, by the command, how many entries a
--- log may have, the file of a text that is to be checked, or no more; or the number of a drill; or the files of a host, with
--- the deadline that is to hold for each and how many entries the log of each may have; or what the program is.
+-- A request: what is asked of a network, by the file of its document with the deadline that is to hold, and how many entries a log may
+-- have; of a labelled network, likewise; of a network and the file of a text that is to be checked against it; of a document alone; or
+-- the number of a drill; or the files of a host, with the deadline that is to hold for each and how many entries the log of each may
+-- have; or what the program is.
 pub data Request : Type 0 where
-  check : Asked → ℕ → Request
-  run : Asked → ℕ → Request
-  edit : Asked → ℕ → Request
-  follow : Asked → ℕ → Request
-  closed : Asked → ℕ → Request
-  tight : Asked → ℕ → Request
-  conflict : Asked → ℕ → Request
-  tree : Asked → ℕ → Request
-  save : Asked → Request
-  replay : Asked → List ℕ → Request
-  closedcheck : Asked → List ℕ → Request
-  treecheck : Asked → List ℕ → Request
+  of_network : NetworkVerb → Asked → ℕ → Request
+  of_labelled : LabelledVerb → Asked → ℕ → Request
+  of_text : TextVerb → Asked → List ℕ → Request
+  of_document : DocumentVerb → Asked → Request
   drill : ℕ → Request
   host : List (List ℕ) → Option ℕ → ℕ → Request
   version : Release → Request
+
+-- each verb, as a request
+abbrev pub check : Asked → ℕ → Request
+check asked cap = of_network Check asked cap
+
+abbrev pub closed : Asked → ℕ → Request
+closed asked cap = of_network Closed asked cap
+
+abbrev pub tight : Asked → ℕ → Request
+tight asked cap = of_network Tight asked cap
+
+abbrev pub conflict : Asked → ℕ → Request
+conflict asked cap = of_network Conflict asked cap
+
+abbrev pub tree : Asked → ℕ → Request
+tree asked cap = of_network Tree asked cap
+
+abbrev pub edit : Asked → ℕ → Request
+edit asked cap = of_network Edit asked cap
+
+abbrev pub follow : Asked → ℕ → Request
+follow asked cap = of_labelled Follow asked cap
+
+abbrev pub run : Asked → ℕ → Request
+run asked cap = of_labelled Run asked cap
+
+abbrev pub replay : Asked → List ℕ → Request
+replay asked proof = of_text Replay asked proof
+
+abbrev pub closedcheck : Asked → List ℕ → Request
+closedcheck asked proof = of_text Closedcheck asked proof
+
+abbrev pub treecheck : Asked → List ℕ → Request
+treecheck asked proof = of_text Treecheck asked proof
+
+abbrev pub save : Asked → Request
+save asked = of_document Save asked
+
+-- the time-points of the network may have labels: it is then lowered
+abbrev pub network_labels : NetworkVerb → Bool
+network_labels Check = true
+network_labels Closed = true
+network_labels Tight = true
+network_labels Conflict = false
+network_labels Tree = false
+network_labels Edit = false
+
+abbrev pub text_labels : TextVerb → Bool
+text_labels Replay = true
+text_labels Closedcheck = true
+text_labels Treecheck = false
 
 -- a number from least to most
 abbrev pub number_within : ℕ → ℕ → List ℕ → Option ℕ
@@ -144,18 +196,10 @@ request_of release (command ∷ rest) = request_at release command rest
 
 -- the files that a request names, in the order of the words
 abbrev pub files_of : Request → List (List ℕ)
-files_of (check asked cap) = asked.file ∷ []
-files_of (run asked cap) = asked.file ∷ []
-files_of (edit asked cap) = asked.file ∷ []
-files_of (follow asked cap) = asked.file ∷ []
-files_of (closed asked cap) = asked.file ∷ []
-files_of (tight asked cap) = asked.file ∷ []
-files_of (conflict asked cap) = asked.file ∷ []
-files_of (tree asked cap) = asked.file ∷ []
-files_of (save asked) = asked.file ∷ []
-files_of (replay asked proof) = asked.file ∷ proof ∷ []
-files_of (closedcheck asked proof) = asked.file ∷ proof ∷ []
-files_of (treecheck asked proof) = asked.file ∷ proof ∷ []
+files_of (of_network verb asked cap) = asked.file ∷ []
+files_of (of_labelled verb asked cap) = asked.file ∷ []
+files_of (of_text verb asked proof) = asked.file ∷ proof ∷ []
+files_of (of_document verb asked) = asked.file ∷ []
 files_of (drill number) = []
 files_of (host files deadline cap) = files
 files_of (version release) = []

@@ -8,7 +8,7 @@ ghost use Rattle.cstn_reply.specs.declared.output.Said.{Said as SaidText};
 ghost use Rattle.cstn_reply.specs.Read.{the_said};
 ghost use Rattle.cstn_reply.specs.Texts.{say};
 ghost use Rattle.cstn_request.specs.Read.{the_asked};
-ghost use Rattle.cstn_request.specs.Opened.{IsAsked, IsLabelledOf, IsLoweredOf, IsPlainOf, IsRefusal, IsPlainRefusal, IsTakenOf, TellsLabels};
+ghost use Rattle.cstn_request.specs.Opened.{IsAsked, IsLabelledOf, IsLoweredOf, IsPlainOf, IsNetworkOf, IsRefusal, IsPlainRefusal, IsNetworkRefusal, IsTakenOf, TellsLabels};
 
 use crate::refusals::refuse;
 use crate::{Asked, NamedLabelled, NamedNetwork, Unread};
@@ -63,6 +63,30 @@ pub fn open_lowered<F: Shelf>(
         network,
         names: document.names,
     })
+}
+
+/// Reads the document of a file as that of a network: where labels are taken, of the one that its labelled network is lowered to.
+/// Fails as `open_lowered` does, or as `open` does.
+pub fn open_network<F: Shelf>(
+    alloc: Global,
+    asked: Asked<'_>,
+    takes_labels: bool,
+    shelf: &mut F,
+) -> Result<NamedNetwork, Unread>
+    requires may_ask { IsTrue (F.may_ask shelf.old asked.file.now) }
+    ensures opened { IfOk result (λ d. IsAsked (F.files shelf.old) (the_asked asked.entry) (λ bytes deadline. IsNetworkOf takes_labels bytes deadline d)) }
+    ensures refused { (said : SaidText) → result ≡ Err (Unread.Told said)
+        → IsAsked (F.files shelf.old) (the_asked asked.entry) (λ bytes deadline. IsNetworkRefusal takes_labels bytes deadline said) }
+    ensures names { F.may_ask shelf.new ≡ F.may_ask shelf.old }
+    ensures files { F.files shelf.new ≡ F.files shelf.old }
+    ensures later { F.faults shelf.old ≤ F.faults shelf.new }
+    ensures fault { IsErrOf result Unread.ReadFault → Rose (F.faults shelf.old) (F.faults shelf.new) }
+{
+    if takes_labels {
+        open_lowered(alloc, asked, shelf)
+    } else {
+        open(alloc, asked, shelf)
+    }
 }
 
 /// Reads the document of a file, whose time-points may have labels. Fails where it is refused, where the file can't be read, and

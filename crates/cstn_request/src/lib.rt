@@ -8,8 +8,10 @@ mod refusals;
 mod texts;
 mod words;
 
-pub use documents::{open, open_labelled, open_lowered};
+pub use documents::{open, open_labelled, open_lowered, open_network};
 pub use files::HostFiles;
 pub use reading::{NamedLabelled, NamedNetwork, Unread};
 pub use texts::read_text;
-pub use words::{Asked, Release, Request, parse};
+pub use words::{
+    Asked, DocumentVerb, LabelledVerb, NetworkVerb, Release, Request, TextVerb, parse,
+};

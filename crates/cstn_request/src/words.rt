@@ -4,6 +4,7 @@ ghost use Rattle.std.specs.Option.{option_map, option_and_then, unwrap_or};
 ghost use Rattle.cstn_net.specs.Limits.{most_load};
 ghost use Rattle.cstn_request.specs.Requests.{number_within, value_at, option_at, deadline_at, cap_at, deadline_of, cap_of};
 ghost use Rattle.cstn_request.specs.Requests.{asked_of, capped_of, capped_at, checked_of, drill_of, request_at};
+ghost use Rattle.cstn_request.specs.Requests.{of_network, of_labelled, of_text, of_document, network_labels, text_labels};
 ghost use Rattle.cstn_request.specs.Requests.{hosted_of, host_of, version_of};
 ghost use Rattle.cstn_request.specs.Limits.{usual_cap};
 ghost use Rattle.cstn_request.specs.Read.{the_asked, the_capped, the_taken, the_request, request_in};
@@ -27,53 +28,84 @@ pub struct Release {
     pub lines: u32,
 }
 
-/// What the words ask for: a command with its files and options, or what the program is.
+/// What is asked of a network, the log of which may have so many entries.
+#[derive(Clone, Copy)]
+pub enum NetworkVerb {
+    Check,
+    Closed,
+    Tight,
+    Conflict,
+    Tree,
+    Edit,
+}
+
+impl NetworkVerb {
+    /// Whether time-points may have labels: the network is then the one that the labelled network is lowered to.
+    pub fn takes_labels(self) -> bool
+        ensures taken { result ≡ network_labels self }
+    {
+        match self {
+            NetworkVerb::Check | NetworkVerb::Closed | NetworkVerb::Tight => true,
+            NetworkVerb::Conflict | NetworkVerb::Tree | NetworkVerb::Edit => false,
+        }
+    }
+}
+
+/// What is asked of a labelled network, the log of which may have so many entries.
+#[derive(Clone, Copy)]
+pub enum LabelledVerb {
+    Follow,
+    Run,
+}
+
+/// What is asked of a network and a text that is to be checked against it.
+#[derive(Clone, Copy)]
+pub enum TextVerb {
+    Replay,
+    Closedcheck,
+    Treecheck,
+}
+
+impl TextVerb {
+    /// Whether time-points may have labels: the network is then the one that the labelled network is lowered to.
+    pub fn takes_labels(self) -> bool
+        ensures taken { result ≡ text_labels self }
+    {
+        match self {
+            TextVerb::Replay | TextVerb::Closedcheck => true,
+            TextVerb::Treecheck => false,
+        }
+    }
+}
+
+/// What is asked of a document alone.
+#[derive(Clone, Copy)]
+pub enum DocumentVerb {
+    Save,
+}
+
+/// What the words ask for, by what they name: a document, with how many entries a log may have, with a text, or with no more; a
+/// number; files; or nothing but the program.
 #[derive(Clone, Copy)]
 pub enum Request<'a> {
-    Check {
+    OfNetwork {
+        verb: NetworkVerb,
         asked: Asked<'a>,
         cap: Cap,
     },
-    Run {
+    OfLabelled {
+        verb: LabelledVerb,
         asked: Asked<'a>,
         cap: Cap,
     },
-    Edit {
-        asked: Asked<'a>,
-        cap: Cap,
-    },
-    Follow {
-        asked: Asked<'a>,
-        cap: Cap,
-    },
-    Closed {
-        asked: Asked<'a>,
-        cap: Cap,
-    },
-    Tight {
-        asked: Asked<'a>,
-        cap: Cap,
-    },
-    Conflict {
-        asked: Asked<'a>,
-        cap: Cap,
-    },
-    Tree {
-        asked: Asked<'a>,
-        cap: Cap,
-    },
-    Save(Asked<'a>),
-    Replay {
+    OfText {
+        verb: TextVerb,
         asked: Asked<'a>,
         proof: &'a str,
     },
-    Closedcheck {
+    OfDocument {
+        verb: DocumentVerb,
         asked: Asked<'a>,
-        proof: &'a str,
-    },
-    Treecheck {
-        asked: Asked<'a>,
-        proof: &'a str,
     },
     Drill(u64),
     Host {
@@ -110,24 +142,31 @@ fn request_at<'a>(release: Release, command: &str, rest: &'a [String]) -> Option
     ensures request { option_map the_request result ≡ request_at release command.now (map string_bytes rest.now) }
 {
     match command {
-        "save" => Some(Request::Save(asked_of(rest)?)),
-        "replay" => {
-            let (asked, proof) = checked_of(rest)?;
-            Some(Request::Replay { asked, proof })
-        }
-        "closedcheck" => {
-            let (asked, proof) = checked_of(rest)?;
-            Some(Request::Closedcheck { asked, proof })
-        }
-        "treecheck" => {
-            let (asked, proof) = checked_of(rest)?;
-            Some(Request::Treecheck { asked, proof })
-        }
+        "save" => document_request(DocumentVerb::Save, rest),
+        "replay" => text_request(TextVerb::Replay, rest),
+        "closedcheck" => text_request(TextVerb::Closedcheck, rest),
+        "treecheck" => text_request(TextVerb::Treecheck, rest),
         "drill" => drill_of(rest),
         "host" => host_of(rest),
         "--version" => version_of(release, rest),
         command => capped_request(command, rest),
     }
+}
+
+// The request of a verb that takes a document alone, by the words after it.
+fn document_request(verb: DocumentVerb, words: &[String]) -> Option<Request<'_>>
+    ensures request { option_map the_request result ≡ option_map (of_document verb) (asked_of (map string_bytes words.now)) }
+{
+    let asked = asked_of(words)?;
+    Some(Request::OfDocument { verb, asked })
+}
+
+// The request of a verb that takes a document and a text, by the words after it.
+fn text_request(verb: TextVerb, words: &[String]) -> Option<Request<'_>>
+    ensures request { option_map the_request result ≡ option_map (λ found. of_text verb found.0 found.1) (checked_of (map string_bytes words.now)) }
+{
+    let (asked, proof) = checked_of(words)?;
+    Some(Request::OfText { verb, asked, proof })
 }
 
 // The request of a command that takes a file and a cap, by the words after it. A cap is how many entries a log may have.
@@ -143,16 +182,28 @@ fn capped_at<'a>(command: &str, asked: Asked<'a>, cap: Cap) -> Option<Request<'a
     ensures request { option_map the_request result ≡ capped_at command.now (the_asked asked.entry, cap.entries) }
 {
     match command {
-        "check" => Some(Request::Check { asked, cap }),
-        "run" => Some(Request::Run { asked, cap }),
-        "edit" => Some(Request::Edit { asked, cap }),
-        "follow" => Some(Request::Follow { asked, cap }),
-        "closed" => Some(Request::Closed { asked, cap }),
-        "tight" => Some(Request::Tight { asked, cap }),
-        "conflict" => Some(Request::Conflict { asked, cap }),
-        "tree" => Some(Request::Tree { asked, cap }),
+        "check" => Some(on_network(NetworkVerb::Check, asked, cap)),
+        "run" => Some(on_labelled(LabelledVerb::Run, asked, cap)),
+        "edit" => Some(on_network(NetworkVerb::Edit, asked, cap)),
+        "follow" => Some(on_labelled(LabelledVerb::Follow, asked, cap)),
+        "closed" => Some(on_network(NetworkVerb::Closed, asked, cap)),
+        "tight" => Some(on_network(NetworkVerb::Tight, asked, cap)),
+        "conflict" => Some(on_network(NetworkVerb::Conflict, asked, cap)),
+        "tree" => Some(on_network(NetworkVerb::Tree, asked, cap)),
         _ => None,
     }
+}
+
+fn on_network<'a>(verb: NetworkVerb, asked: Asked<'a>, cap: Cap) -> Request<'a>
+    ensures request { the_request result.entry ≡ of_network verb (the_asked asked.entry) cap.entries }
+{
+    Request::OfNetwork { verb, asked, cap }
+}
+
+fn on_labelled<'a>(verb: LabelledVerb, asked: Asked<'a>, cap: Cap) -> Request<'a>
+    ensures request { the_request result.entry ≡ of_labelled verb (the_asked asked.entry) cap.entries }
+{
+    Request::OfLabelled { verb, asked, cap }
 }
 
 // A file with its deadline, and the file of the text that is to be checked against it.

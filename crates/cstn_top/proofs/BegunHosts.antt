@@ -18,7 +18,7 @@ use Rattle.cstn_top.specs.Plans.{Plan, says, ComesTo, session}
 use Rattle.cstn_top.specs.Answers.{on_verdict, unless_said}
 use Rattle.cstn_top.specs.commands.Host.{on_verdicts, attended}
 use Rattle.cstn_top.specs.Prepared.{the_plan, FitsKind}
-use Rattle.cstn_top.specs.Command.{a_host}
+use Rattle.cstn_top.specs.Kinds.{a_host}
 use Rattle.cstn_reply.specs.Written.{EndsLine}
 use Rattle.cstn_reply.specs.Read.{the_said}
 use Rattle.cstn_reply.specs.declared.output.Said.{Said as SaidText}

@@ -1,13 +1,19 @@
 -- The names of a document's time-points are names: different texts of 1 to 64 bytes.
-use Rattle.std.proofs.Common.{◌≡◌, ◌≢◌, ℕ, zero, suc, ◌<◌, ◌^◌, Bool, true, false, List, [], ◌∷◌, ◌++◌, length, map, refl, ap, sym, ◌∙◌, subst, arith, Option, Some, None, Result, Ok}
-use Rattle.std.specs.Prelude.{if◌then◌else◌, is_some, codes, not, nat_lt, nat_le, ◌&&◌}
+use Rattle.std.proofs.Common.{◌≡◌, ℕ, ◌+◌, ◌<◌, Bool, true, false, List, [], ◌∷◌, length, refl, ap, sym, ◌∙◌, subst, arith, ◌≢◌, zero, suc, ◌^◌, ◌++◌, map, Option, Some, None, Result, Ok}
+use Rattle.std.specs.Prelude.{if◌then◌else◌, Option, None, Some, Result, Ok, codes, is_some, not, nat_lt, nat_le, ◌&&◌}
+use Rattle.cstn_label.specs.Labels.{Label}
+use Rattle.cstn_element.specs.Results.{Refusal as Refused, or_refused, Refusal, ◌>>=◌, demand}
+use Rattle.cstn_element.specs.Results.Refusal.{no_deadline, shape, bad_value, unknown_node, name_twice, label_text}
+use Rattle.cstn_graphml.specs.Document.{Parts, document, in_document, is_text, drawn_parts, first_of_two, or_nothing, Part, graph_child, graph_reading, in_graph, root_child, root_reading, in_root, document_child, document_reading, part_of}
+use Rattle.cstn_graphml.proofs.DrawnGraphLaws.{bind_ok, document_is_drawn}
+use Rattle.cstn_change.specs.Changes.{Refusal}
+use Rattle.cstn_reply.specs.Sessions.{last, wrong}
 use Rattle.std.specs.List.{All, AllPairs, AllByRecursion, Contains, list_any}
 use Rattle.std.specs.Str.{IsAscii, IsUtf8, is_utf8}
 use Rattle.std.proofs.lemmas.List.{get_or_default}
 use Rattle.std.proofs.lemmas.List.Elements.{All-push}
 use Rattle.std.proofs.lemmas.List.Quantifiers.{all_pairs_push}
 use Rattle.std.proofs.lemmas.Str.{IsUtf8-nil, IsUtf8-from_ascii, IsUtf8-from_is_utf8}
-use Rattle.cstn_label.specs.Labels.{Label}
 use Rattle.cstn_markup.specs.Bytes.{is_same, resolved}
 use Rattle.cstn_markup.specs.Tokens.{Attribute, Kind, Token, raw_with, tokens}
 use Rattle.cstn_markup.specs.Tokens.Kind.{start_tag, end_tag, text_run, wrong, finish}
@@ -19,16 +25,12 @@ use Rattle.cstn_text.specs.Names.{IsName, AreNames}
 use Rattle.cstn_text.proofs.NameLemmas.{shaped}
 use Rattle.cstn_element.specs.ValueTexts.{Pair, values_of}
 use Rattle.cstn_element.specs.NumberTexts.{deadline_of}
-use Rattle.cstn_element.specs.Results.{Refusal, ◌>>=◌, or_refused, demand}
-use Rattle.cstn_element.specs.Results.Refusal.{shape, bad_value, unknown_node, name_twice, label_text, no_deadline}
 use Rattle.cstn_element.specs.Contents.{Tag, Content, inner, outer, opened, closed_by, contents_by, contents, content_of}
 use Rattle.cstn_element.specs.Contents.Content.{done, cut, run, element}
 use Rattle.cstn_element.specs.Elements.{Reading, read_by, Datum, blank, passed, datum, data_of, datum_of, attribute, read_of, read_option, or_no_bytes}
 use Rattle.cstn_graphml.specs.DrawnGraph.{Observation, observation, DrawnGraph, empty_graph, origin_name, node_of, with_node, with_constraint, with_deadline}
 use Rattle.cstn_graphml.specs.Judged.{judged_node, judged_edge, judged_deadline, with_pair, with_pairs, with_values, with_edge, is_kept, observed, reacting, labelled}
-use Rattle.cstn_graphml.specs.Document.{Parts, Part, graph_child, graph_reading, in_graph, root_child, root_reading, in_root, document_child, document_reading, in_document, part_of, drawn_parts, or_nothing, first_of_two, is_text, document}
 use Rattle.cstn_graphml.specs.Document.Part.{a_datum, a_node, an_edge, another}
-use Rattle.cstn_graphml.proofs.DrawnGraphLaws.{bind_ok}
 use Rattle.cstn_graphml.proofs.FreshNames.{fresh}
 
 -- the names and values of a tag are UTF-8, or those of all tags of a content
@@ -281,3 +283,15 @@ document_names bytes deadline parts is few =
       different = subst (AllPairs (λ (a b : List ℕ). a ≢ b)) same named.different;
       few = few;
     }
+
+-- each time-point of a document has a name
+pub document_named : (bytes : List ℕ) (deadline : Option ℕ) (parts : Parts) → document bytes deadline ≡ Ok parts → length parts.names ≡ length parts.observes
+document_named bytes deadline parts is =
+    let text = bind_ok (is_text bytes) _ parts is in
+    let graph = bind_ok (in_document _) (drawn_parts deadline) parts text.2 in
+    let whole : ℕ → Parts = λ n. record { deadline = n; names = graph.0.names; observes = or_nothing graph.0.origin ∷ graph.0.observes; labels = graph.0.origin_label ∷ graph.0.labels; constraints = graph.0.constraints } in
+    let timed = bind_ok (or_refused (first_of_two deadline graph.0.deadline) no_deadline) (λ n. Ok (whole n)) parts graph.2 in
+    let each = (document_is_drawn _ graph.0 graph.1).each in
+    let told : ◌≡◌ {A = Result Parts Refused} (Ok (whole timed.0)) (Ok parts) = timed.2 in
+    let same : whole timed.0 ≡ parts = cc in
+    subst (λ (p : Parts). length p.names ≡ length p.observes) same (omega (arith, each))

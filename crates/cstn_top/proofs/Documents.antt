@@ -1,31 +1,38 @@
 -- What is said of the document of a file.
-use Rattle.std.proofs.Common.{◌≡◌, ℕ, Bool, true, false, List, length, refl, sym, ap, ◌∙◌, inl, inr, arith}
+use Rattle.std.proofs.Common.{◌≡◌, ℕ, Bool, true, false, List, length, refl, sym, ap, ◌∙◌, inl, inr, arith, ◌+◌, ◌-◌, ◌≤◌, ◌<◌, ◌^◌, [], ◌∷◌}
 use Rattle.std.specs.Prelude.{◌⊎◌, nat_lt, if◌then◌else◌, Option, None, Some, Result, Ok, Err, IsSomeAnd, codes}
 use Rattle.std.proofs.lemmas.List.{length-map}
-use Rattle.cstn_net.specs.Networks.{Network, IsWellFormed, count}
+use Rattle.std.specs.List.{All}
+use Rattle.std.proofs.lemmas.List.Elements.{All-nil, All-cons}
+use Rattle.cstn_net.specs.Limits.{most_constraints}
+use Rattle.cstn_net.specs.Networks.{Network, Constraint, IsWellFormed, count}
+use Rattle.cstn_graphml.specs.DrawnGraph.{DrawnConstraint}
+use Rattle.cstn_graphml.specs.Networks.{numbered_drawn, observed_prop, network_of, labelled_of, IsFit}
 use Rattle.cstn_element.specs.Results.{Refusal as DocumentRefusal}
 use Rattle.cstn_graphml.specs.Document.{Parts, document}
-use Rattle.cstn_graphml.specs.Networks.{observed_prop, network_of, labelled_of, IsFit}
 use Rattle.cstn_reply.specs.Texts.{Said, say}
 use Rattle.cstn_request.specs.Limits.{most_document}
 use Rattle.cstn_top.specs.Plans.{says, unlabelled, IsOutput, MayTalk}
 use Rattle.cstn_top.specs.Answers.{Answer, LabelledAnswer, of_plain, judged, on_labelled, on_document}
-use Rattle.cstn_request.specs.Documents.{AreUnlabelled}
+use Rattle.cstn_request.specs.Documents.{AreUnlabelled, parts_of, HasLabelled, HasNetwork, IsNoDocument, IsRefused}
 use Rattle.cstn_reply.specs.declared.output.Outcome.TheVariants.{Document}
-use Rattle.cstn_request.specs.Documents.{parts_of, HasLabelled, HasNetwork, IsNoDocument, IsRefused}
 use Rattle.cstn_graphml.proofs.Fits.{fits}
-use Rattle.cstn_top.proofs.DocumentNames.{document_names}
-use Rattle.cstn_top.proofs.ReadBack.{numbered_ids}
-use Rattle.cstn_top.proofs.Edited.{document_named}
-use Rattle.cstn_top.specs.Accepted.{HasIds}
+use Rattle.cstn_top.proofs.DocumentNames.{document_names, document_named}
 use Rattle.cstn_text.specs.Names.{AreNames}
+
+-- the ids of the constraints of a document are numbers of 32 bits
+numbered_ids : (k : ℕ) (cs : List DrawnConstraint) → k + length (numbered_drawn k cs) ≤ most_constraints → All (λ (c : Constraint). c.id < 2 ^ 32) (numbered_drawn k cs)
+numbered_ids k [] few = All-nil (λ (c : Constraint). c.id < 2 ^ 32)
+numbered_ids k (c ∷ cs) few =
+    All-cons (λ (c : Constraint). c.id < 2 ^ 32) (record { id = k; from = c.from; to = c.to; most = c.most; label = c.label }) (numbered_drawn (k + 1) cs)
+    (omega arith) (numbered_ids (k + 1) cs (omega arith))
 
 -- a network as a document has it: it is well-formed, its time-points have names, and its ids are numbers of 32 bits
 pub record IsOfDocument (names : List (List ℕ)) (net : Network) : Type 0 where
   pub good : IsWellFormed net
   pub named : length names ≡ count net
   pub are : AreNames names
-  pub ids : HasIds net
+  pub ids : All (λ (c : Constraint). c.id < 2 ^ 32) net.constraints
 
 -- what is said of a document: it is refused, or this is said of its labelled network
 pub labelled_says : (answer : LabelledAnswer) (bytes : List ℕ) (deadline : Option ℕ) (live : List ℕ) (said : Said) → IsOutput (on_labelled answer bytes deadline) live said → ((said.outcome ≡ Document) × IsNoDocument bytes deadline) ⊎ HasLabelled bytes deadline (λ names m. IsOutput (answer names m) live said)

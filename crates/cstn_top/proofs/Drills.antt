@@ -1,6 +1,6 @@
 -- Drills: the networks, what the check and the table say of them, and their counts.
-use Rattle.std.proofs.Common.{◌≡◌, ℕ, zero, suc, ◌+◌, ◌%◌, ◌^◌, ◌≤◌, ◌<◌, Bool, true, false, List, [], length, refl, ap, sym, subst, ◌∙◌, arith}
-use Rattle.std.specs.Prelude.{◌↔◌, not, if◌then◌else◌, Option, None, Some, IsSome, IsNone}
+use Rattle.std.proofs.Common.{◌≡◌, ℕ, ◌+◌, ◌%◌, ◌^◌, ◌≤◌, ◌<◌, Bool, true, false, length, refl, ap, sym, subst, ◌∙◌, arith}
+use Rattle.std.specs.Prelude.{◌↔◌, not, Option, None, Some, IsSome, IsNone}
 use Rattle.cstn_net.specs.Networks.{Network, IsWellFormed}
 use Rattle.cstn_net.specs.Strategies.{IsConsistent}
 use Rattle.cstn_net.specs.Read.{NetworkParts, the_network}
@@ -13,17 +13,9 @@ use Rattle.cstn_check.proofs.Decides.{log_decides}
 use Rattle.cstn_table.specs.Tables.{observed_props}
 use Rattle.cstn_gen.specs.Generated.{generated}
 use Rattle.cstn_gen.proofs.WellFormed.{well_formed}
-use Rattle.cstn_request.specs.Requests.{drill}
-use Rattle.cstn_top.specs.Plans.{says}
-use Rattle.cstn_top.specs.commands.Drill.{drilled, small, large, is_unrefuted, unrefuted, AreConsistent, none, one_more, no_more}
+use Rattle.cstn_top.specs.commands.Drill.{small, large, is_unrefuted}
 use Rattle.cstn_top.specs.declared.commands.drill.TheConstants.{SMALL_CAP}
-use Rattle.cstn_top.specs.Meanings.{files_read}
-use Rattle.cstn_top.specs.Questions.{Asks}
 use Rattle.cstn_check.specs.Decisions.{verdict}
-use Rattle.cstn_top.specs.declared.commands.questions.Question.TheVariants.{Drill}
-use Rattle.cstn_top.proofs.Comes.{comes_itself}
-use Rattle.cstn_reply.specs.declared.status.Status.{Status}
-use Rattle.cstn_request.proofs.Contents.{none_there}
 use Rattle.cstn_check.proofs.Deciding.{verdict_full, verdict_no, verdict_yes}
 
 pub small_is : (number i : ℕ) → generated ((number + i) % 2 ^ 64) 6 ≡ small number i
@@ -105,23 +97,3 @@ verdict_is net network check cap v good same is is_full is_no is_yes =
     by_verdict c n (Yes load) good' full' no' yes' = let told = (yes' load).0 refl in ap Yes told.0 ∙ sym (verdict_yes c n good' told.1 told.2)
     by_verdict c n (No load) good' full' no' yes' = let told = (no' load).0 refl in ap No told.0 ∙ sym (verdict_no c n told.1 told.2)
     by_verdict c n Full good' full' no' yes' = sym (verdict_full c n (full'.0 refl))
-
--- the counts of the small networks are right
-counts_more : (number n : ℕ) (b : Bool) → is_unrefuted (small number n) ≡ b → AreConsistent number n (unrefuted number n) → AreConsistent number (suc n) (unrefuted number n + (if b then 1 else 0))
-counts_more number n true is before = one_more n (unrefuted number n) before (true_consistent (small number n) (small_good number n) is)
-counts_more number n false is before =
-    let so : unrefuted number n ≡ unrefuted number n + 0 = omega arith in
-    subst (AreConsistent number (suc n)) so
-    (no_more n (unrefuted number n) before (λ consistent. absurd (let yes : is_unrefuted (small number n) ≡ true = consistent_true (small number n) (small_good number n) consistent in cc)))
-
-pub counts_right : (number n : ℕ) → AreConsistent number n (unrefuted number n)
-counts_right number zero = none
-counts_right number (suc n) = counts_more number n (is_unrefuted (small number n)) refl (counts_right number n)
-
--- no file is read for a drill
-no_file_read : (status : Status) → files_read status [] ≡ []
-no_file_read status = grind arith
-
--- what a drill asks
-pub drill_asked : (number : ℕ) (told : Option (List ℕ → Option (List ℕ))) → Asks (drill number) told (Drill number)
-drill_asked number told = record { contents = []; are = λ files e. refl; comes = comes_itself (says (drilled number)); there = none_there told }

@@ -3,20 +3,18 @@ use Rattle.std.proofs.Common.{◌≡◌, ℕ, List, [], ◌++◌, refl, sym, ◌
 use Rattle.std.specs.Prelude.{◌⊎◌, Bool, true, false, IsNone, Option, None, Some, codes}
 use Rattle.std.specs.Option.{option_map}
 use Rattle.cstn_io.specs.Contents.{IsAllOf}
-use Rattle.cstn_reply.specs.Texts.{line}
-use Rattle.cstn_request.specs.Requests.{Request, files_of, names_of}
+use Rattle.cstn_reply.specs.Texts.{line, Said, say}
+use Rattle.cstn_request.specs.Requests.{Request, files_of, names_of, host}
 use Rattle.cstn_request.specs.Files.{AreContents, AreThere}
-use Rattle.cstn_reply.specs.Texts.{Said, say}
 use Rattle.cstn_top.specs.Plans.{Plan, says, before_fault, IsOutput, MayTalk, IsText, Ends, ComesTo, Untouched, session, ended_session}
-use Rattle.cstn_top.specs.Dispatch.{plan_of, plan_at}
-use Rattle.cstn_top.specs.Prepared.{the_plan, Planned, IsLined, MayWant, TellsRefused}
+use Rattle.cstn_top.specs.Dispatch.{plan_of, plan_at, kind_at}
+use Rattle.cstn_top.specs.Prepared.{the_plan, Planned, IsLined, MayWant, TellsRefused, FitsKind}
 use Rattle.cstn_top.specs.Meanings.{HoldsOf, IsStopped, files_read, RefusedIsThere, ReadsLive, MayStop}
 use Rattle.cstn_reply.specs.Written.{LiveState, is_output, is_file_fault, is_live_fault, is_memory, IsWritten}
 use Rattle.cstn_reply.specs.Sessions.{Turn}
 use Rattle.cstn_reply.specs.Reached.{heard, MeetsLine}
 use Rattle.cstn_edit.specs.Editing.{the_editing, edit_turn, edit_wants}
 use Rattle.cstn_run.specs.hosted.Sessions.{host_turn, host_wants}
-use Rattle.cstn_request.specs.Requests.{host}
 use Rattle.cstn_run.specs.hosted.SessionRead.{the_host_session}
 use Rattle.cstn_reply.specs.Read.{the_said}
 use Rattle.cstn_top.specs.Told.{Answers}
@@ -31,13 +29,11 @@ use Rattle.cstn_reply.specs.declared.output.Outcome.{Outcome}
 use Rattle.cstn_reply.specs.declared.output.Outcome.TheVariants.{Words, Document}
 use Rattle.cstn_reply.proofs.Contents.{given, all_given}
 use Rattle.cstn_request.proofs.Contents.{some_contents, none_there}
-use Rattle.cstn_top.proofs.Handled.{IsRight}
-use Rattle.cstn_top.proofs.Dispatch.{handled, kind_wants, wants_by}
+use Rattle.cstn_top.proofs.Answered.{IsAnswer, answered}
+use Rattle.cstn_top.proofs.Talks.{reads}
 use Rattle.cstn_top.specs.commands.Follow.{follow_turn}
 use Rattle.cstn_follow.specs.Read.{the_following}
-use Rattle.cstn_top.specs.Command.{Kind, WantsMemory, wants_ends, an_edit, a_follow, a_host}
-use Rattle.cstn_top.specs.Dispatch.{command_of}
-use Rattle.cstn_top.specs.Prepared.{FitsKind}
+use Rattle.cstn_top.specs.Kinds.{Kind, wants_memory, wants_ends, an_edit, a_follow, a_host}
 use Rattle.cstn_lines.proofs.StepLemmas.{no_bytes}
 
 -- how a call ends, for contents of the files that its words name
@@ -147,7 +143,7 @@ end_status plan before after old new result ends = by_written ends.3
     by_written (inl (same, wrote)) = by_text ends.0 same (text_status plan before after ends.0 ends.1 ends.2)
     by_written (inr (fault, cut)) = inr (inr (inl fault))
 
-status_alone : (outcome other : Outcome) → status_of outcome ≡ status_of other → outcome ≡ other
+pub status_alone : (outcome other : Outcome) → status_of outcome ≡ status_of other → outcome ≡ other
 status_alone outcome other is = grind arith
 
 not_stopped : (outcome : Outcome) → IsStopped (status_of outcome) → ⊥
@@ -155,24 +151,19 @@ not_stopped outcome (inl is) = grind arith
 not_stopped outcome (inr (inl is)) = grind arith
 not_stopped outcome (inr (inr is)) = grind arith
 
--- what the status of an output tells of a request
-pub request_tells : {S : Type 0} (r : Request) (told : Option (List ℕ → Option (List ℕ))) (source now : S) (before after : LiveState) (old new : Option (List ℕ)) (result : Status) (outcome : Outcome) (answered : Answered (Some r) told source now before after old new result) → result ≡ status_of outcome → IsRight before.left outcome r answered.0
-request_tells r told source now before after old new result outcome answered is = by_status (end_status (plan_at r answered.0) before after old new result answered.2)
-  where
-    by_status : EndsAs (plan_at r answered.0) before result ⊎ IsStopped result → IsRight before.left outcome r answered.0
-    by_status (inl (live, all, (said, output, at))) =
-        subst (λ (o : Outcome). IsRight before.left o r answered.0) (status_alone said.outcome outcome (sym at ∙ is)) ((handled r).right before.left answered.0 live said all output)
-    by_status (inr stopped) = absurd (not_stopped outcome (subst IsStopped is stopped))
-
 -- the status Words comes only where the words are no request
 pub words_is : {S : Type 0} (words : Option Request) (told : Option (List ℕ → Option (List ℕ))) (source now : S) (before after : LiveState) (old new : Option (List ℕ)) (result : Status) → Answered words told source now before after old new result → result ≡ IsWords → IsNone words
-words_is None told source now before after old new result answered is = refl
-words_is (Some r) told source now before after old new result answered is = absurd (request_tells r told source now before after old new result Words answered is)
+words_is None told source now before after old new result ends is = refl
+words_is (Some r) told source now before after old new result ends is = absurd (by_status (end_status (plan_at r ends.0) before after old new result ends.2))
+  where
+    by_status : EndsAs (plan_at r ends.0) before result ⊎ IsStopped result → ⊥
+    by_status (inl (live, all, (said, output, at))) = subst IsAnswer (status_alone said.outcome Words (sym at ∙ is)) (answered r ends.0 live said output)
+    by_status (inr stopped) = not_stopped Words (subst IsStopped is stopped)
 
 -- a session was held only by a request that reads the live source
 pub reads_live : (words : Option Request) (r : Request) (told : Option (List ℕ → Option (List ℕ))) (plan : Plan) → Some r ≡ words → Planned r told plan → MayTalk plan → HoldsOf words told ReadsLive
 reads_live words r told plan there planned may =
-    subst (λ (w : Option Request). HoldsOf w told ReadsLive) there (planned.contents, planned.are, (handled r).talks planned.contents (planned.comes.talks may))
+    subst (λ (w : Option Request). HoldsOf w told ReadsLive) there (planned.contents, planned.are, reads r planned.contents (planned.comes.talks may))
 
 -- and else the live source is as it was
 pub live_is : {S : Type 0} (words : Option Request) (r : Request) (told : Option (List ℕ → Option (List ℕ))) (plan : Plan) (source now : S) → Some r ≡ words → Planned r told plan → Untouched plan source now → HoldsOf words told ReadsLive ⊎ (now ≡ source)
@@ -196,30 +187,28 @@ meets ends heard other opening kind told same (live, all, found) = (
   },
 )
 
--- an answer may want memory only where that is asked for
-may_stop : (words : Option Request) (r : Request) (told : Option (List ℕ → Option (List ℕ))) (live : Option (List ℕ)) (plan : Plan) → Some r ≡ words → Planned r told plan → WantsMemory (command_of r).kind → MayTalk plan → ((contents : List (List ℕ)) → ComesTo (plan_at r contents) plan → MeetsLine (wants_ends (command_of r).kind) (before_fault (plan_at r contents)) (command_of r).lines.wants_at live) → HoldsOf words told (MayStop live)
-may_stop words r told live plan there planned wants may at =
+-- an answer may want memory only where the request reads the live source
+may_stop : (words : Option Request) (r : Request) (told : Option (List ℕ → Option (List ℕ))) (live : Option (List ℕ)) (plan : Plan) → Some r ≡ words → Planned r told plan → MayTalk plan → ((contents : List (List ℕ)) → ComesTo (plan_at r contents) plan → MeetsLine (wants_ends (kind_at r)) (before_fault (plan_at r contents)) (wants_memory (kind_at r)) live) → HoldsOf words told (MayStop live)
+may_stop words r told live plan there planned may at =
     subst (λ (w : Option Request). HoldsOf w told (MayStop live)) there
-    (planned.contents, planned.are, ((handled r).wants planned.contents wants (planned.comes.talks may), at planned.contents planned.comes))
+    (planned.contents, planned.are, (reads r planned.contents (planned.comes.talks may), at planned.contents planned.comes))
 
 -- a session of a kind comes to a line that may want memory
-kinded : (r : Request) (contents : List (List ℕ)) (live : Option (List ℕ)) (kind : Kind) → (command_of r).kind ≡ kind → MeetsLine (wants_ends kind) (before_fault (plan_at r contents)) (kind_wants kind) live →
-    MeetsLine (wants_ends (command_of r).kind) (before_fault (plan_at r contents)) (command_of r).lines.wants_at live
-kinded r contents live kind fits meets_line =
-    subst (λ (w : List ℕ → Bool). MeetsLine (wants_ends (command_of r).kind) (before_fault (plan_at r contents)) w live) (sym (wants_by r))
-    (subst (λ (k : Kind). MeetsLine (wants_ends k) (before_fault (plan_at r contents)) (kind_wants k) live) (sym fits) meets_line)
+kinded : (r : Request) (contents : List (List ℕ)) (live : Option (List ℕ)) (kind : Kind) → kind_at r ≡ kind → MeetsLine (wants_ends kind) (before_fault (plan_at r contents)) (wants_memory kind) live →
+    MeetsLine (wants_ends (kind_at r)) (before_fault (plan_at r contents)) (wants_memory (kind_at r)) live
+kinded r contents live kind fits meets_line = subst (λ (k : Kind). MeetsLine (wants_ends k) (before_fault (plan_at r contents)) (wants_memory k) live) (sym fits) meets_line
 
-wants : (words : Option Request) (r : Request) (told : Option (List ℕ → Option (List ℕ))) (live : Option (List ℕ)) (p : Prepared) → Some r ≡ words → Planned r told (the_plan p) → FitsKind (command_of r).kind p → MayWant live p → HoldsOf words told (MayStop live)
+wants : (words : Option Request) (r : Request) (told : Option (List ℕ → Option (List ℕ))) (live : Option (List ℕ)) (p : Prepared) → Some r ≡ words → Planned r told (the_plan p) → FitsKind (kind_at r) p → MayWant live p → HoldsOf words told (MayStop live)
 wants words r told live (Says said) there planned fits want = absurd want
 wants words r told live (Runs opening guiding) there planned fits want = absurd want
 wants words r told live (Edits editing) there planned fits want =
-    may_stop words r told live _ there planned (subst WantsMemory (sym fits) tt) tt
+    may_stop words r told live _ there planned tt
     (λ contents comes. kinded r contents live an_edit fits (meets false (heard edit_turn (the_editing editing)) (before_fault (plan_at r contents)) [] edit_wants live (comes.fault tt) want))
 wants words r told live (Follows opening session') there planned fits want =
-    may_stop words r told live _ there planned (subst WantsMemory (sym fits.1) tt) tt
+    may_stop words r told live _ there planned tt
     (λ contents comes. kinded r contents live a_follow fits.1 (meets true (heard follow_turn (the_following session')) (before_fault (plan_at r contents)) opening.items (λ line. true) live (comes.fault tt) want))
 wants words r told live (Hosts opening ward) there planned fits want =
-    may_stop words r told live _ there planned (subst WantsMemory (sym fits.1) tt) tt
+    may_stop words r told live _ there planned tt
     (λ contents comes. kinded r contents live a_host fits.1 (meets false (heard host_turn (the_host_session ward)) (before_fault (plan_at r contents)) opening.items host_wants live (comes.fault tt) want))
 
 -- where no answer may want memory, none is wanted
@@ -231,7 +220,7 @@ unasked heard told Want Alone (inr alone) = inr alone
 pub wants_as : (live : Option (List ℕ)) (p other : Prepared) (Alone : Type 0) → p ≡ other → MayWant live other ⊎ Alone → MayWant live p ⊎ Alone
 wants_as live p other Alone same wants = subst (λ (q : Prepared). MayWant live q ⊎ Alone) (sym same) wants
 
-pub memory_is : (words : Option Request) (r : Request) (told : Option (List ℕ → Option (List ℕ))) (live : Option (List ℕ)) (p : Prepared) (Alone : Type 0) → Some r ≡ words → Planned r told (the_plan p) → FitsKind (command_of r).kind p → MayWant live p ⊎ Alone → HoldsOf words told (MayStop live) ⊎ Alone
+pub memory_is : (words : Option Request) (r : Request) (told : Option (List ℕ → Option (List ℕ))) (live : Option (List ℕ)) (p : Prepared) (Alone : Type 0) → Some r ≡ words → Planned r told (the_plan p) → FitsKind (kind_at r) p → MayWant live p ⊎ Alone → HoldsOf words told (MayStop live) ⊎ Alone
 memory_is words r told live p Alone there planned fits (inl want) = inl (wants words r told live p there planned fits want)
 memory_is words r told live p Alone there planned fits (inr alone) = inr alone
 

@@ -19,10 +19,10 @@ use Rattle.cstn_reply.specs.declared.output.Said.{Said as SaidText}
 use Rattle.cstn_reply.specs.Texts.{Said, say}
 use Rattle.cstn_top.specs.Plans.{Plan, says, IsOutput, MayTalk, session}
 use Rattle.cstn_top.specs.Answers.{Answer, on_verdict}
-use Rattle.cstn_top.specs.commands.Host.{on_documents, on_verdicts, attended, hosted_plan, EachHas, FirstHas}
+use Rattle.cstn_top.specs.commands.Host.{on_documents, on_verdicts, attended, hosted_plan, EachHas, FirstHas, FirstRefused}
 use Rattle.cstn_top.specs.Questions.{TellsInstead}
 use Rattle.cstn_top.specs.Meanings.{files_read, RefusedIsThere}
-use Rattle.cstn_request.specs.Documents.{AreUnlabelled}
+use Rattle.cstn_request.specs.Documents.{AreUnlabelled, parts_of, HasNetwork, IsRefused, IsSaidPlainly}
 use Rattle.cstn_reply.specs.Statuses.{status_of}
 use Rattle.cstn_reply.specs.declared.status.Status.{Status}
 use Rattle.cstn_reply.specs.declared.status.Status.TheVariants.{Good as IsGood, Bad as IsBad, Words as IsWords, Document as IsRefusedStatus, Full as IsFullStatus, ReadFault, WriteFault, Memory as NoMemory, Unfinished as IsUnfinished, Script as IsScript, Wide as IsWideStatus}
@@ -30,34 +30,31 @@ use Rattle.cstn_reply.specs.declared.output.Outcome.{Outcome}
 use Rattle.cstn_reply.specs.declared.output.Outcome.TheVariants.{Good, Bad, Words, Document, Full, Unfinished, Script, Wide}
 use Rattle.cstn_request.proofs.Contents.{none_there}
 use Rattle.cstn_lines.specs.Pieces.{lines_of}
-use Rattle.cstn_request.specs.Documents.{parts_of, HasNetwork, IsRefused}
-use Rattle.cstn_request.specs.Documents.{IsSaidPlainly}
 use Rattle.cstn_check.specs.Decisions.{verdict, IsYes, IsNo}
 use Rattle.cstn_check.proofs.Deciding.{Tells, verdict_tells}
 use Rattle.cstn_run.specs.hosted.Sessions.{begun, host_turn, host_ending}
 use Rattle.cstn_run.specs.hosted.Files.{Named, the_file, yes_lines}
 use Rattle.cstn_top.specs.Begun.{IsRefusedAt}
 use Rattle.cstn_run.proofs.hosts.Plays.{IsEnd, plays}
-use Rattle.cstn_top.proofs.Documents.{IsOfDocument as IsNamedNetwork}
+use Rattle.cstn_top.proofs.Documents.{IsOfDocument as IsNamedNetwork, document_says, document_talks, document_then}
 use Rattle.cstn_top.proofs.Comes.{plain_refusal_output}
-use Rattle.cstn_top.proofs.Documents.{document_says, document_talks, document_then}
 
 -- what follows where the verdict on each network is yes
-abbrev session_of : ℕ → List Named → Plan
+abbrev pub session_of : ℕ → List Named → Plan
 session_of cap all = session host_turn host_ending (yes_lines all) (begun (map the_file all))
 
 -- the documents with these contents have these networks under these names
-abbrev AreNetworks : List (List ℕ) → Option ℕ → List Named → Type 0
+abbrev pub AreNetworks : List (List ℕ) → Option ℕ → List Named → Type 0
 AreNetworks [] deadline [] = Unit {0}
 AreNetworks [] deadline (n ∷ ns) = ⊥
 AreNetworks (bytes ∷ rest) deadline [] = ⊥
 AreNetworks (bytes ∷ rest) deadline (n ∷ ns) = HasNetwork bytes deadline (λ names net. (names ≡ n.names) × (net ≡ n.net)) × IsNamedNetwork n.names n.net × AreNetworks rest deadline ns
 
 -- the documents with these contents have networks of which this holds
-record Read (contents : List (List ℕ)) (deadline : Option ℕ) (holds : List Named → Type 0) : Type 0 where
-  all : List Named
-  are : AreNetworks contents deadline all
-  held : holds all
+pub record Read (contents : List (List ℕ)) (deadline : Option ℕ) (holds : List Named → Type 0) : Type 0 where
+  pub all : List Named
+  pub are : AreNetworks contents deadline all
+  pub held : holds all
 
 -- a document has this network, and this holds of it
 record Taken (found : Option Parts) (holds : List (List ℕ) → Network → Type 0) : Type 0 where
@@ -83,12 +80,14 @@ under_names bytes deadline holds has = document_then bytes deadline holds (λ na
 no_more : (ns : List Named) → ns ++ [] ≡ ns
 no_more ns = grind (arith, common_steps)
 
--- one of the documents with these contents is refused
-abbrev HasRefused : Option ℕ → List (List ℕ) → Type 0
-HasRefused deadline contents = (place : ℕ) × IsRefused (get_or contents place []) deadline
+-- the place of the document that is refused
+refused_at : (deadline : Option ℕ) (contents : List (List ℕ)) → FirstRefused contents deadline → (place : ℕ) × IsRefused (get_or contents place []) deadline
+refused_at deadline [] first = absurd first
+refused_at deadline (bytes ∷ rest) (inl refused) = (0, refused)
+refused_at deadline (bytes ∷ rest) (inr later) = let found = refused_at deadline rest later.1 in (suc found.0, found.1)
 
 -- what is said of documents: one is refused, or this is said of their networks
-documents_say : (answer : List Named → Plan) (deadline : Option ℕ) (live : List ℕ) (said : Said) (before : List Named) (contents : List (List ℕ)) → IsOutput (on_documents answer deadline before contents) live said → ((said.outcome ≡ Document) × HasRefused deadline contents) ⊎ Read contents deadline (λ ns. IsOutput (answer (before ++ ns)) live said)
+pub documents_say : (answer : List Named → Plan) (deadline : Option ℕ) (live : List ℕ) (said : Said) (before : List Named) (contents : List (List ℕ)) → IsOutput (on_documents answer deadline before contents) live said → ((said.outcome ≡ Document) × FirstRefused contents deadline) ⊎ Read contents deadline (λ ns. IsOutput (answer (before ++ ns)) live said)
 documents_say answer deadline live said before [] output =
     inr (record { all = []; are = tt; held = subst (λ (ns : List Named). IsOutput (answer ns) live said) (sym (no_more before)) output })
 documents_say answer deadline live said before (bytes ∷ rest) output =
@@ -97,16 +96,16 @@ documents_say answer deadline live said before (bytes ∷ rest) output =
     next : Answer
     next = λ names net. on_documents answer deadline (before ++ record { names = names; net = net } ∷ []) rest
 
-    by_rest : (t : Taken (parts_of (document bytes deadline)) (λ names net. IsOutput (next names net) live said)) → ((said.outcome ≡ Document) × HasRefused deadline rest) ⊎ Read rest deadline (λ ns. IsOutput (answer ((before ++ t.this ∷ []) ++ ns)) live said) → ((said.outcome ≡ Document) × HasRefused deadline (bytes ∷ rest)) ⊎ Read (bytes ∷ rest) deadline (λ ns. IsOutput (answer (before ++ ns)) live said)
-    by_rest t (inl (same, (place, refused))) = inl (same, (suc place, refused))
+    by_rest : (t : Taken (parts_of (document bytes deadline)) (λ names net. IsOutput (next names net) live said)) → ((said.outcome ≡ Document) × FirstRefused rest deadline) ⊎ Read rest deadline (λ ns. IsOutput (answer ((before ++ t.this ∷ []) ++ ns)) live said) → ((said.outcome ≡ Document) × FirstRefused (bytes ∷ rest) deadline) ⊎ Read (bytes ∷ rest) deadline (λ ns. IsOutput (answer (before ++ ns)) live said)
+    by_rest t (inl (same, later)) = inl (same, inr (of_network (parts_of (document bytes deadline)) t.this (λ names net. Unit {0}) t.same tt, later))
     by_rest t (inr read) = inr (record {
       all = t.this ∷ read.all;
       are = (t.same, t.of, read.are);
       held = subst (λ (ns : List Named). IsOutput (answer ns) live said) (append_assoc before (t.this ∷ []) read.all) read.held;
     })
 
-    by_document : ((t : Taken (parts_of (document bytes deadline)) (λ names net. IsOutput (next names net) live said)) → ((said.outcome ≡ Document) × HasRefused deadline rest) ⊎ Read rest deadline (λ ns. IsOutput (answer ((before ++ t.this ∷ []) ++ ns)) live said)) → ((said.outcome ≡ Document) × IsRefused bytes deadline) ⊎ HasNetwork bytes deadline (λ names net. IsOutput (next names net) live said) → ((said.outcome ≡ Document) × HasRefused deadline (bytes ∷ rest)) ⊎ Read (bytes ∷ rest) deadline (λ ns. IsOutput (answer (before ++ ns)) live said)
-    by_document later (inl (same, refused)) = inl (same, (0, refused))
+    by_document : ((t : Taken (parts_of (document bytes deadline)) (λ names net. IsOutput (next names net) live said)) → ((said.outcome ≡ Document) × FirstRefused rest deadline) ⊎ Read rest deadline (λ ns. IsOutput (answer ((before ++ t.this ∷ []) ++ ns)) live said)) → ((said.outcome ≡ Document) × IsRefused bytes deadline) ⊎ HasNetwork bytes deadline (λ names net. IsOutput (next names net) live said) → ((said.outcome ≡ Document) × FirstRefused (bytes ∷ rest) deadline) ⊎ Read (bytes ∷ rest) deadline (λ ns. IsOutput (answer (before ++ ns)) live said)
+    by_document later (inl (same, refused)) = inl (same, inl refused)
     by_document later (inr has) =
         let t = taken (parts_of (document bytes deadline)) (λ names net. IsOutput (next names net) live said) (under_names bytes deadline (λ names net. IsOutput (next names net) live said) has) in
         by_rest t (later t)
@@ -126,7 +125,7 @@ first_then (bytes ∷ rest) deadline cap one other follows (inl has) = inl (by_f
 first_then (bytes ∷ rest) deadline cap one other follows (inr (yes', first)) = inr (yes', first_then rest deadline cap one other follows first)
 
 -- the load that a no tells is that of the network
-load_told : (cap load : ℕ) (net : Network) → verdict cap net ≡ No load → load ≡ load_of net
+pub load_told : (cap load : ℕ) (net : Network) → verdict cap net ≡ No load → load ≡ load_of net
 load_told cap load net is = by_tests (nat_lt cap (load_of net)) (is_refuted net (log_of net)) is
   where
     by_tests : (above refuted : Bool) → (if above then IsFullVerdict else if refuted then No (load_of net) else Yes (load_of net)) ≡ No load → load ≡ load_of net
@@ -135,7 +134,7 @@ load_told cap load net is = by_tests (nat_lt cap (load_of net)) (is_refuted net 
     by_tests false false same = let f : ⊥ = cc in absurd f
 
 -- what is said of networks that are checked: each has a strategy, or the first that has none, or too long a log, is told
-verdicts_say : (cap : ℕ) (after_yes : Plan) (deadline : Option ℕ) (live : List ℕ) (said : Said) (contents : List (List ℕ)) (ns : List Named) → AreNetworks contents deadline ns → IsOutput (on_verdicts cap after_yes ns) live said → (EachHas contents deadline (IsYes cap) × IsOutput after_yes live said) ⊎ (((said.outcome ≡ Bad) × FirstHas contents deadline cap (IsToldNo cap said)) ⊎ ((said.outcome ≡ Full) × FirstHas contents deadline cap (λ names net. cap < load_of net)))
+pub verdicts_say : (cap : ℕ) (after_yes : Plan) (deadline : Option ℕ) (live : List ℕ) (said : Said) (contents : List (List ℕ)) (ns : List Named) → AreNetworks contents deadline ns → IsOutput (on_verdicts cap after_yes ns) live said → (EachHas contents deadline (IsYes cap) × IsOutput after_yes live said) ⊎ (((said.outcome ≡ Bad) × FirstHas contents deadline cap (IsToldNo cap said)) ⊎ ((said.outcome ≡ Full) × FirstHas contents deadline cap (λ names net. cap < load_of net)))
 verdicts_say cap after_yes deadline live said [] [] are output = inl (tt, output)
 verdicts_say cap after_yes deadline live said [] (n ∷ ns) are output = absurd are
 verdicts_say cap after_yes deadline live said (bytes ∷ rest) [] are output = absurd are
@@ -167,7 +166,7 @@ HostTells cap deadline contents said Good = EachHas contents deadline (IsYes cap
 HostTells cap deadline contents said Bad = FirstHas contents deadline cap (IsToldNo cap said)
 HostTells cap deadline contents said Full = FirstHas contents deadline cap (λ names net. cap < load_of net)
 HostTells cap deadline contents said Words = ⊥
-HostTells cap deadline contents said Document = HasRefused deadline contents
+HostTells cap deadline contents said Document = FirstRefused contents deadline
 HostTells cap deadline contents said Unfinished = Unit {0}
 HostTells cap deadline contents said Script = Unit {0}
 HostTells cap deadline contents said Wide = ⊥
@@ -192,7 +191,7 @@ host_tells cap deadline contents live said output = by_documents (documents_say 
     by_verdicts all (inr (inl (bad, first))) = subst (HostTells cap deadline contents said) (sym bad) first
     by_verdicts all (inr (inr (full, first))) = subst (HostTells cap deadline contents said) (sym full) first
 
-    by_documents : ((said.outcome ≡ Document) × HasRefused deadline contents) ⊎ Read contents deadline (λ ns. IsOutput (attended cap ns) live said) → HostTells cap deadline contents said said.outcome
+    by_documents : ((said.outcome ≡ Document) × FirstRefused contents deadline) ⊎ Read contents deadline (λ ns. IsOutput (attended cap ns) live said) → HostTells cap deadline contents said said.outcome
     by_documents (inl (same, refused)) = subst (HostTells cap deadline contents said) (sym same) refused
     by_documents (inr read) = by_verdicts read.all (verdicts_say cap (session_of cap read.all) deadline live said contents read.all read.are read.held)
 
@@ -302,5 +301,6 @@ host_told told cap deadline files said is = record {
 pub host_refused : (told : Option (List ℕ → Option (List ℕ))) (cap : ℕ) (deadline : Option ℕ) (files contents : List (List ℕ)) (said : Said) → AreContents told files contents → AreThere told files → ((live : List ℕ) → IsOutput (hosted_plan cap deadline contents) live said) → said.outcome ≡ Document →
     (all : List (List ℕ)) × AreContents told files all × RefusedIsThere told (host files deadline cap) all
 host_refused told cap deadline files contents said are there output outcome =
-    let tells : HasRefused deadline contents = subst (HostTells cap deadline contents said) outcome (host_tells cap deadline contents [] said (output [])) in
+    let first : FirstRefused contents deadline = subst (HostTells cap deadline contents said) outcome (host_tells cap deadline contents [] said (output [])) in
+    let tells = refused_at deadline contents first in
     (contents, are, (tells.0, tells.1, first_there told files (suc tells.0) there))

@@ -21,9 +21,8 @@ use Rattle.cstn_top.specs.Plans.{IsOutput, MayTalk}
 use Rattle.cstn_top.specs.Answers.{LabelledAnswer, on_labelled}
 use Rattle.cstn_reply.specs.declared.output.Outcome.TheVariants.{Document}
 use Rattle.cstn_request.specs.Documents.{parts_of, HasLabelled, IsNoDocument}
-use Rattle.cstn_top.proofs.DocumentNames.{document_names}
+use Rattle.cstn_top.proofs.DocumentNames.{document_names, document_named}
 use Rattle.cstn_top.proofs.Documents.{IsOfDocument, labelled_says, labelled_talks}
-use Rattle.cstn_top.proofs.Edited.{document_named}
 
 -- the ids of the constraints of a lowered network are numbers of 32 bits
 small_ids : (k : ℕ) (cs : List Constraint) → k + length (numbered k cs) ≤ most_constraints → All (λ (c : Constraint). c.id < 2 ^ 32) (numbered k cs)

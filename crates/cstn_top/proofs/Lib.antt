@@ -1,16 +1,12 @@
--- Texts that are written.
-pub mod Listing
-pub mod ReadBack
-pub mod Trees
-pub mod Sayings
-pub mod Edited
 -- Documents, and what is told of their networks.
+pub mod Listing
 pub mod DocumentNames
 pub mod Documents
 pub mod Labels
-pub mod Meanings
+pub mod Networks
 -- What a request asks, and what is prepared for it.
 pub mod Comes
+pub mod Sayings
 pub mod Opening
 pub mod ReadFiles
 pub mod ReadAll
@@ -20,17 +16,15 @@ pub mod Hosted
 pub mod BegunHosts
 pub mod Runs
 pub mod GuidedRuns
-pub mod Played
 pub mod Preparing
 -- Sessions that follow.
 pub mod FollowedDocuments
 pub mod FollowedLines
--- What the clauses of `run` need of each request.
-pub mod EvidenceLemmas
-pub mod Dispatched
-pub mod Handled
-pub mod records
-pub mod Dispatch
+-- How sessions end, and with which outcomes.
+pub mod Played
+pub mod Turns
+pub mod Answered
+pub mod Talks
 -- How a call ends, and what it tells.
 pub mod Endings
 pub mod Calls

@@ -1,11 +1,17 @@
 -- What a request asks, by what was read of its files.
-use Rattle.std.proofs.Common.{◌≡◌, ℕ, ◌<◌, List, [], ◌∷◌, length, map, refl, sym, ap, ◌∙◌, subst, arith}
-use Rattle.std.specs.Prelude.{nat_lt, if◌then◌else◌, Option, codes}
+use Rattle.std.proofs.Common.{◌≡◌, ℕ, ◌<◌, List, [], ◌∷◌, length, map, Vec, Global, refl, sym, ap, subst, arith}
+use Rattle.std.specs.Prelude.{nat_lt, Bool, true, false, if◌then◌else◌, Option, codes}
 use Rattle.cstn_net.specs.Networks.{Network}
 use Rattle.cstn_net.specs.Read.{the_network}
 use Rattle.cstn_text.specs.Limits.{most_text}
 use Rattle.cstn_lift.specs.Read.{the_labelled}
-use Rattle.cstn_request.specs.Requests.{Asked, Request, check, run, edit, follow, closed, tight, conflict, tree, save, replay, closedcheck, treecheck, files_of}
+use Rattle.cstn_request.specs.Requests.{Asked, Request, of_network, of_labelled, of_text, of_document, drill, version, network_labels, text_labels, files_of}
+use Rattle.cstn_request.specs.declared.words.Release.{Release}
+use Rattle.cstn_request.specs.declared.words.NetworkVerb.{NetworkVerb}
+use Rattle.cstn_request.specs.declared.words.LabelledVerb.{LabelledVerb}
+use Rattle.cstn_request.specs.declared.words.TextVerb.{TextVerb}
+use Rattle.cstn_request.specs.declared.words.DocumentVerb.{DocumentVerb}
+use Rattle.cstn_log.specs.declared.caps.Cap.{Cap}
 use Rattle.cstn_reply.specs.Texts.{Said, say}
 use Rattle.cstn_reply.specs.Statuses.{status_of}
 use Rattle.cstn_reply.specs.Read.{the_said}
@@ -15,29 +21,19 @@ use Rattle.cstn_reply.specs.declared.output.Outcome.TheVariants.{Document, Scrip
 use Rattle.cstn_reply.specs.declared.status.Status.{Status}
 use Rattle.cstn_reply.specs.declared.status.Status.TheVariants.{Good as IsGood, Bad as IsBad, Words as IsWords, Document as IsRefusedStatus, Full as IsFull, ReadFault, WriteFault, Memory as NoMemory, Unfinished as IsUnfinished, Script as IsScript, Wide as IsWide}
 use Rattle.cstn_request.specs.Files.{file_at, IsContent, AreContents, AreThere}
-use Rattle.cstn_request.specs.Opened.{IsFile, IsAsked, IsLabelledOf, IsLoweredOf, IsPlainOf, IsRefusal, IsPlainRefusal, IsTextOf, IsLongText}
+use Rattle.cstn_request.specs.Opened.{IsFile, IsAsked, IsLabelledOf, IsNetworkOf, IsRefusal, IsNetworkRefusal, IsTextOf, IsLongText}
 use Rattle.cstn_request.specs.declared.reading.NamedNetwork.{NamedNetwork}
 use Rattle.cstn_request.specs.declared.reading.NamedLabelled.{NamedLabelled}
 use Rattle.cstn_request.proofs.Contents.{one_content, two_contents, some_content, none_there, two_there}
 use Rattle.cstn_top.specs.Plans.{Plan, says, IsOutput, ComesTo}
-use Rattle.cstn_top.specs.Answers.{Answer, LabelledAnswer, of_plain, of_lowered, on_labelled, by_text}
-use Rattle.cstn_top.specs.commands.Check.{checked}
-use Rattle.cstn_top.specs.commands.Closed.{listed}
-use Rattle.cstn_top.specs.commands.Tight.{tightened}
-use Rattle.cstn_top.specs.commands.Conflict.{blamed}
-use Rattle.cstn_top.specs.commands.Tree.{unfolded}
-use Rattle.cstn_top.specs.commands.Replay.{replayed}
-use Rattle.cstn_top.specs.commands.Closedcheck.{certified}
-use Rattle.cstn_top.specs.commands.Treecheck.{tree_checked}
-use Rattle.cstn_top.specs.commands.Run.{carried_out}
-use Rattle.cstn_top.specs.commands.Edit.{edited}
-use Rattle.cstn_top.specs.commands.Follow.{followed}
-use Rattle.cstn_top.specs.commands.Save.{saved}
-use Rattle.cstn_top.specs.Dispatch.{plan_at}
+use Rattle.cstn_top.specs.Answers.{Answer, LabelledAnswer, of_lowered, by_labels, on_labelled, by_text}
+use Rattle.cstn_top.specs.Dispatch.{network_answer, labelled_answer, text_answer, document_answer, plan_at}
 use Rattle.cstn_top.specs.Meanings.{files_read}
 use Rattle.cstn_top.specs.Prepared.{Planned}
-use Rattle.cstn_top.specs.Questions.{Asks, the_question}
+use Rattle.cstn_top.specs.Begun.{IsSound}
+use Rattle.cstn_top.specs.Questions.{Asks, HasSmallIds, the_question}
 use Rattle.cstn_top.specs.declared.commands.questions.Question.{Question}
+use Rattle.cstn_top.specs.declared.commands.questions.Question.TheVariants.{OfNetwork, OfText, Drill, Version}
 use Rattle.cstn_top.proofs.Comes.{comes_itself, comes_to_text, accepted_comes, told_comes, labelled_comes, lowered_comes, refused_comes}
 
 -- where a file is there, so is what was read of it, whatever the status
@@ -59,32 +55,11 @@ pub record IsOfOne (request : Request) (asked : Asked) (answer : LabelledAnswer)
   pub files : files_of request ≡ asked.file ∷ []
   pub plan : (bytes : List ℕ) → plan_at request (bytes ∷ []) ≡ on_labelled answer bytes asked.deadline
 
-pub of_check : (asked : Asked) (cap : ℕ) → IsOfOne (check asked cap) asked (of_lowered (checked cap))
-of_check asked cap = record { files = refl; plan = λ bytes. refl }
+pub of_labelled_verb : (verb : LabelledVerb) (asked : Asked) (cap : ℕ) → IsOfOne (of_labelled verb asked cap) asked (labelled_answer verb cap)
+of_labelled_verb verb asked cap = record { files = refl; plan = λ bytes. refl }
 
-pub of_run : (asked : Asked) (cap : ℕ) → IsOfOne (run asked cap) asked (carried_out cap)
-of_run asked cap = record { files = refl; plan = λ bytes. refl }
-
-pub of_follow : (asked : Asked) (cap : ℕ) → IsOfOne (follow asked cap) asked (followed cap)
-of_follow asked cap = record { files = refl; plan = λ bytes. refl }
-
-pub of_edit : (asked : Asked) (cap : ℕ) → IsOfOne (edit asked cap) asked (of_plain (edited cap))
-of_edit asked cap = record { files = refl; plan = λ bytes. refl }
-
-pub of_closed : (asked : Asked) (cap : ℕ) → IsOfOne (closed asked cap) asked (of_lowered (listed cap))
-of_closed asked cap = record { files = refl; plan = λ bytes. refl }
-
-pub of_tight : (asked : Asked) (cap : ℕ) → IsOfOne (tight asked cap) asked (of_lowered (tightened cap))
-of_tight asked cap = record { files = refl; plan = λ bytes. refl }
-
-pub of_conflict : (asked : Asked) (cap : ℕ) → IsOfOne (conflict asked cap) asked (of_plain (blamed cap))
-of_conflict asked cap = record { files = refl; plan = λ bytes. refl }
-
-pub of_tree : (asked : Asked) (cap : ℕ) → IsOfOne (tree asked cap) asked (of_plain (unfolded cap))
-of_tree asked cap = record { files = refl; plan = λ bytes. refl }
-
-pub of_save : (asked : Asked) → IsOfOne (save asked) asked saved
-of_save asked = record { files = refl; plan = λ bytes. refl }
+pub of_document_verb : (verb : DocumentVerb) (asked : Asked) → IsOfOne (of_document verb asked) asked (document_answer verb)
+of_document_verb verb asked = record { files = refl; plan = λ bytes. refl }
 
 -- ---- one document
 
@@ -106,15 +81,34 @@ one_told request asked answer told bytes said one content there comes = record {
   there = λ live other output. subst (λ (names : List (List ℕ)). AreThere told (files_read (status_of other.outcome) names)) (sym one.files) (one_read told asked.file (status_of other.outcome) there);
 }
 
-pub plain_asked : (request : Request) (asked : Asked) (answer : Answer) (told : Option (List ℕ → Option (List ℕ))) (d : NamedNetwork) (question : Question) → IsOfOne request asked (of_plain answer) → the_question question ≡ answer d.names (the_network d.network) → IsAsked told asked (λ bytes deadline. IsPlainOf bytes deadline d) → Asks request told question
-plain_asked request asked answer told d question one is file =
-    one_asked request asked (of_plain answer) told file.bytes question one file.content file.there
-    (accepted_comes answer file.bytes asked.deadline d (the_question question) file.is (subst (ComesTo (answer d.names (the_network d.network))) (sym is) (comes_itself (answer d.names (the_network d.network)))))
+-- what is said of the network of a document, by whether labels are taken
+network_comes : (takes : Bool) (answer : Answer) (bytes : List ℕ) (deadline : Option ℕ) (d : NamedNetwork) (plan : Plan) → IsNetworkOf takes bytes deadline d → ComesTo (answer d.names (the_network d.network)) plan → ComesTo (on_labelled (by_labels takes answer) bytes deadline) plan
+network_comes true answer bytes deadline d plan opened comes = lowered_comes answer bytes deadline d plan opened comes
+network_comes false answer bytes deadline d plan opened comes = accepted_comes answer bytes deadline d plan opened comes
 
-pub lowered_asked : (request : Request) (asked : Asked) (answer : Answer) (told : Option (List ℕ → Option (List ℕ))) (d : NamedNetwork) (question : Question) → IsOfOne request asked (of_lowered answer) → the_question question ≡ answer d.names (the_network d.network) → IsAsked told asked (λ bytes deadline. IsLoweredOf bytes deadline d) → Asks request told question
-lowered_asked request asked answer told d question one is file =
-    one_asked request asked (of_lowered answer) told file.bytes question one file.content file.there
-    (lowered_comes answer file.bytes asked.deadline d (the_question question) file.is (subst (ComesTo (answer d.names (the_network d.network))) (sym is) (comes_itself (answer d.names (the_network d.network)))))
+-- likewise where it is refused
+network_refused : (takes : Bool) (answer : Answer) (bytes : List ℕ) (deadline : Option ℕ) (said : SaidText) → IsNetworkRefusal takes bytes deadline said → ComesTo (on_labelled (by_labels takes answer) bytes deadline) (says (the_said said))
+network_refused true answer bytes deadline said refused = refused_comes (of_lowered answer) bytes deadline said refused
+network_refused false answer bytes deadline said refused = told_comes answer bytes deadline said refused
+
+network_outcome : (takes : Bool) (bytes : List ℕ) (deadline : Option ℕ) (said : SaidText) → IsNetworkRefusal takes bytes deadline said → said.outcome ≡ Document
+network_outcome true bytes deadline said refused = refused.1
+network_outcome false bytes deadline said refused = refused.1
+
+-- what was read of a document is sound
+pub network_sound : (takes : Bool) (bytes : List ℕ) (deadline : Option ℕ) (d : NamedNetwork) → IsNetworkOf takes bytes deadline d → IsSound d × HasSmallIds takes d
+network_sound true bytes deadline d opened = (record { well_formed = opened.well_formed; named = opened.names.named }, tt)
+network_sound false bytes deadline d opened = (record { well_formed = opened.well_formed; named = opened.names.named }, opened.ids)
+
+pub network_asked : (verb : NetworkVerb) (asked : Asked) (cap : Cap) (told : Option (List ℕ → Option (List ℕ))) (d : NamedNetwork) → IsAsked told asked (λ bytes deadline. IsNetworkOf (network_labels verb) bytes deadline d) → Asks (of_network verb asked cap.entries) told (OfNetwork verb d cap)
+network_asked verb asked cap told d file =
+    one_asked (of_network verb asked cap.entries) asked (by_labels (network_labels verb) (network_answer verb cap.entries)) told file.bytes (OfNetwork verb d cap) (record { files = refl; plan = λ bytes. refl }) file.content file.there
+    (network_comes (network_labels verb) (network_answer verb cap.entries) file.bytes asked.deadline d (the_question (OfNetwork verb d cap)) file.is (comes_itself (the_question (OfNetwork verb d cap))))
+
+pub network_told : (verb : NetworkVerb) (asked : Asked) (cap : ℕ) (told : Option (List ℕ → Option (List ℕ))) (said : SaidText) → IsAsked told asked (λ bytes deadline. IsNetworkRefusal (network_labels verb) bytes deadline said) → Planned (of_network verb asked cap) told (says (the_said said))
+network_told verb asked cap told said file =
+    one_told (of_network verb asked cap) asked (by_labels (network_labels verb) (network_answer verb cap)) told file.bytes said (record { files = refl; plan = λ bytes. refl }) file.content file.there
+    (network_refused (network_labels verb) (network_answer verb cap) file.bytes asked.deadline said file.is)
 
 pub labelled_asked : (request : Request) (asked : Asked) (answer : LabelledAnswer) (told : Option (List ℕ → Option (List ℕ))) (d : NamedLabelled) (question : Question) → IsOfOne request asked answer → the_question question ≡ answer d.names (the_labelled d.labelled) → IsAsked told asked (λ bytes deadline. IsLabelledOf bytes deadline d) → Asks request told question
 labelled_asked request asked answer told d question one is file =
@@ -123,9 +117,6 @@ labelled_asked request asked answer told d question one is file =
 
 pub refused_told : (request : Request) (asked : Asked) (answer : LabelledAnswer) (told : Option (List ℕ → Option (List ℕ))) (said : SaidText) → IsOfOne request asked answer → IsAsked told asked (λ bytes deadline. IsRefusal bytes deadline said) → Planned request told (says (the_said said))
 refused_told request asked answer told said one file = one_told request asked answer told file.bytes said one file.content file.there (refused_comes answer file.bytes asked.deadline said file.is)
-
-pub plainly_told : (request : Request) (asked : Asked) (answer : Answer) (told : Option (List ℕ → Option (List ℕ))) (said : SaidText) → IsOfOne request asked (of_plain answer) → IsAsked told asked (λ bytes deadline. IsPlainRefusal bytes deadline said) → Planned request told (says (the_said said))
-plainly_told request asked answer told said one file = one_told request asked (of_plain answer) told file.bytes said one file.content file.there (told_comes answer file.bytes asked.deadline said file.is)
 
 -- ---- a document and a text
 
@@ -148,14 +139,8 @@ pub record IsOfTwo (request : Request) (asked : Asked) (proof : List ℕ) (answe
   pub files : files_of request ≡ asked.file ∷ proof ∷ []
   pub plan : (bytes text : List ℕ) → plan_at request (bytes ∷ text ∷ []) ≡ on_labelled (answers text) bytes asked.deadline
 
-pub of_replay : (asked : Asked) (proof : List ℕ) → IsOfTwo (replay asked proof) asked proof (λ text. of_lowered (by_text replayed text))
-of_replay asked proof = record { files = refl; plan = λ bytes text. refl }
-
-pub of_closedcheck : (asked : Asked) (proof : List ℕ) → IsOfTwo (closedcheck asked proof) asked proof (λ text. of_lowered (by_text certified text))
-of_closedcheck asked proof = record { files = refl; plan = λ bytes text. refl }
-
-pub of_treecheck : (asked : Asked) (proof : List ℕ) → IsOfTwo (treecheck asked proof) asked proof (λ text. of_plain (by_text tree_checked text))
-of_treecheck asked proof = record { files = refl; plan = λ bytes text. refl }
+of_text_verb : (verb : TextVerb) (asked : Asked) (proof : List ℕ) → IsOfTwo (of_text verb asked proof) asked proof (λ text. by_labels (text_labels verb) (by_text (text_answer verb) text))
+of_text_verb verb asked proof = record { files = refl; plan = λ bytes text. refl }
 
 -- what is asked of a document and a text with these bytes
 two_asked : (request : Request) (asked : Asked) (proof : List ℕ) (answers : List ℕ → LabelledAnswer) (told : Option (List ℕ → Option (List ℕ))) (bytes text : List ℕ) (question : Question) → IsOfTwo request asked proof answers → IsContent told asked.file bytes → IsContent told proof text → AreThere told (asked.file ∷ []) → AreThere told (proof ∷ []) → ComesTo (on_labelled (answers text) bytes asked.deadline) (the_question question) → Asks request told question
@@ -184,30 +169,19 @@ refused_read told name other outcome is there = subst (λ (o : Outcome). AreTher
 by_text_of : (speaks : List ℕ → Answer) (text bytes : List ℕ) (names : List (List ℕ)) (net : Network) → bytes ≡ text → by_text speaks bytes names net ≡ by_text speaks text names net
 by_text_of speaks text bytes names net same = ap (λ (xs : List ℕ). by_text speaks xs names net) same
 
-pub lowered_with_text : (request : Request) (asked : Asked) (proof : List ℕ) (speaks : List ℕ → Answer) (told : Option (List ℕ → Option (List ℕ))) (d : NamedNetwork) (text : List ℕ) (question : Question) → IsOfTwo request asked proof (λ t. of_lowered (by_text speaks t)) → the_question question ≡ by_text speaks text d.names (the_network d.network) → IsAsked told asked (λ bytes deadline. IsLoweredOf bytes deadline d) → IsFile told proof (IsTextOf text) → Asks request told question
-lowered_with_text request asked proof speaks told d text question two is file other =
-    two_asked request asked proof (λ t. of_lowered (by_text speaks t)) told file.bytes other.bytes question two file.content other.content file.there other.there
-    (lowered_comes (by_text speaks other.bytes) file.bytes asked.deadline d (the_question question) file.is
-    (subst (λ (p : Plan). ComesTo p (the_question question)) (is ∙ sym (by_text_of speaks text other.bytes d.names (the_network d.network) other.is.0)) (comes_itself (the_question question))))
-
-pub plain_with_text : (request : Request) (asked : Asked) (proof : List ℕ) (speaks : List ℕ → Answer) (told : Option (List ℕ → Option (List ℕ))) (d : NamedNetwork) (text : List ℕ) (question : Question) → IsOfTwo request asked proof (λ t. of_plain (by_text speaks t)) → the_question question ≡ by_text speaks text d.names (the_network d.network) → IsAsked told asked (λ bytes deadline. IsPlainOf bytes deadline d) → IsFile told proof (IsTextOf text) → Asks request told question
-plain_with_text request asked proof speaks told d text question two is file other =
-    two_asked request asked proof (λ t. of_plain (by_text speaks t)) told file.bytes other.bytes question two file.content other.content file.there other.there
-    (accepted_comes (by_text speaks other.bytes) file.bytes asked.deadline d (the_question question) file.is
-    (subst (λ (p : Plan). ComesTo p (the_question question)) (is ∙ sym (by_text_of speaks text other.bytes d.names (the_network d.network) other.is.0)) (comes_itself (the_question question))))
+pub text_asked : (verb : TextVerb) (asked : Asked) (proof : List ℕ) (told : Option (List ℕ → Option (List ℕ))) (d : NamedNetwork) (text : Vec ℕ Global) → IsAsked told asked (λ bytes deadline. IsNetworkOf (text_labels verb) bytes deadline d) → IsFile told proof (IsTextOf text.items) → Asks (of_text verb asked proof) told (OfText verb d text)
+text_asked verb asked proof told d text file other =
+    two_asked (of_text verb asked proof) asked proof (λ t. by_labels (text_labels verb) (by_text (text_answer verb) t)) told file.bytes other.bytes (OfText verb d text) (of_text_verb verb asked proof) file.content other.content file.there other.there
+    (network_comes (text_labels verb) (by_text (text_answer verb) other.bytes) file.bytes asked.deadline d (the_question (OfText verb d text)) file.is
+    (subst (λ (p : Plan). ComesTo p (the_question (OfText verb d text))) (sym (by_text_of (text_answer verb) text.items other.bytes d.names (the_network d.network) other.is.0)) (comes_itself (the_question (OfText verb d text)))))
 
 -- the document is refused, and the text isn't read
-pub refused_before_text : (request : Request) (asked : Asked) (proof : List ℕ) (answers : List ℕ → LabelledAnswer) (told : Option (List ℕ → Option (List ℕ))) (said : SaidText) → IsOfTwo request asked proof answers → IsAsked told asked (λ bytes deadline. IsRefusal bytes deadline said) → Planned request told (says (the_said said))
-refused_before_text request asked proof answers told said two file =
+pub refused_before_text : (verb : TextVerb) (asked : Asked) (proof : List ℕ) (told : Option (List ℕ → Option (List ℕ))) (said : SaidText) → IsAsked told asked (λ bytes deadline. IsNetworkRefusal (text_labels verb) bytes deadline said) → Planned (of_text verb asked proof) told (says (the_said said))
+refused_before_text verb asked proof told said file =
     let text = some_content told proof in
-    two_told request asked proof answers told file.bytes text.0 said two file.content text.1
-    (refused_comes (answers text.0) file.bytes asked.deadline said file.is) (refused_read told asked.file proof (the_said said).outcome file.is.1 file.there)
-
-pub plainly_before_text : (request : Request) (asked : Asked) (proof : List ℕ) (speaks : List ℕ → Answer) (told : Option (List ℕ → Option (List ℕ))) (said : SaidText) → IsOfTwo request asked proof (λ t. of_plain (speaks t)) → IsAsked told asked (λ bytes deadline. IsPlainRefusal bytes deadline said) → Planned request told (says (the_said said))
-plainly_before_text request asked proof speaks told said two file =
-    let text = some_content told proof in
-    two_told request asked proof (λ t. of_plain (speaks t)) told file.bytes text.0 said two file.content text.1
-    (told_comes (speaks text.0) file.bytes asked.deadline said file.is) (refused_read told asked.file proof (the_said said).outcome file.is.1 file.there)
+    two_told (of_text verb asked proof) asked proof (λ t. by_labels (text_labels verb) (by_text (text_answer verb) t)) told file.bytes text.0 said (of_text_verb verb asked proof) file.content text.1
+    (network_refused (text_labels verb) (by_text (text_answer verb) text.0) file.bytes asked.deadline said file.is)
+    (refused_read told asked.file proof (the_said said).outcome (network_outcome (text_labels verb) file.bytes asked.deadline said file.is) file.there)
 
 long_answer : (speaks : List ℕ → Answer) (text : List ℕ) (names : List (List ℕ)) (net : Network) (live : List ℕ) (said : Said) → most_text < length text → said ≡ say Script (codes "script long") → IsOutput (by_text speaks text names net) live said
 long_answer speaks text names net live said long is =
@@ -218,16 +192,17 @@ long_answer speaks text names net live said long is =
     beyond n m one other lt = grind arith
 
 -- the text is too long
-pub long_after_lowered : (request : Request) (asked : Asked) (proof : List ℕ) (speaks : List ℕ → Answer) (told : Option (List ℕ → Option (List ℕ))) (d : NamedNetwork) (said : SaidText) → IsOfTwo request asked proof (λ t. of_lowered (by_text speaks t)) → IsAsked told asked (λ bytes deadline. IsLoweredOf bytes deadline d) → IsFile told proof (IsLongText said) → Planned request told (says (the_said said))
-long_after_lowered request asked proof speaks told d said two file other =
-    two_told request asked proof (λ t. of_lowered (by_text speaks t)) told file.bytes other.bytes said two file.content other.content
-    (lowered_comes (by_text speaks other.bytes) file.bytes asked.deadline d (says (the_said said)) file.is
-    (comes_to_text (by_text speaks other.bytes d.names (the_network d.network)) (the_said said) (λ live. long_answer speaks other.bytes d.names (the_network d.network) live (the_said said) other.is.0 other.is.1)))
+pub long_after : (verb : TextVerb) (asked : Asked) (proof : List ℕ) (told : Option (List ℕ → Option (List ℕ))) (d : NamedNetwork) (said : SaidText) → IsAsked told asked (λ bytes deadline. IsNetworkOf (text_labels verb) bytes deadline d) → IsFile told proof (IsLongText said) → Planned (of_text verb asked proof) told (says (the_said said))
+long_after verb asked proof told d said file other =
+    two_told (of_text verb asked proof) asked proof (λ t. by_labels (text_labels verb) (by_text (text_answer verb) t)) told file.bytes other.bytes said (of_text_verb verb asked proof) file.content other.content
+    (network_comes (text_labels verb) (by_text (text_answer verb) other.bytes) file.bytes asked.deadline d (says (the_said said)) file.is
+    (comes_to_text (by_text (text_answer verb) other.bytes d.names (the_network d.network)) (the_said said) (λ live. long_answer (text_answer verb) other.bytes d.names (the_network d.network) live (the_said said) other.is.0 other.is.1)))
     (two_read told asked.file proof (status_of (the_said said).outcome) file.there other.there)
 
-pub long_after_plain : (request : Request) (asked : Asked) (proof : List ℕ) (speaks : List ℕ → Answer) (told : Option (List ℕ → Option (List ℕ))) (d : NamedNetwork) (said : SaidText) → IsOfTwo request asked proof (λ t. of_plain (by_text speaks t)) → IsAsked told asked (λ bytes deadline. IsPlainOf bytes deadline d) → IsFile told proof (IsLongText said) → Planned request told (says (the_said said))
-long_after_plain request asked proof speaks told d said two file other =
-    two_told request asked proof (λ t. of_plain (by_text speaks t)) told file.bytes other.bytes said two file.content other.content
-    (accepted_comes (by_text speaks other.bytes) file.bytes asked.deadline d (says (the_said said)) file.is
-    (comes_to_text (by_text speaks other.bytes d.names (the_network d.network)) (the_said said) (λ live. long_answer speaks other.bytes d.names (the_network d.network) live (the_said said) other.is.0 other.is.1)))
-    (two_read told asked.file proof (status_of (the_said said).outcome) file.there other.there)
+-- ---- no file
+
+pub drill_asked : (number : ℕ) (told : Option (List ℕ → Option (List ℕ))) → Asks (drill number) told (Drill number)
+drill_asked number told = record { contents = []; are = λ files e. refl; comes = comes_itself (the_question (Drill number)); there = none_there told }
+
+pub version_asked : (release : Release) (told : Option (List ℕ → Option (List ℕ))) → Asks (version release) told (Version release)
+version_asked release told = record { contents = []; are = λ files e. refl; comes = comes_itself (the_question (Version release)); there = none_there told }

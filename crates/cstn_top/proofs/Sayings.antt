@@ -1,6 +1,6 @@
 -- What is said of a network is what its plan says.
 use Rattle.std.proofs.Common.{◌≡◌, ℕ, ◌≤◌, ◌<◌, List, length, refl, sym, subst, inl, inr, arith}
-use Rattle.std.specs.Prelude.{nat_lt, if◌then◌else◌, Option, None, Some, codes}
+use Rattle.std.specs.Prelude.{nat_lt, if◌then◌else◌, Option, None, Some, Result, Ok, Err, IfOk, codes}
 use Rattle.cstn_net.specs.Networks.{Network}
 use Rattle.cstn_text.specs.Limits.{most_text}
 use Rattle.cstn_check.specs.Growth.{log_of, load_of, live_bounds}
@@ -20,6 +20,10 @@ use Rattle.cstn_top.specs.commands.Tight.{tightened}
 use Rattle.cstn_top.specs.commands.Tree.{unfolded}
 use Rattle.cstn_top.specs.commands.Replay.{replayed_steps, replayed}
 use Rattle.cstn_top.specs.commands.Closedcheck.{certified_bounds, certified}
+use Rattle.cstn_top.specs.commands.Treecheck.{tree_checked}
+use Rattle.cstn_tree.specs.Checked.{tree_checked as tree_text}
+use Rattle.cstn_reply.specs.Read.{the_said}
+use Rattle.cstn_reply.specs.declared.output.Said.{Said as SaidText}
 
 said_or : (o : Option Said) (said : Said) → says (or_else o said) ≡ unless_said o (says said)
 said_or None said = refl
@@ -69,3 +73,16 @@ text_says speaks text names net said short is live =
   where
     within : (n m : ℕ) (one other : Plan) → m ≤ n → (if nat_lt n m then one else other) ≡ other
     within n m one other le = grind arith
+
+-- what is said of a text that was checked is what its plan says
+pub replay_said : {E : Type 0} (names : List (List ℕ)) (text : List ℕ) (net : Network) (r : Result SaidText E) → length text ≤ most_text → IfOk r (λ said. IsReplayOf names text net (the_said said)) → IfOk r (λ said. (live : List ℕ) → IsOutput (by_text replayed text names net) live (the_said said))
+replay_said names text net (Err e) short is = tt
+replay_said names text net (Ok said) short is = text_says replayed text names net (the_said said) short (replay_says names text net (the_said said) is)
+
+pub closedcheck_said : {E : Type 0} (names : List (List ℕ)) (text : List ℕ) (net : Network) (r : Result SaidText E) → length text ≤ most_text → IfOk r (λ said. IsCertificateOf names text net (the_said said)) → IfOk r (λ said. (live : List ℕ) → IsOutput (by_text certified text names net) live (the_said said))
+closedcheck_said names text net (Err e) short is = tt
+closedcheck_said names text net (Ok said) short is = text_says certified text names net (the_said said) short (closedcheck_says names text net (the_said said) is)
+
+pub treecheck_said : {E : Type 0} (names : List (List ℕ)) (text : List ℕ) (net : Network) (r : Result SaidText E) → length text ≤ most_text → IfOk r (λ said. the_said said ≡ tree_text text names net) → IfOk r (λ said. (live : List ℕ) → IsOutput (by_text tree_checked text names net) live (the_said said))
+treecheck_said names text net (Err e) short is = tt
+treecheck_said names text net (Ok said) short is = text_says tree_checked text names net (the_said said) short (λ live. is)

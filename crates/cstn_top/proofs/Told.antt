@@ -5,7 +5,7 @@ use Rattle.cstn_request.specs.Requests.{Request}
 use Rattle.cstn_reply.specs.Written.{LiveState}
 use Rattle.cstn_reply.specs.declared.status.Status.{Status}
 use Rattle.cstn_top.specs.Told.{Answers, IsTold}
-use Rattle.cstn_top.proofs.Dispatched.{IsRanged}
+use Rattle.cstn_top.specs.Meanings.{IsRanged}
 
 -- the range of the cap, with what was written, is all that a call tells
 pub told_is : {S : Type 0} (words : Option Request) (told : Option (List ℕ → Option (List ℕ))) (seen : S → LiveState) (source now : S) (old new : Option (List ℕ)) (result : Status) → IfSome words IsRanged →

@@ -1,5 +1,5 @@
 -- What is said of documents, of networks and of texts, as plans.
-use Rattle.std.specs.Prelude.{ℕ, nat_lt, if◌then◌else◌, List, length, Option, None, Some, codes, Result, Ok, Err}
+use Rattle.std.specs.Prelude.{ℕ, Bool, true, false, nat_lt, if◌then◌else◌, List, length, Option, None, Some, codes, Result, Ok, Err}
 use Rattle.cstn_net.specs.Networks.{Network}
 use Rattle.cstn_text.specs.Limits.{most_text}
 use Rattle.cstn_lift.specs.Labelled.{Labelled}
@@ -32,6 +32,11 @@ of_plain answer names m = unlabelled m.labels (answer names m.base)
 -- what is said of a labelled network where labels are taken: `answer` of the network that it is lowered to
 abbrev pub of_lowered : Answer → LabelledAnswer
 of_lowered answer names m = answer names (lowered m)
+
+-- what is said of a labelled network where a network is asked for, by whether labels are taken
+abbrev pub by_labels : Bool → Answer → LabelledAnswer
+by_labels true = of_lowered
+by_labels false = of_plain
 
 -- what is said of a document: why it is refused, or `answer` of its labelled network
 abbrev pub judged : LabelledAnswer → Result Parts Refusal → Plan

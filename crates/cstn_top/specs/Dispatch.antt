@@ -1,49 +1,103 @@
--- The command of each request, and its plan.
-use Rattle.std.specs.Prelude.{ℕ, List, Option, None, Some, codes}
-use Rattle.cstn_request.specs.Requests.{Request, check, run, edit, follow, closed, tight, conflict, tree, save, replay, closedcheck, treecheck, drill, host, version}
+-- What each request says, and how it is answered.
+use Rattle.std.specs.Prelude.{ℕ, List, [], get_or, Option, None, Some, codes}
+use Rattle.cstn_request.specs.Requests.{Request, of_network, of_labelled, of_text, of_document, drill, host, version, network_labels, text_labels}
+use Rattle.cstn_request.specs.declared.words.NetworkVerb.{NetworkVerb}
+use Rattle.cstn_request.specs.declared.words.NetworkVerb.TheVariants.{Check, Closed, Tight, Conflict, Tree, Edit}
+use Rattle.cstn_request.specs.declared.words.LabelledVerb.{LabelledVerb}
+use Rattle.cstn_request.specs.declared.words.LabelledVerb.TheVariants.{Follow, Run}
+use Rattle.cstn_request.specs.declared.words.TextVerb.{TextVerb}
+use Rattle.cstn_request.specs.declared.words.TextVerb.TheVariants.{Replay, Closedcheck, Treecheck}
+use Rattle.cstn_request.specs.declared.words.DocumentVerb.{DocumentVerb}
+use Rattle.cstn_request.specs.declared.words.DocumentVerb.TheVariants.{Save}
 use Rattle.cstn_reply.specs.Texts.{say}
 use Rattle.cstn_reply.specs.declared.output.Outcome.TheVariants.{Words}
 use Rattle.cstn_top.specs.Plans.{Plan, says}
-use Rattle.cstn_top.specs.Command.{Command}
-use Rattle.cstn_top.specs.commands.Check.{check_command}
-use Rattle.cstn_top.specs.commands.Run.{run_command}
-use Rattle.cstn_top.specs.commands.Edit.{edit_command}
-use Rattle.cstn_top.specs.commands.Follow.{follow_command}
-use Rattle.cstn_top.specs.commands.Host.{host_command}
-use Rattle.cstn_top.specs.commands.Closed.{closed_command}
-use Rattle.cstn_top.specs.commands.Closedcheck.{closedcheck_command}
-use Rattle.cstn_top.specs.commands.Tight.{tight_command}
-use Rattle.cstn_top.specs.commands.Conflict.{conflict_command}
-use Rattle.cstn_top.specs.commands.Tree.{tree_command}
-use Rattle.cstn_top.specs.commands.Treecheck.{treecheck_command}
-use Rattle.cstn_top.specs.commands.Replay.{replay_command}
-use Rattle.cstn_top.specs.commands.Save.{save_command}
-use Rattle.cstn_top.specs.commands.Drill.{drill_command}
-use Rattle.cstn_top.specs.commands.Version.{version_command}
+use Rattle.cstn_top.specs.Answers.{Answer, LabelledAnswer, by_labels, on_labelled, by_text}
+use Rattle.cstn_top.specs.Kinds.{Kind, a_text, a_run, an_edit, a_follow, a_host}
+use Rattle.cstn_top.specs.commands.Check.{checked}
+use Rattle.cstn_top.specs.commands.Closed.{listed}
+use Rattle.cstn_top.specs.commands.Tight.{tightened}
+use Rattle.cstn_top.specs.commands.Conflict.{blamed}
+use Rattle.cstn_top.specs.commands.Tree.{unfolded}
+use Rattle.cstn_top.specs.commands.Edit.{edited}
+use Rattle.cstn_top.specs.commands.Follow.{followed}
+use Rattle.cstn_top.specs.commands.Run.{carried_out}
+use Rattle.cstn_top.specs.commands.Replay.{replayed}
+use Rattle.cstn_top.specs.commands.Closedcheck.{certified}
+use Rattle.cstn_top.specs.commands.Treecheck.{tree_checked}
+use Rattle.cstn_top.specs.commands.Save.{saved}
+use Rattle.cstn_top.specs.commands.Drill.{drilled}
+use Rattle.cstn_top.specs.commands.Host.{hosted_plan}
+use Rattle.cstn_top.specs.commands.Version.{versioned}
 
--- the command of a request
-abbrev pub command_of : Request → Command
-command_of (check asked cap) = check_command asked cap
-command_of (run asked cap) = run_command asked cap
-command_of (edit asked cap) = edit_command asked cap
-command_of (follow asked cap) = follow_command asked cap
-command_of (closed asked cap) = closed_command asked cap
-command_of (tight asked cap) = tight_command asked cap
-command_of (conflict asked cap) = conflict_command asked cap
-command_of (tree asked cap) = tree_command asked cap
-command_of (save asked) = save_command asked
-command_of (replay asked proof) = replay_command asked
-command_of (closedcheck asked proof) = closedcheck_command asked
-command_of (treecheck asked proof) = treecheck_command asked
-command_of (drill number) = drill_command number
-command_of (host files deadline cap) = host_command files deadline cap
-command_of (version release) = version_command release
+-- ---- verbs
+
+-- what a verb says of a network, whose log may have so many entries
+abbrev pub network_answer : NetworkVerb → ℕ → Answer
+network_answer Check cap = checked cap
+network_answer Closed cap = listed cap
+network_answer Tight cap = tightened cap
+network_answer Conflict cap = blamed cap
+network_answer Tree cap = unfolded cap
+network_answer Edit cap = edited cap
+
+abbrev pub network_kind : NetworkVerb → Kind
+network_kind Check = a_text
+network_kind Closed = a_text
+network_kind Tight = a_text
+network_kind Conflict = a_text
+network_kind Tree = a_text
+network_kind Edit = an_edit
+
+-- what a verb says of a labelled network, whose log may have so many entries
+abbrev pub labelled_answer : LabelledVerb → ℕ → LabelledAnswer
+labelled_answer Follow cap = followed cap
+labelled_answer Run cap = carried_out cap
+
+abbrev pub labelled_kind : LabelledVerb → Kind
+labelled_kind Follow = a_follow
+labelled_kind Run = a_run
+
+-- what a verb says of a network by a text
+abbrev pub text_answer : TextVerb → List ℕ → Answer
+text_answer Replay text = replayed text
+text_answer Closedcheck text = certified text
+text_answer Treecheck text = tree_checked text
+
+-- what a verb says of the labelled network of a document
+abbrev pub document_answer : DocumentVerb → LabelledAnswer
+document_answer Save = saved
+
+-- ---- requests
+
+-- the contents of FILE and of PROOF
+abbrev pub file_in : List (List ℕ) → List ℕ
+file_in contents = get_or contents 0 []
+
+abbrev pub proof_in : List (List ℕ) → List ℕ
+proof_in contents = get_or contents 1 []
 
 -- the plan of a request whose files have these contents
 abbrev pub plan_at : Request → List (List ℕ) → Plan
-plan_at request contents = (command_of request).plan contents
+plan_at (of_network verb asked cap) contents = on_labelled (by_labels (network_labels verb) (network_answer verb cap)) (file_in contents) asked.deadline
+plan_at (of_labelled verb asked cap) contents = on_labelled (labelled_answer verb cap) (file_in contents) asked.deadline
+plan_at (of_text verb asked proof) contents = on_labelled (by_labels (text_labels verb) (by_text (text_answer verb) (proof_in contents))) (file_in contents) asked.deadline
+plan_at (of_document verb asked) contents = on_labelled (document_answer verb) (file_in contents) asked.deadline
+plan_at (drill number) contents = says (drilled number)
+plan_at (host files deadline cap) contents = hosted_plan cap deadline contents
+plan_at (version release) contents = says (versioned release)
 
 -- the plan of the words of a call, which may be no request
 abbrev pub plan_of : Option Request → List (List ℕ) → Plan
 plan_of None contents = says (say Words (codes "words"))
 plan_of (Some request) contents = plan_at request contents
+
+-- how a request is answered
+abbrev pub kind_at : Request → Kind
+kind_at (of_network verb asked cap) = network_kind verb
+kind_at (of_labelled verb asked cap) = labelled_kind verb
+kind_at (of_text verb asked proof) = a_text
+kind_at (of_document verb asked) = a_text
+kind_at (drill number) = a_text
+kind_at (host files deadline cap) = a_host
+kind_at (version release) = a_text

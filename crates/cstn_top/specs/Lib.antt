@@ -3,9 +3,8 @@ pub mod Plans
 pub mod Lines
 pub mod Answers
 pub mod Verdicts
-pub mod Accepted
 -- What each command is.
-pub mod Command
+pub mod Kinds
 pub mod commands
 pub mod Dispatch
 -- What the clauses of `run` say.

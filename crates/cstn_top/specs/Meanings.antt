@@ -1,13 +1,19 @@
 -- How a call with a request ends.
-use Rattle.std.specs.Prelude.{◌≡◌, ◌⊎◌, ℕ, List, [], take, Option, None, Some}
-use Rattle.cstn_request.specs.Requests.{Request, files_of}
-use Rattle.cstn_request.specs.Files.{AreContents}
+use Rattle.std.specs.Prelude.{◌≡◌, ◌⊎◌, ◌≤◌, ℕ, suc, List, [], ◌∷◌, take, get_or, Option, None, Some}
+use Rattle.cstn_net.specs.Limits.{most_load}
+use Rattle.cstn_check.specs.Decisions.{IsYes}
+use Rattle.cstn_request.specs.Requests.{Request, of_network, of_labelled, of_text, of_document, drill, host, version, files_of}
+use Rattle.cstn_request.specs.declared.words.LabelledVerb.TheVariants.{Follow, Run}
+use Rattle.cstn_request.specs.Files.{AreContents, AreThere}
+use Rattle.cstn_request.specs.Documents.{HasLabelled, HasNetwork, IsRefused}
 use Rattle.cstn_reply.specs.declared.status.Status.{Status}
 use Rattle.cstn_reply.specs.declared.status.Status.TheVariants.{Good, Bad, Words, Document, Full, ReadFault, WriteFault, Memory, Unfinished, Script, Wide}
 use Rattle.cstn_reply.specs.Reached.{MeetsLine}
 use Rattle.cstn_top.specs.Plans.{before_fault}
-use Rattle.cstn_top.specs.Command.{wants_ends}
-use Rattle.cstn_top.specs.Dispatch.{command_of, plan_at}
+use Rattle.cstn_top.specs.Kinds.{InSession, wants_memory, wants_ends}
+use Rattle.cstn_top.specs.Verdicts.{IsLabelledYes}
+use Rattle.cstn_top.specs.Dispatch.{network_kind, file_in, plan_at, kind_at}
+use Rattle.cstn_top.specs.commands.Host.{EachHas}
 
 -- the words are a request, and it holds of the request and the contents of its files
 abbrev pub HoldsOf : Option Request → Option (List ℕ → Option (List ℕ)) → (Request → List (List ℕ) → Type 0) → Type 0
@@ -32,16 +38,39 @@ files_read Unfinished names = names
 files_read Script names = names
 files_read Wide names = names
 
--- where a document is refused, the files that were read are there
+-- where a document is refused, it is there: that of a host with each file before it
 abbrev pub RefusedIsThere : Option (List ℕ → Option (List ℕ)) → Request → List (List ℕ) → Type 0
-RefusedIsThere told request contents = (command_of request).refused told contents
+RefusedIsThere told (of_network verb asked cap) contents = AreThere told (asked.file ∷ [])
+RefusedIsThere told (of_labelled verb asked cap) contents = AreThere told (asked.file ∷ [])
+RefusedIsThere told (of_text verb asked proof) contents = AreThere told (asked.file ∷ [])
+RefusedIsThere told (of_document verb asked) contents = AreThere told (asked.file ∷ [])
+RefusedIsThere told (drill number) contents = AreThere told []
+RefusedIsThere told (host files deadline cap) contents = (place : ℕ) × IsRefused (get_or contents place []) deadline × AreThere told (take (suc place) files)
+RefusedIsThere told (version release) contents = AreThere told []
 
--- the request reads the live source
+-- the request reads the live source: a run after yes, `edit` and `follow` where the document has a network, and a host where each
+-- network has a strategy
 abbrev pub ReadsLive : Request → List (List ℕ) → Type 0
-ReadsLive request contents = (command_of request).lines.reads contents
+ReadsLive (of_network verb asked cap) contents = InSession (network_kind verb) (HasNetwork (file_in contents) asked.deadline (λ names net. Unit {0}))
+ReadsLive (of_labelled Follow asked cap) contents = HasLabelled (file_in contents) asked.deadline (λ names m. Unit {0})
+ReadsLive (of_labelled Run asked cap) contents = HasLabelled (file_in contents) asked.deadline (λ names m. IsLabelledYes cap m)
+ReadsLive (of_text verb asked proof) contents = ⊥
+ReadsLive (of_document verb asked) contents = ⊥
+ReadsLive (drill number) contents = ⊥
+ReadsLive (host files deadline cap) contents = EachHas contents deadline (IsYes cap)
+ReadsLive (version release) contents = ⊥
 
 -- the session over the lines of the live source, which has these bytes, comes to a line whose answer may want memory
 abbrev pub MayStop : Option (List ℕ) → Request → List (List ℕ) → Type 0
 MayStop live request contents =
-    (command_of request).lines.wants contents
-    × MeetsLine (wants_ends (command_of request).kind) (before_fault (plan_at request contents)) (command_of request).lines.wants_at live
+    ReadsLive request contents × MeetsLine (wants_ends (kind_at request)) (before_fault (plan_at request contents)) (wants_memory (kind_at request)) live
+
+-- the cap is at most 4,194,304
+abbrev pub IsRanged : Request → Type 0
+IsRanged (of_network verb asked cap) = cap ≤ most_load
+IsRanged (of_labelled verb asked cap) = cap ≤ most_load
+IsRanged (of_text verb asked proof) = Unit {0}
+IsRanged (of_document verb asked) = Unit {0}
+IsRanged (drill number) = Unit {0}
+IsRanged (host files deadline cap) = cap ≤ most_load
+IsRanged (version release) = Unit {0}

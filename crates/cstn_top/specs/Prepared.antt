@@ -1,6 +1,6 @@
 -- What is prepared for a request.
 use Rattle.std.specs.Prelude.{true, false, ◌≡◌, ℕ, List, [], Option, Some}
-use Rattle.cstn_request.specs.Requests.{Request, files_of}
+use Rattle.cstn_request.specs.Requests.{Request, of_network, of_labelled, of_text, of_document, drill, host, version, files_of}
 use Rattle.cstn_request.specs.Files.{AreContents, AreThere}
 use Rattle.cstn_reply.specs.Texts.{Said}
 use Rattle.cstn_reply.specs.Read.{the_said}
@@ -15,9 +15,9 @@ use Rattle.cstn_run.specs.hosted.SessionRead.{the_host_session}
 use Rattle.cstn_follow.specs.Following.{following_ending}
 use Rattle.cstn_follow.specs.Read.{the_following}
 use Rattle.cstn_top.specs.Plans.{Plan, says, ComesTo, IsOutput, session, ended_session}
-use Rattle.cstn_top.specs.Command.{Kind, a_text, a_run, an_edit, a_follow, a_host}
+use Rattle.cstn_top.specs.Kinds.{Kind, a_run, an_edit, a_follow, a_host}
 use Rattle.cstn_top.specs.commands.Follow.{follow_turn}
-use Rattle.cstn_top.specs.Dispatch.{command_of, plan_at}
+use Rattle.cstn_top.specs.Dispatch.{plan_at}
 use Rattle.cstn_top.specs.Meanings.{HoldsOf, files_read, RefusedIsThere}
 use Rattle.cstn_top.specs.declared.commands.Prepared.{Prepared}
 use Rattle.cstn_top.specs.declared.commands.Prepared.TheVariants.{Says, Runs, Edits, Follows, Hosts}
@@ -55,21 +55,24 @@ FitsKind kind (Follows opening session') = EndsLine opening.items × (kind ≡ a
 FitsKind kind (Hosts opening session') = EndsLine opening.items × (kind ≡ a_host)
 
 -- Where it is told that a document of a host is refused, this holds. A run, an edit session or one that follows is prepared for no
--- host. Of the other commands, which read one document, nothing is told beside.
-abbrev pub TellsOfKind : Kind → Type 0 → Prepared → Type 0
-TellsOfKind a_host holds (Says said) = said.outcome ≡ Document → holds
-TellsOfKind a_host holds (Runs opening session') = ⊥
-TellsOfKind a_host holds (Edits editing) = ⊥
-TellsOfKind a_host holds (Follows opening session') = ⊥
-TellsOfKind a_host holds (Hosts opening session') = Unit {0}
-TellsOfKind a_text holds prepared = Unit {0}
-TellsOfKind a_run holds prepared = Unit {0}
-TellsOfKind an_edit holds prepared = Unit {0}
-TellsOfKind a_follow holds prepared = Unit {0}
+-- host.
+abbrev pub TellsOfHost : Type 0 → Prepared → Type 0
+TellsOfHost holds (Says said) = said.outcome ≡ Document → holds
+TellsOfHost holds (Runs opening session') = ⊥
+TellsOfHost holds (Edits editing) = ⊥
+TellsOfHost holds (Follows opening session') = ⊥
+TellsOfHost holds (Hosts opening session') = Unit {0}
 
--- where it is told that a document of a host is refused, it is there, and so is each file before it
+-- Where it is told that a document of a host is refused, it is there, and so is each file before it. Of the other requests, which
+-- read one document at most, nothing is told beside.
 abbrev pub TellsRefused : Option (List ℕ → Option (List ℕ)) → Request → Prepared → Type 0
-TellsRefused told request prepared = TellsOfKind (command_of request).kind (HoldsOf (Some request) told (RefusedIsThere told)) prepared
+TellsRefused told (of_network verb asked cap) prepared = Unit {0}
+TellsRefused told (of_labelled verb asked cap) prepared = Unit {0}
+TellsRefused told (of_text verb asked proof) prepared = Unit {0}
+TellsRefused told (of_document verb asked) prepared = Unit {0}
+TellsRefused told (drill number) prepared = Unit {0}
+TellsRefused told (host files deadline cap) prepared = TellsOfHost (HoldsOf (Some (host files deadline cap)) told (RefusedIsThere told)) prepared
+TellsRefused told (version release) prepared = Unit {0}
 
 -- the plan says what the request says of the contents of its files, and the files that were read are there
 pub record Planned (request : Request) (told : Option (List ℕ → Option (List ℕ))) (plan : Plan) : Type 0 where

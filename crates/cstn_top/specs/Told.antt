@@ -1,4 +1,4 @@
--- What a call tells, and what follows of it for its command: all of it of the same contents of the files that its words name.
+-- What a call tells, all of it of the same contents of the files that its words name.
 use Rattle.std.specs.Prelude.{◌≡◌, ℕ, List, Option, IfSome, String, codes}
 use Rattle.cstn_io.specs.Causes.{Rose}
 use Rattle.cstn_io.specs.Contents.{with_bytes}
@@ -9,8 +9,8 @@ use Rattle.cstn_reply.specs.Texts.{line}
 use Rattle.cstn_request.specs.Files.{AreContents}
 use Rattle.cstn_reply.specs.Written.{LiveState}
 use Rattle.cstn_top.specs.Plans.{Ends, Untouched}
-use Rattle.cstn_top.specs.Dispatch.{command_of, plan_of}
-use Rattle.cstn_top.specs.Meanings.{HoldsOf, ReadsLive}
+use Rattle.cstn_top.specs.Dispatch.{plan_of}
+use Rattle.cstn_top.specs.Meanings.{HoldsOf, ReadsLive, IsRanged}
 use Rattle.cstn_reply.specs.declared.status.Status.{Status}
 
 -- what is seen of a live source, by the bytes that it has left and its count of faults
@@ -49,4 +49,4 @@ pub record IsTold {S : Type 0} (words : Option Request) (files : Option (List �
   -- the live source is as it was, unless the plan comes to a session
   pub untouched : Untouched (plan_of words contents) source now
   -- where the words are a request, its cap is in range
-  pub ranged : IfSome words (λ request. (command_of request).ranged)
+  pub ranged : IfSome words IsRanged

@@ -5,7 +5,7 @@ ghost use Rattle.cstn_io.specs.Causes.{Rose};
 ghost use Rattle.cstn_request.specs.Requests.{files_of};
 ghost use Rattle.cstn_request.specs.Read.{the_request};
 ghost use Rattle.cstn_top.specs.Prepared.{the_plan, Planned, FitsKind, TellsRefused};
-ghost use Rattle.cstn_top.specs.Questions.{kind_at};
+ghost use Rattle.cstn_top.specs.Dispatch.{kind_at};
 
 mod answers;
 mod closed;

@@ -1,40 +1,49 @@
 -- What is proved of `conflict`.
-use Rattle.std.proofs.Common.{ℕ, List, sym, subst, []}
-use Rattle.std.specs.Prelude.{get_or}
-use Rattle.cstn_request.specs.Requests.{Asked, conflict}
-use Rattle.cstn_top.specs.commands.Conflict.{blamed, IsConflictText}
-use Rattle.cstn_request.specs.Documents.{HasNetwork}
-use Rattle.cstn_reply.specs.Statuses.{status_of}
-use Rattle.cstn_reply.specs.declared.output.Outcome.{Outcome}
-use Rattle.cstn_reply.specs.declared.output.Outcome.TheVariants.{Good, Bad, Words, Document, Full, Unfinished, Script, Wide}
-use Rattle.cstn_headline.proofs.Standing.{Stands, StandsFor, conflict_stands}
-use Rattle.cstn_headline.proofs.Dispatched.{IsEvidence}
-use Rattle.cstn_headline.proofs.Proved.{IsProved}
-use Rattle.cstn_headline.proofs.Accepted.{network_shown}
-use Rattle.cstn_headline.proofs.SomeOutput.{said_some, plain_some}
+use Rattle.std.proofs.Common.{◌≤◌, ◌≡◌, ℕ, List, refl, ap, sym, subst, inl, inr}
+use Rattle.std.specs.Prelude.{◌⊎◌, Option, None, Some}
+use Rattle.cstn_net.specs.Limits.{most_load}
+use Rattle.cstn_net.specs.Networks.{Network}
+use Rattle.cstn_reply.specs.Texts.{Said}
+use Rattle.cstn_top.specs.Plans.{IsOutput}
+use Rattle.cstn_top.specs.commands.Conflict.{blamed}
+use Rattle.cstn_conflict.specs.Conflicts.{conflict_set, IsConflictFull}
+use Rattle.cstn_conflict.specs.Texts.{blamed_by, blamed_after_no}
+use Rattle.cstn_check.specs.Decisions.{verdict, IsYes, IsNo}
+use Rattle.cstn_check.specs.declared.verdicts.Verdict.{Verdict}
+use Rattle.cstn_top.proofs.Documents.{IsOfDocument}
+use Rattle.cstn_check.specs.declared.verdicts.Verdict.TheVariants.{Yes, No, Full as IsFullVerdict}
+use Rattle.cstn_check.proofs.Deciding.{Tells as VerdictTells, verdict_tells}
+use Rattle.cstn_reply.specs.declared.output.Outcome.TheVariants.{Good, Bad, Full}
+use Rattle.cstn_headline.specs.Telling.{Tells}
+use Rattle.cstn_headline.specs.commands.Conflict.{IsBlamed, IsConflictText, conflict_telling}
+use Rattle.cstn_headline.proofs.EvidenceLemmas.{conflict_well}
+use Rattle.cstn_headline.proofs.Standing.{YesAccepted, NoAccepted, conflict_stands}
+use Rattle.cstn_headline.proofs.Telling.{verdict_told}
 
-conflict_shown : (asked : Asked) (cap : ℕ) (contents : List (List ℕ)) (o : Outcome) (text : List ℕ) → HasNetwork (get_or contents 0 []) asked.deadline (λ names net. Stands o (Unit {0}) (IsConflictText names net text)) → IsEvidence (conflict asked cap) (status_of o) text contents
-conflict_shown asked cap contents Good text has = tt
-conflict_shown asked cap contents Bad text has = has
-conflict_shown asked cap contents Words text has = tt
-conflict_shown asked cap contents Document text has = tt
-conflict_shown asked cap contents Full text has = tt
-conflict_shown asked cap contents Unfinished text has = tt
-conflict_shown asked cap contents Script text has = tt
-conflict_shown asked cap contents Wide text has = tt
+pub conflict_tells : YesAccepted → NoAccepted → (cap : ℕ) → cap ≤ most_load → (live : List ℕ) (said : Said) (names : List (List ℕ)) (net : Network) → IsOfDocument names net → IsOutput (blamed cap names net) live said → Tells (conflict_telling cap said.text names net) said.outcome
+conflict_tells yes_text no_text cap capped live said names net of output =
+    verdict_told (IsYes cap net) (IsNo cap net × IsBlamed cap names net said.text) (IsConflictFull cap net) said.outcome (by_verdict (verdict cap net) (verdict_tells cap net of.good) output)
+  where
+    Cases : Type 0
+    Cases = ((said.outcome ≡ Good) × IsYes cap net) ⊎ (((said.outcome ≡ Bad) × (IsNo cap net × IsBlamed cap names net said.text)) ⊎ ((said.outcome ≡ Full) × IsConflictFull cap net))
 
-pub conflict_proved : (asked : Asked) (cap : ℕ) → IsProved (conflict asked cap)
-conflict_proved asked cap = record {
-  complete = λ contents live said output. tt;
-  evidence = λ yes_text no_text contents live said capped output.
-      network_shown (blamed cap) (get_or contents 0 []) asked.deadline live said (λ names net s. StandsFor (λ text. Unit {0}) (IsConflictText names net) s) (λ s. IsEvidence (conflict asked cap) (status_of s.outcome) s.text contents)
-      (λ is. subst (λ (o : Outcome). IsEvidence (conflict asked cap) (status_of o) said.text contents) (sym is) tt)
-      (λ names net is out. conflict_stands yes_text no_text cap names net live said is capped out)
-      (conflict_shown asked cap contents said.outcome said.text) output;
-  least = λ contents. tt;
-  ended = λ told old new contents live said all wrote output. tt;
-  carried_out = λ told old new contents ended. tt;
-  unfinished = λ told old new contents ended. tt;
-  some = λ laws contents live ranged held.
-      plain_some laws.made (blamed cap) (get_or contents 0 []) asked.deadline live held (λ names net of. said_some _ live);
-}
+    by_set : (o : Option (List ℕ)) → conflict_set cap net ≡ o → IsNo cap net → said ≡ blamed_after_no cap names net o → Cases
+    by_set None none no' is = inr (inr (ap (λ (s : Said). s.outcome) is, inr (no'.0, none)))
+    by_set (Some ids) some no' is =
+        inr (inl (
+          ap (λ (s : Said). s.outcome) is,
+          (
+            no',
+            record {
+              ids = ids;
+              found = some;
+              conflict = conflict_well cap net ids of.good no'.0 some;
+              text_is = subst (IsConflictText names net) (sym (ap (λ (s : Said). s.text) is)) (conflict_stands yes_text no_text cap names net ids of capped no' some);
+            },
+          ),
+        ))
+
+    by_verdict : (v : Verdict) → VerdictTells cap net v → said ≡ blamed_by cap names net v → Cases
+    by_verdict (Yes load) told is = inl (ap (λ (s : Said). s.outcome) is, told)
+    by_verdict (No load) told is = by_set (conflict_set cap net) refl told is
+    by_verdict IsFullVerdict told is = inr (inr (ap (λ (s : Said). s.outcome) is, inl told))

@@ -1,57 +1,94 @@
 -- What is proved of `host`.
-use Rattle.std.proofs.Common.{ℕ, ◌≤◌, List, sym, subst, arith, []}
-use Rattle.std.specs.Prelude.{Option}
+use Rattle.std.proofs.Common.{◌≡◌, ◌∙◌, ◌<◌, ◌≤◌, ℕ, false, List, [], ◌∷◌, map, refl, ap, sym, subst, inl, inr, arith}
+use Rattle.std.specs.Prelude.{◌⊎◌, Option, None, Some}
+use Rattle.cstn_io.specs.Contents.{IsAllOf}
 use Rattle.cstn_net.specs.Limits.{most_load}
 use Rattle.cstn_net.specs.Networks.{Network}
-use Rattle.cstn_reply.specs.Texts.{Said}
-use Rattle.cstn_reply.specs.Statuses.{status_of}
+use Rattle.cstn_check.specs.Growth.{load_of}
+use Rattle.cstn_reply.specs.Texts.{Said, after_text}
+use Rattle.cstn_top.specs.Plans.{IsOutput}
+use Rattle.cstn_run.specs.hosted.Sessions.{host_turn, host_ending, HostSession, begun, ended, unfinished}
+use Rattle.cstn_reply.specs.Sessions.{play, answers}
+use Rattle.cstn_lines.specs.Pieces.{lines_of}
+use Rattle.cstn_top.specs.commands.Host.{hosted_plan, attended, EachHas, FirstHas, FirstRefused}
+use Rattle.cstn_lines.specs.HostLines.{host_read}
+use Rattle.cstn_run.specs.hosted.Files.{Named, the_file, yes_lines}
+use Rattle.cstn_headline.proofs.Standing.{NoAccepted}
+use Rattle.cstn_check.specs.Decisions.{IsNo, IsYes}
+use Rattle.cstn_headline.specs.Accepted.{IsNoText}
+use Rattle.cstn_reply.specs.Reached.{state_after}
 use Rattle.cstn_reply.specs.declared.output.Outcome.{Outcome}
-use Rattle.cstn_reply.specs.declared.output.Outcome.TheVariants.{Good, Bad, Words, Document, Full, Unfinished, Script, Wide}
-use Rattle.cstn_top.proofs.Hosts.{IsToldNo, HostTells, host_tells, first_then}
-use Rattle.cstn_request.specs.Requests.{host}
-use Rattle.cstn_top.specs.Accepted.{IsNoText}
-use Rattle.cstn_top.specs.commands.Host.{FirstHas, attended}
-use Rattle.cstn_headline.proofs.Standing.{NoAccepted, Stands}
-use Rattle.cstn_headline.proofs.Dispatched.{IsEvidence}
-use Rattle.cstn_headline.proofs.Proved.{IsProved}
-use Rattle.cstn_headline.proofs.SomeOutput.{attended_some, documents_some}
+use Rattle.cstn_reply.specs.declared.output.Outcome.TheVariants.{Good, Bad, Document, Full, Unfinished, Script}
+use Rattle.cstn_top.specs.Lines.{StopsAtLine}
+use Rattle.cstn_top.proofs.Hosts.{AreNetworks as AreTaken, session_of, Read, documents_say, IsToldNo, verdicts_say, first_then}
+use Rattle.cstn_top.proofs.Played.{stops_at, Played, all_answered, one_last, one_stops, played}
+use Rattle.cstn_top.proofs.Turns.{host_answers}
+use Rattle.cstn_headline.specs.Telling.{Telling, Tells}
+use Rattle.cstn_headline.specs.Sessions.{EndsIn}
+use Rattle.cstn_headline.specs.commands.Host.{AreNetworks, IsAllDone, EndsLeftOver, WroteHost, host_telling, HostTells}
+use Rattle.cstn_headline.proofs.Hosting.{all_done, left_over}
+use Rattle.cstn_headline.proofs.Sessions.{wrote}
 
-host_stands : NoAccepted → (cap : ℕ) (deadline : Option ℕ) (contents : List (List ℕ)) (said : Said) (o : Outcome) → cap ≤ most_load → HostTells cap deadline contents said o →
-    Stands o (Unit {0}) (FirstHas contents deadline cap (λ names net. IsNoText names net said.text))
-host_stands no_text cap deadline contents said Good capped tells' = tt
-host_stands no_text cap deadline contents said Bad capped tells' =
-    first_then contents deadline cap (IsToldNo cap said) (λ names net. IsNoText names net said.text) by_told tells'
-  where
-    by_told : (names : List (List ℕ)) (net : Network) → IsToldNo cap said names net → IsNoText names net said.text
-    by_told names net (of, never, text) =
-        subst (IsNoText names net) (sym text)
-        (no_text names net of.good of.are of.named of.ids (omega (arith, never.1, capped)) never.0)
-host_stands no_text cap deadline contents said Words capped tells' = tt
-host_stands no_text cap deadline contents said Document capped tells' = tt
-host_stands no_text cap deadline contents said Full capped tells' = tt
-host_stands no_text cap deadline contents said Unfinished capped tells' = tt
-host_stands no_text cap deadline contents said Script capped tells' = tt
-host_stands no_text cap deadline contents said Wide capped tells' = tt
+are_networks : (contents : List (List ℕ)) (deadline : Option ℕ) (all : List Named) → AreTaken contents deadline all → AreNetworks contents deadline all
+are_networks [] deadline [] are = tt
+are_networks [] deadline (named ∷ all) are = are
+are_networks (bytes ∷ rest) deadline [] are = are
+are_networks (bytes ∷ rest) deadline (named ∷ all) are = (are.0, are_networks rest deadline all are.2)
 
-host_shown : (files : List (List ℕ)) (deadline : Option ℕ) (cap : ℕ) (contents : List (List ℕ)) (o : Outcome) (text : List ℕ) → Stands o (Unit {0}) (FirstHas contents deadline cap (λ names net. IsNoText names net text)) → IsEvidence (host files deadline cap) (status_of o) text contents
-host_shown files deadline cap contents Good text first = tt
-host_shown files deadline cap contents Bad text first = first
-host_shown files deadline cap contents Words text first = tt
-host_shown files deadline cap contents Document text first = tt
-host_shown files deadline cap contents Full text first = tt
-host_shown files deadline cap contents Unfinished text first = tt
-host_shown files deadline cap contents Script text first = tt
-host_shown files deadline cap contents Wide text first = tt
+module _ (no_text : NoAccepted) (cap : ℕ) (capped : cap ≤ most_load) (deadline : Option ℕ) (contents : List (List ℕ)) (told : Option (List ℕ)) (live : List ℕ) (said : Said) (all : IsAllOf told live) where
+  lines : List (List ℕ)
+  lines = lines_of live
 
-pub host_proved : (files : List (List ℕ)) (deadline : Option ℕ) (cap : ℕ) → IsProved (host files deadline cap)
-host_proved files deadline cap = record {
-  complete = λ contents live said output. tt;
-  evidence = λ yes_text no_text contents live said capped output.
-      host_shown files deadline cap contents said.outcome said.text (host_stands no_text cap deadline contents said said.outcome capped (host_tells cap deadline contents live said output));
-  least = λ contents. tt;
-  ended = λ told old new contents live said all wrote output. tt;
-  carried_out = λ told old new contents ended. tt;
-  unfinished = λ told old new contents ended. tt;
-  some = λ laws contents live ranged held.
-      documents_some laws.made (attended cap) deadline live (attended_some cap live) [] contents held;
-}
+  telling : Telling
+  telling = host_telling cap deadline contents told said.text
+
+  as_outcome : (o : Outcome) → said.outcome ≡ o → Tells telling o → Tells telling said.outcome
+  as_outcome o is tells = subst (Tells telling) (sym is) tells
+
+  -- the session after each yes
+  module _ (nets : List Named) (are : AreTaken contents deadline nets) (each : EachHas contents deadline (IsYes cap)) (output : IsOutput (session_of cap nets) live said) where
+    start : HostSession
+    start = begun (map the_file nets)
+
+    end : Said
+    end = play host_turn host_ending start 0 lines
+
+    outcome_is : said.outcome ≡ end.outcome
+    outcome_is = ap (λ (s : Said). s.outcome) output
+
+    wrote_host : (OfLines : HostSession → List (List ℕ) → Type 0) → OfLines start lines → WroteHost cap deadline contents told said.text OfLines
+    wrote_host OfLines has = record { all = nets; are = are_networks contents deadline nets are; consistent = each; wrote = wrote false host_turn host_ending (yes_lines nets) start told live said (OfLines start) all output has }
+
+    at_end : (reached : HostSession) → state_after host_turn start 0 lines ≡ Some reached → (o : Option (ℕ × ℕ)) → unfinished reached ≡ o → end ≡ after_text (answers host_turn start 0 lines) (ended o) → Tells telling said.outcome
+    at_end reached leads None none is =
+        as_outcome Good (outcome_is ∙ ap (λ (s : Said). s.outcome) is) (wrote_host (λ first. EndsIn host_turn first IsAllDone) (reached, leads, all_done reached none))
+    at_end reached leads (Some found) some is =
+        as_outcome Unfinished (outcome_is ∙ ap (λ (s : Said). s.outcome) is)
+        (wrote_host EndsLeftOver (record { id = found.0; due = found.1; ends = (reached, leads, left_over reached found.0 found.1 some); text_is = ap (λ (s : Said). s.text) is }))
+
+    by_played : Played host_turn host_ending (λ text. host_read text ≡ None) (λ outcome. ⊥) start 0 lines end → Tells telling said.outcome
+    by_played (all_answered reached leads same) = at_end reached leads (unfinished reached) refl same
+    by_played (one_last never) = absurd never
+    by_played (one_stops at stops) =
+        as_outcome Script (outcome_is ∙ at)
+        (wrote_host (λ first ls. StopsAtLine host_turn first (λ text. host_read text ≡ None) ls (play host_turn host_ending first 0 ls).text) (stops_at host_turn start (λ text. host_read text ≡ None) lines end.text stops))
+
+    after_yes : Tells telling said.outcome
+    after_yes = by_played (played host_turn host_ending (λ text. host_read text ≡ None) (λ outcome. ⊥) host_answers start 0 lines)
+
+  told_no : (names : List (List ℕ)) (net : Network) → IsToldNo cap said names net → IsNo cap net × IsNoText names net said.text
+  told_no names net (of, no', text) = (no', subst (IsNoText names net) (sym text) (no_text names net of.good of.are of.named of.ids (omega (arith, no'.1, capped)) no'.0))
+
+  by_verdicts : (nets : List Named) → AreTaken contents deadline nets →
+      (EachHas contents deadline (IsYes cap) × IsOutput (session_of cap nets) live said) ⊎ (((said.outcome ≡ Bad) × FirstHas contents deadline cap (IsToldNo cap said)) ⊎ ((said.outcome ≡ Full) × FirstHas contents deadline cap (λ names net. cap < load_of net))) →
+      Tells telling said.outcome
+  by_verdicts nets are (inl is) = after_yes nets are is.0 is.1
+  by_verdicts nets are (inr (inl is)) = as_outcome Bad is.0 (first_then contents deadline cap (IsToldNo cap said) (λ names net. IsNo cap net × IsNoText names net said.text) told_no is.1)
+  by_verdicts nets are (inr (inr is)) = as_outcome Full is.0 is.1
+
+  pub host_told : IsOutput (hosted_plan cap deadline contents) live said → HostTells cap deadline said.outcome told said.text contents
+  host_told output = by_documents (documents_say (attended cap) deadline live said [] contents output)
+    where
+      by_documents : ((said.outcome ≡ Document) × FirstRefused contents deadline) ⊎ Read contents deadline (λ nets. IsOutput (attended cap nets) live said) → HostTells cap deadline said.outcome told said.text contents
+      by_documents (inl is) = inl is
+      by_documents (inr read) = inr (by_verdicts read.all read.are (verdicts_say cap (session_of cap read.all) deadline live said contents read.all read.are read.held))

@@ -1,68 +1,72 @@
 -- What is proved of `tree`.
-use Rattle.std.proofs.Common.{ℕ, ◌≤◌, Bool, true, false, List, ◌+◌, refl, ap, sym, subst, inl, inr, ◌++◌, []}
-use Rattle.std.specs.Prelude.{nat_lt, if◌then◌else◌, get_or, codes, decimal}
+use Rattle.std.proofs.Common.{◌≤◌, ◌<◌, ◌≡◌, ◌∙◌, ℕ, Bool, true, false, List, refl, ap, sym, subst, inl, inr, arith, length}
+use Rattle.std.specs.Prelude.{nat_lt, if◌then◌else◌}
 use Rattle.cstn_net.specs.Limits.{most_load}
 use Rattle.cstn_net.specs.Networks.{Network}
-use Rattle.cstn_check.specs.Growth.{log_of, load_of, live_bounds}
-use Rattle.cstn_tree.specs.Limits.{most_observed}
-use Rattle.cstn_request.specs.Requests.{Asked, tree}
-use Rattle.cstn_reply.specs.Texts.{Said, say}
-use Rattle.cstn_top.specs.Plans.{says, IsOutput, Plan, branches}
+use Rattle.cstn_reply.specs.Texts.{Said}
+use Rattle.cstn_top.specs.Plans.{IsOutput, Plan, says, branches}
 use Rattle.cstn_top.specs.Answers.{on_verdict}
-use Rattle.cstn_top.specs.commands.Tree.{IsDecidedTree, unfolded, IsTreeProof}
-use Rattle.cstn_check.specs.Decisions.{verdict}
-use Rattle.cstn_request.specs.Documents.{HasNetwork}
-use Rattle.cstn_reply.specs.Statuses.{status_of}
-use Rattle.cstn_reply.specs.declared.output.Outcome.{Outcome}
-use Rattle.cstn_reply.specs.declared.output.Outcome.TheVariants.{Good, Bad, Words, Document, Full, Unfinished, Script, Wide}
-use Rattle.cstn_top.proofs.Trees.{Unfolds, unfolds, tree_decides, tree_proof}
-use Rattle.cstn_headline.proofs.Dispatched.{IsComplete, IsEvidence}
-use Rattle.cstn_top.specs.Accepted.{IsNoText}
-use Rattle.cstn_tree.specs.Unfolded.{observed}
-use Rattle.cstn_headline.proofs.Standing.{NoAccepted, Stands, StandsFor}
+use Rattle.cstn_top.specs.commands.Tree.{unfolded}
+use Rattle.cstn_check.specs.Decisions.{verdict, IsYes}
 use Rattle.cstn_top.proofs.Documents.{IsOfDocument}
-use Rattle.cstn_headline.proofs.Proved.{IsProved}
-use Rattle.cstn_top.proofs.Meanings.{network_then, on_network}
-use Rattle.cstn_headline.proofs.Accepted.{plan_stands, network_shown}
-use Rattle.cstn_headline.proofs.SomeOutput.{unfolded_some, plain_some}
+use Rattle.cstn_check.specs.Growth.{load_of, log_of, live_bounds}
+use Rattle.cstn_tree.specs.Unfolded.{observed, wide, IsTreeText}
+use Rattle.cstn_tree.specs.Limits.{most_observed}
+use Rattle.cstn_text.specs.Limits.{most_text}
+use Rattle.cstn_label.specs.Bounds.{Bound}
+use Rattle.cstn_plan.specs.Asked.{asked}
+use Rattle.cstn_plan.specs.Plans.{IsEarliest}
+use Rattle.cstn_plan.proofs.PlanLemmas.{asked_earliest}
+use Rattle.cstn_check.proofs.Decides.{log_closed, log_decides, log_sound}
+use Rattle.cstn_tree.specs.Texts.{shown as shown_tree}
+use Rattle.cstn_tree.specs.Trees.{lines_of as tree_lines}
+use Rattle.cstn_tree.proofs.TreeLengths.{made_short}
+use Rattle.cstn_reply.specs.declared.output.Outcome.{Outcome}
+use Rattle.cstn_reply.specs.declared.output.Outcome.TheVariants.{Good, Wide}
+use Rattle.cstn_headline.specs.Telling.{Tells}
+use Rattle.cstn_headline.specs.commands.Tree.{IsNarrow, IsMadeTree, tree_telling}
+use Rattle.cstn_headline.proofs.Standing.{NoAccepted}
+use Rattle.cstn_headline.proofs.Telling.{Judged, judged}
+use Rattle.cstn_headline.proofs.Trees.{tree_proof}
 
-tree_stands : NoAccepted → (cap : ℕ) (names : List (List ℕ)) (net : Network) (live : List ℕ) (said : Said) → IsOfDocument names net → cap ≤ most_load →
-    IsOutput (unfolded cap names net) live said → StandsFor (IsTreeProof names net) (IsNoText names net) said
-tree_stands no_text cap names net live said of capped output = by_width (nat_lt most_observed (observed net)) output
+-- the text of a tree that was made is accepted
+made_tree : (names : List (List ℕ)) (net : Network) (said : Said) → IsOfDocument names net → IsNarrow net → load_of net ≤ most_load → IsYes (load_of net) net → IsTreeText names (load_of net) (live_bounds (log_of net)) net said → IsMadeTree names net said.text
+made_tree names net said of narrow few yes' is = record {
+  made = subst (IsTreeText names (load_of net) bounds net) (is.said_is ∙ sym (ap (λ (s : Said). record { outcome = Good; text = s.text }) is.said_is)) is;
+  accepted = tree_proof names net said is (subst (λ (text : List ℕ). length text ≤ most_text) (sym (ap (λ (s : Said). s.text) is.said_is)) short);
+}
   where
+    bounds : List Bound
+    bounds = live_bounds (log_of net)
+
+    plan : IsEarliest net bounds (asked net bounds)
+    plan = asked_earliest net bounds of.good.network (log_closed net of.good.network of.good.letters ((log_decides net of.good.network of.good.letters).0 yes'.0)) (log_sound net of.good.network of.good.letters)
+
+    short : length (shown_tree names (load_of net) (tree_lines is.tree)) ≤ most_text
+    short = made_short names of.are net bounds (asked net bounds) of.good plan of.named (load_of net) few narrow is.tree is.made
+
+pub tree_tells : NoAccepted → (cap : ℕ) → cap ≤ most_load → (live : List ℕ) (said : Said) (names : List (List ℕ)) (net : Network) → IsOfDocument names net → IsOutput (unfolded cap names net) live said → Tells (tree_telling cap said.text names net) said.outcome
+tree_tells no_text cap capped live said names net of output = by_width (nat_lt most_observed (observed net)) refl output
+  where
+    above : (n m : ℕ) → nat_lt n m ≡ true → n < m
+    above n m is = grind arith
+
+    below : (n m : ℕ) → nat_lt n m ≡ false → m ≤ n
+    below n m is = grind arith
+
     after_yes : Plan
     after_yes = branches names (load_of net) (live_bounds (log_of net)) net
 
-    by_width : (wide : Bool) → IsOutput (if wide then says (say Wide (codes "wide " ++ decimal (observed net))) else on_verdict cap names net after_yes (verdict cap net)) live said → StandsFor (IsTreeProof names net) (IsNoText names net) said
-    by_width true is = subst (StandsFor (IsTreeProof names net) (IsNoText names net)) (sym is) tt
-    by_width false is =
-        plan_stands no_text (IsTreeProof names net) cap names net after_yes live said of capped (λ consistent out. subst (StandsFor (IsTreeProof names net) (IsNoText names net)) (sym out.said_is) (subst (IsTreeProof names net) (ap (λ (s : Said). s.text) out.said_is) (tree_proof names net said out))) is
+    as_outcome : (o : Outcome) → said.outcome ≡ o → Tells (tree_telling cap said.text names net) o → Tells (tree_telling cap said.text names net) said.outcome
+    as_outcome o is told = subst (Tells (tree_telling cap said.text names net)) (sym is) told
 
-tree_shown : (asked : Asked) (cap : ℕ) (contents : List (List ℕ)) (o : Outcome) (text : List ℕ) → HasNetwork (get_or contents 0 []) asked.deadline (λ names net. Stands o (IsTreeProof names net text) (IsNoText names net text)) → IsEvidence (tree asked cap) (status_of o) text contents
-tree_shown asked cap contents Good text has = has
-tree_shown asked cap contents Bad text has = has
-tree_shown asked cap contents Words text has = tt
-tree_shown asked cap contents Document text has = tt
-tree_shown asked cap contents Full text has = tt
-tree_shown asked cap contents Unfinished text has = tt
-tree_shown asked cap contents Script text has = tt
-tree_shown asked cap contents Wide text has = tt
+    by_judged : IsNarrow net → Judged cap names net (IsOutput after_yes live said) said → Tells (tree_telling cap said.text names net) said.outcome
+    by_judged narrow (inl is) =
+        let within = is.0.1 in
+        as_outcome _ (ap (λ (s : Said). s.outcome) is.1.said_is) (narrow, is.0, made_tree names net said of narrow (omega (arith, within, capped)) (is.0.0, omega arith) is.1)
+    by_judged narrow (inr (inl is)) = as_outcome _ is.0 (narrow, is.1.0, is.1.1)
+    by_judged narrow (inr (inr is)) = as_outcome _ is.0 (narrow, is.1)
 
-pub tree_proved : (asked : Asked) (cap : ℕ) → IsProved (tree asked cap)
-tree_proved asked cap = record {
-  complete = λ contents live said output.
-      on_network (unfolded cap) (get_or contents 0 []) asked.deadline live said (λ o names net. Unfolds cap names net o) (λ o. IsComplete (status_of o) (tree asked cap) contents) (λ refused. inl (refl, refused))
-      (λ names net good named is. unfolds cap names net live said good is)
-      (λ o has. inr (network_then (get_or contents 0 []) asked.deadline (λ names net. Unfolds cap names net o) (λ names net. IsDecidedTree cap net (status_of o)) has (λ names net good named told. tree_decides cap names net o told))) output;
-  evidence = λ yes_text no_text contents live said capped output.
-      network_shown (unfolded cap) (get_or contents 0 []) asked.deadline live said (λ names net s. StandsFor (IsTreeProof names net) (IsNoText names net) s) (λ s. IsEvidence (tree asked cap) (status_of s.outcome) s.text contents)
-      (λ is. subst (λ (o : Outcome). IsEvidence (tree asked cap) (status_of o) said.text contents) (sym is) tt)
-      (λ names net is out. tree_stands no_text cap names net live said is capped out)
-      (tree_shown asked cap contents said.outcome said.text) output;
-  least = λ contents. tt;
-  ended = λ told old new contents live said all wrote output. tt;
-  carried_out = λ told old new contents ended. tt;
-  unfinished = λ told old new contents ended. tt;
-  some = λ laws contents live ranged held.
-      plain_some laws.made (unfolded cap) (get_or contents 0 []) asked.deadline live held (λ names net of. unfolded_some laws.trees cap names net live of ranged);
-}
+    by_width : (many : Bool) → nat_lt most_observed (observed net) ≡ many → IsOutput (if many then says (wide net) else on_verdict cap names net after_yes (verdict cap net)) live said → Tells (tree_telling cap said.text names net) said.outcome
+    by_width true over is = as_outcome Wide (ap (λ (s : Said). s.outcome) is) (above most_observed (observed net) over)
+    by_width false over is = by_judged (below most_observed (observed net) over) (judged no_text cap names net after_yes live said of capped is)

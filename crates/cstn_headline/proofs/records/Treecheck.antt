@@ -1,22 +1,42 @@
 -- What is proved of `treecheck`.
-use Rattle.std.proofs.Common.{ℕ, List, []}
-use Rattle.std.specs.Prelude.{get_or}
-use Rattle.cstn_request.specs.Requests.{Asked, treecheck}
+use Rattle.std.proofs.Common.{◌≤◌, ◌<◌, ◌≡◌, ℕ, List, length, refl, ap, inl, inr}
+use Rattle.std.specs.Prelude.{◌⊎◌, Option, None, Some}
+use Rattle.cstn_net.specs.Networks.{Network}
+use Rattle.cstn_reply.specs.Texts.{Said}
+use Rattle.cstn_top.specs.Plans.{IsOutput}
 use Rattle.cstn_top.specs.Answers.{by_text}
-use Rattle.cstn_top.specs.commands.Treecheck.{tree_checked}
-use Rattle.cstn_tree.specs.Texts.{told as told_tree}
-use Rattle.cstn_headline.proofs.Proved.{IsProved, no_evidence}
-use Rattle.cstn_headline.proofs.SomeOutput.{text_some, lines_some, plain_some}
+use Rattle.cstn_top.specs.commands.Treecheck.{tree_checked, checked_lines}
+use Rattle.cstn_text.specs.Limits.{most_text}
+use Rattle.cstn_top.proofs.Documents.{IsOfDocument}
+use Rattle.cstn_tree.specs.Good.{first_broken}
+use Rattle.cstn_tree.specs.Read.{the_tree}
+use Rattle.cstn_tree.specs.Checked.{told_of_line}
+use Rattle.cstn_tree.proofs.Strategies.{good_is_strategy}
+use Rattle.cstn_tree.specs.Texts.{Told as ToldTree, tells as tells_tree, wrong as wrong_tree, told as told_tree}
+use Rattle.cstn_reply.specs.declared.output.Outcome.TheVariants.{Good, Bad, Script}
+use Rattle.cstn_headline.specs.Telling.{Tells}
+use Rattle.cstn_headline.specs.commands.Treecheck.{IsGoodTree, IsBrokenTree, IsNoTree, treecheck_telling}
+use Rattle.cstn_headline.proofs.Telling.{check_told, text_said}
 
-pub treecheck_proved : (asked : Asked) (proof : List ℕ) → IsProved (treecheck asked proof)
-treecheck_proved asked proof = record {
-  complete = λ contents live said output. tt;
-  evidence = λ yes_text no_text contents live said capped output. no_evidence (treecheck asked proof) contents said.text tt tt said.outcome;
-  least = λ contents. tt;
-  ended = λ told old new contents live said all wrote output. tt;
-  carried_out = λ told old new contents ended. tt;
-  unfinished = λ told old new contents ended. tt;
-  some = λ laws contents live ranged held.
-      plain_some laws.made (by_text tree_checked (get_or contents 1 [])) (get_or contents 0 []) asked.deadline live held
-      (λ names net of. text_some tree_checked (get_or contents 1 []) names net live (lines_some (told_tree names (get_or contents 1 [])) net live));
-}
+long_off : (text : List ℕ) (told : ToldTree) → most_text < length text → IsNoTree text told
+long_off text (tells_tree lines) long = long
+long_off text (wrong_tree at) long = tt
+
+pub treecheck_tells : (text live : List ℕ) (said : Said) (names : List (List ℕ)) (net : Network) → IsOfDocument names net → IsOutput (by_text tree_checked text names net) live said → Tells (treecheck_telling text names net) said.outcome
+treecheck_tells text live said names net of output = check_told _ _ _ said.outcome (by_said (text_said tree_checked text names net live said output))
+  where
+    Cases : ToldTree → Type 0
+    Cases told = ((said.outcome ≡ Good) × ((length text ≤ most_text) × IsGoodTree told net))
+        ⊎ (((said.outcome ≡ Bad) × ((length text ≤ most_text) × IsBrokenTree told net)) ⊎ ((said.outcome ≡ Script) × IsNoTree text told))
+
+    by_told : (told : ToldTree) → length text ≤ most_text → IsOutput (checked_lines told net) live said → Cases told
+    by_told (tells_tree lines) short is = by_line (first_broken net (the_tree lines)) refl is
+      where
+        by_line : (o : Option ℕ) → first_broken net (the_tree lines) ≡ o → said ≡ told_of_line o → Cases (tells_tree lines)
+        by_line None whole same = inl (ap (λ (s : Said). s.outcome) same, (short, (whole, good_is_strategy net (the_tree lines) of.good.network whole)))
+        by_line (Some line) breaks same = inr (inl (ap (λ (s : Said). s.outcome) same, (short, (line, breaks))))
+    by_told (wrong_tree at) short is = inr (inr (ap (λ (s : Said). s.outcome) is, tt))
+
+    by_said : ((said.outcome ≡ Script) × (most_text < length text)) ⊎ ((length text ≤ most_text) × IsOutput (tree_checked text names net) live said) → Cases (told_tree names text)
+    by_said (inl long) = inr (inr (long.0, long_off text (told_tree names text) long.1))
+    by_said (inr is) = by_told (told_tree names text) is.0 is.1

@@ -1,20 +1,14 @@
 -- `drill NUMBER`: 64 small networks with the counts of their verdicts, and a large network.
-use Rattle.std.specs.Prelude.{◌≡◌, ℕ, zero, suc, ◌+◌, ◌-◌, ◌%◌, ◌^◌, Bool, not, if◌then◌else◌, List, [], ◌++◌, codes, decimal}
+use Rattle.std.specs.Prelude.{ℕ, zero, suc, ◌+◌, ◌-◌, ◌%◌, ◌^◌, Bool, not, if◌then◌else◌, List, ◌++◌, codes, decimal}
 use Rattle.cstn_net.specs.Networks.{Network}
-use Rattle.cstn_net.specs.Strategies.{IsConsistent}
 use Rattle.cstn_check.specs.Growth.{is_refuted, log_of}
 use Rattle.cstn_check.specs.declared.verdicts.Verdict.{Verdict}
 use Rattle.cstn_check.specs.declared.verdicts.Verdict.TheVariants.{Yes, No, Full}
 use Rattle.cstn_gen.specs.Generated.{generated}
-use Rattle.cstn_reply.specs.Texts.{line}
+use Rattle.cstn_reply.specs.Texts.{line, Said}
 use Rattle.cstn_top.specs.declared.commands.drill.Counts.{Counts}
 use Rattle.cstn_check.specs.Decisions.{verdict}
-use Rattle.cstn_reply.specs.Texts.{Said}
 use Rattle.cstn_reply.specs.declared.output.Outcome.TheVariants.{Good}
-use Rattle.cstn_reply.specs.declared.status.Status.TheVariants.{Good as IsGood}
-use Rattle.cstn_request.specs.Files.{AreThere}
-use Rattle.cstn_top.specs.Plans.{says}
-use Rattle.cstn_top.specs.Command.{Command, a_text, Nothing, no_lines}
 
 -- the small network of a drill that is i after its number, where 0 comes after 2 ^ 64 - 1
 unfoldable pub small : ℕ → ℕ → Network
@@ -56,32 +50,7 @@ large_cap = 16384
 abbrev pub large_line : Verdict → List ℕ
 large_line v = line (codes "large 48 " ++ verdict_text large_cap v)
 
--- `AreConsistent number n k`: of the first n small networks from the number on, k are consistent.
-pub data AreConsistent (number : ℕ) : ℕ → ℕ → Type 0 where
-  none : AreConsistent number 0 0
-  one_more : (n k : ℕ) → AreConsistent number n k → IsConsistent (small number n) → AreConsistent number (suc n) (k + 1)
-  no_more : (n k : ℕ) → AreConsistent number n k → (IsConsistent (small number n) → ⊥) → AreConsistent number (suc n) k
-
 -- what the drill of a number says: the counts of 64 small networks, and the verdict on the large one
 abbrev pub drilled : ℕ → Said
 drilled number =
     record { outcome = Good; text = small_line (counts_of number 64) ++ large_line (verdict large_cap (large number)) }
-
-abbrev pub drill_command : ℕ → Command
-drill_command number = record {
-  plan = λ contents. says (drilled number);
-  kind = a_text;
-  -- as many small networks are consistent as are counted
-  good = λ live contents. AreConsistent number 64 (unrefuted number 64);
-  bad = λ live contents. ⊥;
-  full = λ live contents. ⊥;
-  wide = λ contents. ⊥;
-  complete = λ status contents. status ≡ IsGood;
-  good_text = λ text contents. Nothing;
-  bad_text = λ text contents. Nothing;
-  -- no file is read
-  refused = λ told contents. AreThere told [];
-  lines = no_lines;
-  ranged = Nothing;
-  held = λ contents. Nothing;
-}

@@ -1,19 +1,12 @@
 -- `host [--deadline N] [--cap CAP] FILE ..`: plans of several networks, carried out at once.
-use Rattle.std.specs.Prelude.{◌⊎◌, ◌≤◌, ◌<◌, ℕ, suc, List, [], ◌∷◌, ◌++◌, map, take, get_or, Option}
-use Rattle.std.specs.List.{All}
-use Rattle.cstn_net.specs.Limits.{most_load}
+use Rattle.std.specs.Prelude.{◌⊎◌, ℕ, List, [], ◌∷◌, ◌++◌, map, Option}
 use Rattle.cstn_net.specs.Networks.{Network}
-use Rattle.cstn_graphml.specs.Answers.{CanBeHeld}
-use Rattle.cstn_check.specs.Growth.{load_of}
-use Rattle.cstn_check.specs.Decisions.{verdict, IsYes, IsNo}
-use Rattle.cstn_run.specs.hosted.Sessions.{begun, host_turn, host_wants, host_ending}
+use Rattle.cstn_check.specs.Decisions.{verdict, IsYes}
+use Rattle.cstn_run.specs.hosted.Sessions.{begun, host_turn, host_ending}
 use Rattle.cstn_run.specs.hosted.Files.{Named, the_file, yes_lines}
-use Rattle.cstn_request.specs.Files.{AreThere}
 use Rattle.cstn_request.specs.Documents.{HasNetwork, IsRefused}
 use Rattle.cstn_top.specs.Plans.{Plan, session}
 use Rattle.cstn_top.specs.Answers.{on_document, on_verdict}
-use Rattle.cstn_top.specs.Accepted.{IsNoText}
-use Rattle.cstn_top.specs.Command.{Command, a_host, Nothing}
 
 -- what is said of files with these contents, whose documents are read one after another: the refusal of the first document that
 -- is refused, or `answer` of all networks
@@ -47,31 +40,7 @@ FirstHas [] deadline cap holds = ⊥
 FirstHas (bytes ∷ rest) deadline cap holds =
     HasNetwork bytes deadline holds ⊎ (HasNetwork bytes deadline (λ names net. IsYes cap net) × FirstHas rest deadline cap holds)
 
-abbrev pub host_command : List (List ℕ) → Option ℕ → ℕ → Command
-host_command files deadline cap = record {
-  plan = λ contents. hosted_plan cap deadline contents;
-  kind = a_host;
-  -- each network has a strategy; or the first of which the verdict isn't yes has none, or its log has more than `cap` entries
-  good = λ live contents. EachHas contents deadline (IsYes cap);
-  bad = λ live contents. FirstHas contents deadline cap (λ names net. IsNo cap net);
-  full = λ live contents. FirstHas contents deadline cap (λ names net. cap < load_of net);
-  wide = λ contents. ⊥;
-  complete = λ status contents. Nothing;
-  good_text = λ text contents. Nothing;
-  bad_text = λ text contents. FirstHas contents deadline cap (λ names net. IsNoText names net text);
-  -- the document of one file is refused, and each file up to that one is there
-  refused = λ told contents. (place : ℕ) × IsRefused (get_or contents place []) deadline × AreThere told (take (suc place) files);
-  lines = record {
-    -- where each network has a strategy
-    reads = λ contents. EachHas contents deadline (IsYes cap);
-    -- where an id is opened
-    wants = λ contents. EachHas contents deadline (IsYes cap);
-    wants_at = host_wants;
-    least = λ contents. Nothing;
-    carried_out = λ live old new contents. Nothing;
-    unfinished = λ live old new contents. Nothing;
-    ended = λ status live old new contents. Nothing;
-  };
-  ranged = cap ≤ most_load;
-  held = λ contents. All (λ bytes. CanBeHeld bytes deadline) contents;
-}
+-- the document of one file is refused, and those of the files before it have networks
+abbrev pub FirstRefused : List (List ℕ) → Option ℕ → Type 0
+FirstRefused [] deadline = ⊥
+FirstRefused (bytes ∷ rest) deadline = IsRefused bytes deadline ⊎ (HasNetwork bytes deadline (λ names net. Unit {0}) × FirstRefused rest deadline)

@@ -1,8 +1,19 @@
 // What is answered to a question. Nothing is read here.
-ghost use Rattle.std.specs.Prelude.{IfOk};
-ghost use Rattle.cstn_top.specs.Plans.{ComesTo};
+ghost use Rattle.std.specs.Prelude.{ℕ, ◌≡◌, ◌≤◌, ◌<◌, ◌^◌, List, length, IfOk};
+ghost use Rattle.std.specs.List.{All};
+ghost use Rattle.cstn_net.specs.Networks.{Constraint};
+ghost use Rattle.cstn_net.specs.Read.{the_network};
+ghost use Rattle.cstn_text.specs.Limits.{most_text};
+ghost use Rattle.cstn_lift.specs.Read.{the_labelled};
+ghost use Rattle.cstn_request.specs.Requests.{network_labels};
+ghost use Rattle.cstn_request.specs.Opened.{AreNamesOf};
+ghost use Rattle.cstn_reply.specs.Read.{the_said};
+ghost use Rattle.cstn_top.specs.Plans.{says, IsOutput, ComesTo};
+ghost use Rattle.cstn_top.specs.Answers.{by_text};
+ghost use Rattle.cstn_top.specs.Dispatch.{network_answer, network_kind, labelled_answer, labelled_kind, text_answer, document_answer};
+ghost use Rattle.cstn_top.specs.Begun.{IsSound};
 ghost use Rattle.cstn_top.specs.Prepared.{the_plan, FitsKind};
-ghost use Rattle.cstn_top.specs.Questions.{the_question, IsSoundQuestion, kind_of};
+ghost use Rattle.cstn_top.specs.Questions.{the_question, HasSmallIds, IsSoundQuestion, kind_of};
 
 use super::Prepared;
 use super::closed::closed_text;
@@ -17,7 +28,12 @@ use cstn_check::check_text;
 use cstn_closed::closedcheck_text;
 use cstn_conflict::conflict_text;
 use cstn_edit::Editing;
+use cstn_log::Cap;
 use cstn_replay::replay_text;
+use cstn_reply::Said;
+use cstn_request::{
+    DocumentVerb, LabelledVerb, NamedLabelled, NamedNetwork, NetworkVerb, TextVerb,
+};
 use cstn_tight::tight_text;
 use cstn_tree::{tree_text, treecheck_text};
 use std::alloc::{AllocError, Global};
@@ -29,50 +45,26 @@ pub(crate) fn answer(alloc: Global, question: Question) -> Result<Prepared, Allo
     ensures fits { IfOk result (FitsKind (kind_of question)) }
 {
     match question {
-        Question::Check { document, cap } => {
-            let said = check_text(alloc, document.network, &document.names, cap)?;
+        Question::OfNetwork {
+            verb,
+            document,
+            cap,
+        } => answer_network(alloc, verb, document, cap),
+        Question::OfLabelled {
+            verb,
+            document,
+            cap,
+        } => answer_labelled(alloc, verb, document, cap),
+        Question::OfText {
+            verb,
+            document,
+            text,
+        } => {
+            let said = check_against(alloc, verb, &document, &text)?;
             Ok(Prepared::Says(said))
         }
-        Question::Closed { document, cap } => {
-            let said = closed_text(alloc, document.network, &document.names, cap)?;
-            Ok(Prepared::Says(said))
-        }
-        Question::Tight { document, cap } => {
-            let said = tight_text(alloc, document.network, &document.names, cap)?;
-            Ok(Prepared::Says(said))
-        }
-        Question::Conflict { document, cap } => {
-            let said = conflict_text(alloc, document.network, &document.names, cap)?;
-            Ok(Prepared::Says(said))
-        }
-        Question::Tree { document, cap } => {
-            let said = tree_text(alloc, document.network, &document.names, cap)?;
-            Ok(Prepared::Says(said))
-        }
-        Question::Edit { document, cap } => {
-            let session = Editing::start(alloc, document.network, document.names, cap)?;
-            Ok(Prepared::Edits(session))
-        }
-        Question::Follow { document, cap } => {
-            follow_session(alloc, document.labelled, document.names, cap)
-        }
-        Question::Run { document, cap } => {
-            run_session(alloc, document.labelled, &document.names, cap)
-        }
-        Question::Save(document) => {
-            let said = save_text(alloc, &document.labelled, &document.names)?;
-            Ok(Prepared::Says(said))
-        }
-        Question::Replay { document, text } => {
-            let said = replay_text(alloc, &document.network, &document.names, &text)?;
-            Ok(Prepared::Says(said))
-        }
-        Question::Closedcheck { document, text } => {
-            let said = closedcheck_text(alloc, &document.network, &document.names, &text)?;
-            Ok(Prepared::Says(said))
-        }
-        Question::Treecheck { document, text } => {
-            let said = treecheck_text(alloc, &document.network, &document.names, &text)?;
+        Question::OfDocument { verb, document } => {
+            let said = document_text(alloc, verb, &document)?;
             Ok(Prepared::Says(said))
         }
         Question::Drill(number) => {
@@ -84,5 +76,96 @@ pub(crate) fn answer(alloc: Global, question: Question) -> Result<Prepared, Allo
             let said = version_text(alloc, release)?;
             Ok(Prepared::Says(said))
         }
+    }
+}
+
+// What is said of a network: a text, or the answers to edit lines.
+fn answer_network(
+    alloc: Global,
+    verb: NetworkVerb,
+    document: NamedNetwork,
+    cap: Cap,
+) -> Result<Prepared, AllocError>
+    requires sound { IsSound document }
+    requires small { HasSmallIds (network_labels verb) document }
+    ensures comes { IfOk result (λ prepared. ComesTo (network_answer verb cap.entries document.names (the_network document.network)) (the_plan prepared)) }
+    ensures fits { IfOk result (FitsKind (network_kind verb)) }
+{
+    match verb {
+        NetworkVerb::Check => {
+            let said = check_text(alloc, document.network, &document.names, cap)?;
+            Ok(Prepared::Says(said))
+        }
+        NetworkVerb::Closed => {
+            let said = closed_text(alloc, document.network, &document.names, cap)?;
+            Ok(Prepared::Says(said))
+        }
+        NetworkVerb::Tight => {
+            let said = tight_text(alloc, document.network, &document.names, cap)?;
+            Ok(Prepared::Says(said))
+        }
+        NetworkVerb::Conflict => {
+            let said = conflict_text(alloc, document.network, &document.names, cap)?;
+            Ok(Prepared::Says(said))
+        }
+        NetworkVerb::Tree => {
+            let said = tree_text(alloc, document.network, &document.names, cap)?;
+            Ok(Prepared::Says(said))
+        }
+        NetworkVerb::Edit => {
+            let session = Editing::start(alloc, document.network, document.names, cap)?;
+            Ok(Prepared::Edits(session))
+        }
+    }
+}
+
+// What is said of a labelled network: the answers to the lines of a session.
+fn answer_labelled(
+    alloc: Global,
+    verb: LabelledVerb,
+    document: NamedLabelled,
+    cap: Cap,
+) -> Result<Prepared, AllocError>
+    requires names { AreNamesOf document.names (the_network document.labelled.base) }
+    requires ids { All (λ (c : Constraint). c.id < 2 ^ 31) (the_labelled document.labelled).base.constraints }
+    ensures comes { IfOk result (λ prepared. ComesTo (labelled_answer verb cap.entries document.names (the_labelled document.labelled)) (the_plan prepared)) }
+    ensures fits { IfOk result (FitsKind (labelled_kind verb)) }
+{
+    match verb {
+        LabelledVerb::Follow => { follow_session(alloc, document.labelled, document.names, cap) }
+        LabelledVerb::Run => run_session(alloc, document.labelled, &document.names, cap),
+    }
+}
+
+// What is said of a network by a text.
+fn check_against(
+    alloc: Global,
+    verb: TextVerb,
+    document: &NamedNetwork,
+    text: &[u8],
+) -> Result<Said, AllocError>
+    requires sound { IsSound document.now }
+    requires short { length text.now ≤ most_text }
+    ensures said { IfOk result (λ said. (live : List ℕ)
+        → IsOutput (by_text (text_answer verb) text.now document.now.names (the_network document.now.network)) live (the_said said)) }
+{
+    match verb {
+        TextVerb::Replay => replay_text(alloc, &document.network, &document.names, text),
+        TextVerb::Closedcheck => closedcheck_text(alloc, &document.network, &document.names, text),
+        TextVerb::Treecheck => treecheck_text(alloc, &document.network, &document.names, text),
+    }
+}
+
+// What is said of a document alone.
+fn document_text(
+    alloc: Global,
+    verb: DocumentVerb,
+    document: &NamedLabelled,
+) -> Result<Said, AllocError>
+    requires names { AreNamesOf document.now.names (the_network document.now.labelled.base) }
+    ensures said { IfOk result (λ said. says (the_said said) ≡ document_answer verb document.now.names (the_labelled document.now.labelled)) }
+{
+    match verb {
+        DocumentVerb::Save => save_text(alloc, &document.labelled, &document.names),
     }
 }

@@ -9,7 +9,7 @@ ghost use Rattle.cstn_reply.specs.Texts.{line};
 ghost use Rattle.cstn_reply.specs.Written.{EndsLine};
 ghost use Rattle.cstn_top.specs.Plans.{ComesTo};
 ghost use Rattle.cstn_top.specs.Prepared.{the_plan, FitsKind};
-ghost use Rattle.cstn_top.specs.Command.{a_follow};
+ghost use Rattle.cstn_top.specs.Kinds.{a_follow};
 ghost use Rattle.cstn_top.specs.commands.Follow.{heard_text, follow_turn, followed};
 
 use super::Prepared;

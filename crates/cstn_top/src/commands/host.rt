@@ -13,7 +13,7 @@ ghost use Rattle.cstn_top.specs.Begun.{the_named, IsSound, IsBegin};
 ghost use Rattle.cstn_top.specs.commands.Host.{attended};
 ghost use Rattle.cstn_top.specs.Plans.{ComesTo};
 ghost use Rattle.cstn_top.specs.Prepared.{the_plan, FitsKind};
-ghost use Rattle.cstn_top.specs.Command.{a_host};
+ghost use Rattle.cstn_top.specs.Kinds.{a_host};
 
 use super::Prepared;
 use cstn_check::{Judged, judge, yes_line};

@@ -5,14 +5,15 @@ ghost use Rattle.cstn_io.specs.Causes.{Rose};
 ghost use Rattle.cstn_reply.specs.declared.output.Said.{Said as SaidText};
 ghost use Rattle.cstn_request.specs.Requests.{files_of};
 ghost use Rattle.cstn_request.specs.Read.{the_request};
-ghost use Rattle.cstn_top.specs.Questions.{Asks, TellsInstead, IsSoundQuestion, kind_of, kind_at};
+ghost use Rattle.cstn_top.specs.Questions.{Asks, TellsInstead, IsSoundQuestion, kind_of};
+ghost use Rattle.cstn_top.specs.Dispatch.{kind_at};
 
 use super::several::open_all;
 use cstn_io::Shelf;
 use cstn_log::Cap;
 use cstn_request::{
-    NamedLabelled, NamedNetwork, Release, Request, Unread, open, open_labelled, open_lowered,
-    read_text,
+    DocumentVerb, LabelledVerb, NamedLabelled, NamedNetwork, NetworkVerb, Release, Request,
+    TextVerb, Unread, open_labelled, open_network, read_text,
 };
 use std::alloc::Global;
 
@@ -20,50 +21,24 @@ use std::alloc::Global;
 /// a labelled network is lowered to.
 #[derive(Drop)]
 pub(crate) enum Question {
-    Check {
+    OfNetwork {
+        verb: NetworkVerb,
         document: NamedNetwork,
         cap: Cap,
     },
-    Closed {
-        document: NamedNetwork,
-        cap: Cap,
-    },
-    Tight {
-        document: NamedNetwork,
-        cap: Cap,
-    },
-    Conflict {
-        document: NamedNetwork,
-        cap: Cap,
-    },
-    Tree {
-        document: NamedNetwork,
-        cap: Cap,
-    },
-    Edit {
-        document: NamedNetwork,
-        cap: Cap,
-    },
-    Follow {
+    OfLabelled {
+        verb: LabelledVerb,
         document: NamedLabelled,
         cap: Cap,
     },
-    Run {
+    OfText {
+        verb: TextVerb,
+        document: NamedNetwork,
+        text: Vec<u8>,
+    },
+    OfDocument {
+        verb: DocumentVerb,
         document: NamedLabelled,
-        cap: Cap,
-    },
-    Save(NamedLabelled),
-    Replay {
-        document: NamedNetwork,
-        text: Vec<u8>,
-    },
-    Closedcheck {
-        document: NamedNetwork,
-        text: Vec<u8>,
-    },
-    Treecheck {
-        document: NamedNetwork,
-        text: Vec<u8>,
     },
     Drill(u64),
     Host {
@@ -92,56 +67,34 @@ pub(crate) fn ask<F: Shelf>(
     ensures later { F.faults shelf.old ≤ F.faults shelf.new }
 {
     match request {
-        Request::Check { asked, cap } => {
-            let document = open_lowered(alloc, asked, shelf)?;
-            Ok(Question::Check { document, cap })
+        Request::OfNetwork { verb, asked, cap } => {
+            let document = open_network(alloc, asked, verb.takes_labels(), shelf)?;
+            Ok(Question::OfNetwork {
+                verb,
+                document,
+                cap,
+            })
         }
-        Request::Closed { asked, cap } => {
-            let document = open_lowered(alloc, asked, shelf)?;
-            Ok(Question::Closed { document, cap })
-        }
-        Request::Tight { asked, cap } => {
-            let document = open_lowered(alloc, asked, shelf)?;
-            Ok(Question::Tight { document, cap })
-        }
-        Request::Conflict { asked, cap } => {
-            let document = open(alloc, asked, shelf)?;
-            Ok(Question::Conflict { document, cap })
-        }
-        Request::Tree { asked, cap } => {
-            let document = open(alloc, asked, shelf)?;
-            Ok(Question::Tree { document, cap })
-        }
-        Request::Edit { asked, cap } => {
-            let document = open(alloc, asked, shelf)?;
-            Ok(Question::Edit { document, cap })
-        }
-        Request::Follow { asked, cap } => {
+        Request::OfLabelled { verb, asked, cap } => {
             let document = open_labelled(alloc, asked, shelf)?;
-            Ok(Question::Follow { document, cap })
+            Ok(Question::OfLabelled {
+                verb,
+                document,
+                cap,
+            })
         }
-        Request::Run { asked, cap } => {
+        Request::OfText { verb, asked, proof } => {
+            let document = open_network(alloc, asked, verb.takes_labels(), shelf)?;
+            let text = read_text(alloc, proof, shelf)?;
+            Ok(Question::OfText {
+                verb,
+                document,
+                text,
+            })
+        }
+        Request::OfDocument { verb, asked } => {
             let document = open_labelled(alloc, asked, shelf)?;
-            Ok(Question::Run { document, cap })
-        }
-        Request::Save(asked) => {
-            let document = open_labelled(alloc, asked, shelf)?;
-            Ok(Question::Save(document))
-        }
-        Request::Replay { asked, proof } => {
-            let document = open_lowered(alloc, asked, shelf)?;
-            let text = read_text(alloc, proof, shelf)?;
-            Ok(Question::Replay { document, text })
-        }
-        Request::Closedcheck { asked, proof } => {
-            let document = open_lowered(alloc, asked, shelf)?;
-            let text = read_text(alloc, proof, shelf)?;
-            Ok(Question::Closedcheck { document, text })
-        }
-        Request::Treecheck { asked, proof } => {
-            let document = open(alloc, asked, shelf)?;
-            let text = read_text(alloc, proof, shelf)?;
-            Ok(Question::Treecheck { document, text })
+            Ok(Question::OfDocument { verb, document })
         }
         Request::Drill(number) => Ok(Question::Drill(number)),
         Request::Host {

@@ -10,7 +10,7 @@ ghost use Rattle.cstn_check.specs.Growth.{load_of};
 ghost use Rattle.cstn_check.specs.declared.verdicts.Verdict.TheVariants.{Yes};
 ghost use Rattle.cstn_top.specs.Plans.{ComesTo};
 ghost use Rattle.cstn_top.specs.Prepared.{the_plan, FitsKind};
-ghost use Rattle.cstn_top.specs.Command.{a_run};
+ghost use Rattle.cstn_top.specs.Kinds.{a_run};
 ghost use Rattle.cstn_top.specs.commands.Run.{carried_out};
 
 use super::Prepared;

@@ -1,7 +1,6 @@
 use Rattle.cstn_headline.proofs.OneOutput.{OneJudgement, one_output}
 use Rattle.cstn_headline.proofs.SomeOutput.{TreesMade}
-use Rattle.cstn_headline.proofs.Proved.{Laws}
-use Rattle.cstn_headline.proofs.Dispatch.{proved}
+use Rattle.cstn_headline.proofs.Dispatch.{Laws, some}
 use Rattle.cstn_headline.proofs.laws.outputs_are_one.Goals as goal
 
 pub returns : goal.returns
@@ -13,5 +12,5 @@ returns c =
     let laws : Laws = record { made = answer.made; trees = made; steps = c.texts_are_read_back.ensures.ranges; bounds = c.closed_texts_are_read_back.ensures.ranges } in
     record {
       one = one_output judgement c.closed_lists_are_accepted.ensures.one c.networks_have_one_tree.ensures.one;
-      some = λ request contents live ranged held. (proved request).some laws contents live ranged held;
+      some = some laws;
     }

@@ -1,7 +1,7 @@
 use Rattle.std.proofs.Common.{inr}
 use Rattle.cstn_request.specs.Read.{the_request}
 use Rattle.cstn_top.specs.Prepared.{the_plan}
-use Rattle.cstn_top.specs.Questions.{kind_at}
+use Rattle.cstn_top.specs.Dispatch.{kind_at}
 use Rattle.cstn_top.specs.Told.{view}
 use Rattle.cstn_top.proofs.Endings.{words_end, fault_end, memory_end, spoken, there_is, refused_is, reads_live, live_is, memory_is, words_is, lined}
 use Rattle.cstn_top.proofs.Calls.{ranged_as}

@@ -1,0 +1,49 @@
+-- What the outcomes of requests tell.
+use Rattle.std.specs.Prelude.{◌≡◌, ◌⊎◌, ℕ, List, Option}
+use Rattle.cstn_net.specs.Networks.{Network}
+use Rattle.cstn_lift.specs.Labelled.{Labelled}
+use Rattle.cstn_reply.specs.declared.output.Outcome.{Outcome}
+use Rattle.cstn_reply.specs.declared.output.Outcome.TheVariants.{Good, Bad, Words, Document, Full, Unfinished, Script, Wide}
+use Rattle.cstn_request.specs.Documents.{HasLabelled, HasNetwork, IsNoDocument, IsRefused}
+
+-- What each outcome tells. Document is told of the files alone, and Words comes of no request.
+pub record Telling : Type 1 where
+  pub good : Type 0
+  pub bad : Type 0
+  pub full : Type 0
+  pub unfinished : Type 0
+  pub script : Type 0
+  pub wide : Type 0
+
+-- what this outcome tells; there is no other
+abbrev pub Tells : Telling → Outcome → Type 0
+Tells telling Good = telling.good
+Tells telling Bad = telling.bad
+Tells telling Words = ⊥
+Tells telling Document = ⊥
+Tells telling Full = telling.full
+Tells telling Unfinished = telling.unfinished
+Tells telling Script = telling.script
+Tells telling Wide = telling.wide
+
+-- a verdict: yes, no, or that a log is too long
+abbrev pub by_verdict : Type 0 → Type 0 → Type 0 → Telling
+by_verdict yes no full = record { good = yes; bad = no; full = full; unfinished = ⊥; script = ⊥; wide = ⊥ }
+
+-- a check of a text: it is right, it is wrong, or it is none of its grammar
+abbrev pub by_check : Type 0 → Type 0 → Type 0 → Telling
+by_check right wrong off = record { good = right; bad = wrong; full = ⊥; unfinished = ⊥; script = off; wide = ⊥ }
+
+-- one answer alone
+abbrev pub only : Type 0 → Telling
+only holds = record { good = holds; bad = ⊥; full = ⊥; unfinished = ⊥; script = ⊥; wide = ⊥ }
+
+-- the bytes are no document, or this is told of its labelled network under the names of its time-points
+abbrev pub OfLabelled : List ℕ → Option ℕ → Outcome → (List (List ℕ) → Labelled → Telling) → Type 0
+OfLabelled bytes deadline outcome telling =
+    ((outcome ≡ Document) × IsNoDocument bytes deadline) ⊎ HasLabelled bytes deadline (λ names m. Tells (telling names m) outcome)
+
+-- the document is refused, or this is told of its network, no time-point of which has a label
+abbrev pub OfNetwork : List ℕ → Option ℕ → Outcome → (List (List ℕ) → Network → Telling) → Type 0
+OfNetwork bytes deadline outcome telling =
+    ((outcome ≡ Document) × IsRefused bytes deadline) ⊎ HasNetwork bytes deadline (λ names net. Tells (telling names net) outcome)
