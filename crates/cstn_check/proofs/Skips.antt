@@ -4,23 +4,15 @@ use Rattle.std.specs.List.{filter}
 use Rattle.std.proofs.lemmas.Bool.{cases_Bool, cases_lt, cond-true, cond-false}
 use Rattle.cstn_net.specs.Networks.{Network}
 use Rattle.cstn_rules.specs.Derivations.{Entry as TheEntry}
-use Rattle.cstn_check.specs.Growth.{Instance, is_refuted, premises_live, conclusion, step, tried, waits_below}
+use Rattle.cstn_check.specs.Growth.{Instance, step, tried, waits_below}
 use Rattle.cstn_check.specs.Growth.Instance.{wait_at}
 use Rattle.cstn_check.proofs.Lists.{Extends, extends_itself, extends_through}
 use Rattle.cstn_check.proofs.Grows.{Each, step_extends}
-use Rattle.cstn_check.proofs.TurnLemmas.{with_dead}
 use Rattle.cstn_check.proofs.Sequences.{tried_append}
 
 -- the instance changes nothing
 abbrev pub IsIdle : Network → List TheEntry → Instance → Type 0
 IsIdle net L i = step net L i ≡ L
-
-pub step_dead : (net : Network) (L : List TheEntry) (i : Instance) → premises_live L i ≡ false → IsIdle net L i
-unfolding step
-step_dead net L i dead = elim (cases_Bool (is_refuted net L)) [
-  | inl over ↦ cond-true _ _ _ over
-  | inr on ↦ cond-false _ _ _ on ∙ with_dead L i (conclusion net L i) dead
-]
 
 -- instances that are idle in every list which goes on from this one may be left out
 pub tried_without : (net : Network) (keep : Instance → Bool) (is : List Instance) (L : List TheEntry) →

@@ -76,13 +76,9 @@ impl Agenda {
         ensures none { (k : ℕ) → has_place self.new k ≡ false }
         ensures size { length self.new ≡ length self.old }
     {
-        if let None = self.used.first() {
-            return;
+        while let Some(row) = self.used.take_first() {
+            self.blocks[row as usize] = Block::empty();
         }
-        for row in 0..self.blocks.len() {
-            self.blocks[row] = Block::empty();
-        }
-        self.used = Block::empty();
     }
 }
 

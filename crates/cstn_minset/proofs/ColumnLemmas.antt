@@ -1,8 +1,8 @@
 -- Records with the marks of their labels side by side.
-use Rattle.std.proofs.Common.{ℕ, zero, suc, ◌≡◌, ◌≢◌, inl, inr, ◌-◌, ◌<◌, ◌≤◌, Bool, true, false, ◌&&◌, not, ltb, bit_and, List, [], ◌∷◌, ◌++◌, length, get_or, set, take, refl, sym, ap, subst, arith, ◌∙◌, length-append}
+use Rattle.std.proofs.Common.{ℕ, zero, suc, ◌≡◌, ◌≢◌, inl, inr, ◌-◌, ◌<◌, ◌≤◌, true, ltb, List, [], ◌∷◌, ◌++◌, length, get_or, set, take, refl, sym, ap, subst, arith, ◌∙◌, length-append}
 use Rattle.std.specs.Prelude.{Option, None, Some, slice_get, ◌↔◌}
 use Rattle.std.specs.List.{swap_remove}
-use Rattle.std.proofs.lemmas.Bool.{cases_eq, cases_lt, false≢true, not-true, ltb-true, lt-ltb}
+use Rattle.std.proofs.lemmas.Bool.{cases_eq, cases_lt, false≢true, ltb-true, lt-ltb}
 use Rattle.std.proofs.lemmas.List.{length-take, length-set}
 use Rattle.std.proofs.lemmas.Option.{none-some, same_Some, slice_get_past, slice_get_within, slice_get-get_or}
 use Rattle.cstn_label.specs.declared.marks.Mark.{Mark}
@@ -14,7 +14,6 @@ use Rattle.cstn_label.specs.Words.{has_bit}
 use Rattle.cstn_label.specs.Read.{marks}
 use Rattle.cstn_label.proofs.MarkLemmas.{absent_within, marked_true, true_marked}
 use Rattle.cstn_label.proofs.LabelLemmas.{within_through}
-use Rattle.cstn_label.proofs.WordLemmas.{has_bit-zero, has_bit_and}
 use Rattle.cstn_minset.specs.declared.columns.Record.{Record}
 use Rattle.cstn_minset.specs.Sheets.{Marks, mark_in, IsInside, IsOutside}
 use Rattle.cstn_minset.specs.Columns.{AreColumns, AreThose, mark_on}
@@ -144,50 +143,30 @@ columns_inside records sheet used is i p small = go (slice_get records i) refl
 
 -- ---- the words that are answered
 
-pub those_within : (records : List Record) (sheet : Marks) (used label : Label) (front out word : ℕ) → MarksEnd → AreColumns records sheet used →
-    ((i : ℕ) → has_bit front i ≡ ltb i (length records)) → ((i : ℕ) → i < 64 → (has_bit out i ≡ false ↔ IsInside sheet i (marks label))) →
-    ((i : ℕ) → has_bit word i ≡ (has_bit front i && not (has_bit out i))) → AreThose (λ r. IsWithin (marks r.label) (marks label)) records word
-those_within records sheet used label front out word end is first outside both i = (
+pub those_within : (records : List Record) (sheet : Marks) (used label : Label) (front word : ℕ) → MarksEnd → AreColumns records sheet used →
+    ((i : ℕ) → has_bit front i ≡ ltb i (length records)) → ((i : ℕ) → (has_bit word i ≡ true ↔ ((has_bit front i ≡ true) × IsInside sheet i (marks label)))) →
+    AreThose (λ r. IsWithin (marks r.label) (marks label)) records word
+those_within records sheet used label front word end is first bits i = (
   λ set.
-      let parts = split (has_bit front i) (has_bit out i) (sym (both i) ∙ set) in
-      let inside : i < length records = ltb-true i (length records) (sym (first i) ∙ parts.0) in
-      let r = got records i inside in
-      (r.0, r.1, (inside_record records sheet used label i r.0 end is r.1).0 ((outside i (omega (arith, inside, is.few))).0 parts.1)),
+      let parts = (bits i).0 set in
+      let r = got records i (ltb-true i (length records) (sym (first i) ∙ parts.0)) in
+      (r.0, r.1, (inside_record records sheet used label i r.0 end is r.1).0 parts.1),
   λ there.
       let within = slice_get_within records i there.0 there.1 in
-      let clear = (outside i (omega (arith, within, is.few))).1 ((inside_record records sheet used label i there.0 end is there.1).1 there.2) in
-      both i ∙ rw (clear, first i, lt-ltb i (length records) within) refl,
+      (bits i).1 (first i ∙ lt-ltb i (length records) within, (inside_record records sheet used label i there.0 end is there.1).1 there.2),
 )
-  where
-    split : (a b : Bool) → (a && not b) ≡ true → (a ≡ true) × (b ≡ false)
-    split true b e = (refl, not-true b e)
-    split false b e = absurd (false≢true e)
 
-pub those_above : (records : List Record) (sheet : Marks) (used label : Label) (front up : ℕ) → MarksEnd → AreColumns records sheet used →
-    ((i : ℕ) → has_bit front i ≡ ltb i (length records)) → ((i : ℕ) → i < 64 → (has_bit up i ≡ true ↔ IsOutside sheet i (marks label))) →
-    AreThose (λ r. IsWithin (marks label) (marks r.label)) records (bit_and front up)
-those_above records sheet used label front up end is first outside i = (
+pub those_above : (records : List Record) (sheet : Marks) (used label : Label) (front word : ℕ) → MarksEnd → AreColumns records sheet used →
+    ((i : ℕ) → has_bit front i ≡ ltb i (length records)) → ((i : ℕ) → (has_bit word i ≡ true ↔ ((has_bit front i ≡ true) × IsOutside sheet i (marks label)))) →
+    AreThose (λ r. IsWithin (marks label) (marks r.label)) records word
+those_above records sheet used label front word end is first bits i = (
   λ set.
-      let parts = split (has_bit front i) (has_bit up i) (sym (has_bit_and front up i) ∙ set) in
-      let inside : i < length records = ltb-true i (length records) (sym (first i) ∙ parts.0) in
-      let r = got records i inside in
-      (r.0, r.1, (outside_record records sheet used label i r.0 end is r.1).0 ((outside i (omega (arith, inside, is.few))).0 parts.1)),
+      let parts = (bits i).0 set in
+      let r = got records i (ltb-true i (length records) (sym (first i) ∙ parts.0)) in
+      (r.0, r.1, (outside_record records sheet used label i r.0 end is r.1).0 parts.1),
   λ there.
       let within = slice_get_within records i there.0 there.1 in
-      let set = (outside i (omega (arith, within, is.few))).1 ((outside_record records sheet used label i there.0 end is there.1).1 there.2) in
-      has_bit_and front up i ∙ rw (set, first i, lt-ltb i (length records) within) refl,
-)
-  where
-    split : (a b : Bool) → (a && b) ≡ true → (a ≡ true) × (b ≡ true)
-    split true b e = (refl, e)
-    split false b e = absurd (false≢true e)
-
--- a label that isn't within the one of all records is within none of theirs
-pub none_above : (records : List Record) (sheet : Marks) (used label : Label) → AreColumns records sheet used → ¬ IsWithin (marks label) (marks used) →
-    AreThose (λ r. IsWithin (marks label) (marks r.label)) records 0
-none_above records sheet used label is not i = (
-  λ set. absurd (false≢true (sym (has_bit-zero i) ∙ set)),
-  λ there. absurd (not (within_through (marks label) (marks there.0.label) (marks used) there.2 (is.within i there.0 there.1))),
+      (bits i).1 (first i ∙ lt-ltb i (length records) within, (outside_record records sheet used label i there.0 end is there.1).1 there.2),
 )
 
 pub those_marking : (records : List Record) (sheet : Marks) (used : Label) (p word : ℕ) → p < 52 → AreColumns records sheet used →

@@ -1,18 +1,20 @@
 -- The marks of labels side by side.
-use Rattle.std.proofs.Common.{ℕ, zero, ◌≡◌, inl, inr, ◌+◌, ◌<◌, ◌≤◌, Bool, true, false, not, ◌||◌, ◌&&◌, List, length, get_or, set, replicate, bit_and, bit_or, refl, sym, ap, subst, ◌∙◌, arith}
+use Rattle.std.proofs.Common.{ℕ, zero, ◌≡◌, ◌⊎◌, inl, inr, ◌+◌, ◌<◌, ◌≤◌, Bool, true, false, not, ◌||◌, ◌&&◌, List, length, get_or, set, replicate, bit_and, refl, sym, ap, subst, ◌∙◌, arith}
 use Rattle.std.specs.Prelude.{◌↔◌}
-use Rattle.std.proofs.lemmas.Bool.{cases_eq, cases_lt, cases_Bool, false≢true, false_from_ne_true, true_from_ne_false}
+use Rattle.std.proofs.lemmas.Bool.{cases_eq, cases_lt, false≢true, false_from_ne_true}
 use Rattle.std.proofs.lemmas.List.{get_or-set_same, get_or-set_other, get_or-replicate, get_or_past, length-replicate}
 use Rattle.cstn_label.specs.declared.marks.Mark.{Mark}
-use Rattle.cstn_label.specs.declared.marks.Mark.TheVariants.{Absent, Unknown}
+use Rattle.cstn_label.specs.declared.marks.Mark.TheVariants.{Absent}
 use Rattle.cstn_label.specs.Labels.{Label, IsMarkWithin, joined}
 use Rattle.cstn_label.specs.Marks.{is_marked}
-use Rattle.cstn_label.specs.Tests.{is_mark_within}
+use Rattle.cstn_label.specs.declared.labels.Label.{Label as TheLabel}
 use Rattle.cstn_label.specs.Words.{has_bit}
-use Rattle.cstn_label.specs.Read.{mark_of}
-use Rattle.cstn_label.proofs.MarkLemmas.{absent_within, absent_from_joined_left, absent_from_joined_right, mark_within_absent}
-use Rattle.cstn_label.proofs.WordLemmas.{has_bit_or, has_bit_and, has_bit-zero}
-use Rattle.cstn_minset.specs.Sheets.{Marks, mark_in, IsInside, IsOutside}
+use Rattle.cstn_label.specs.Read.{marks, mark_of}
+use Rattle.cstn_label.proofs.MarkLemmas.{absent_from_joined_left, absent_from_joined_right}
+use Rattle.cstn_label.proofs.WordLemmas.{has_bit_and, has_bit-zero}
+use Rattle.cstn_minset.specs.Literals.{AreLiterals}
+use Rattle.cstn_minset.specs.Sheets.{Marks, mark_in, IsInside, IsOutside, IsInNone, IsInAll}
+use Rattle.cstn_minset.proofs.BoundLemmas.{MarksEnd}
 
 abbrev pub sheet_of : List ℕ → List ℕ → Marks
 sheet_of ys ns = record { positive = ys; negative = ns }
@@ -31,15 +33,6 @@ module _ (ys ns : List ℕ) (p i v w : ℕ) (y_in : p < length ys) (n_in : p < l
         subst (λ (x : ℕ). mark_in (sheet_of (set ys p v) (set ns p w)) x k ≡ mark_in (sheet_of ys ns) x k) (sym same)
         (rw (get_or-set_same ys p v 0 y_in, get_or-set_same ns p w 0 n_in, keep_y k away, keep_n k away) refl)
   ]
-
-pub not_inside : (m n : Mark) → not (is_mark_within m n) ≡ true → IsMarkWithin m n → ⊥
-not_inside m n e h = grind arith
-
-pub inside_from : (m n : Mark) → not (is_mark_within m n) ≡ false → IsMarkWithin m n
-inside_from m n e = grind arith
-
-pub not_within : (m n : Mark) → is_mark_within m n ≡ false → IsMarkWithin m n → ⊥
-not_within m n e h = grind arith
 
 -- the marks of label i on the propositions below `index` are those of b, and its others those of a
 pub record IsReplacedUpto (start sheet : Marks) (a b : Label) (i index : ℕ) : Type 0 where
@@ -76,93 +69,149 @@ replaced_end start sheet a b both i index was is none p small = elim (cases_lt p
   | inr behind ↦ (let gone = both_absent a b both p is (none p behind) in was.left p small behind ∙ gone.0 ∙ sym gone.1)
 ]
 
--- on the propositions below `index`, exactly the labels without a bit are within the label
-pub record IsSiftedUpto (sheet : Marks) (label : Label) (index word : ℕ) : Type 0 where
-  pub out : (i : ℕ) → i < 64 → has_bit word i ≡ true → IsInside sheet i label → ⊥
-  pub within : (i q : ℕ) → i < 64 → q < 52 → q < index → has_bit word i ≡ false → IsMarkWithin (mark_in sheet q i) (label q)
+-- exactly the bits are left that each word of the numbers below `from` has so
+module _ (words : List ℕ) (numbers front : ℕ) (v : Bool) where
+  abbrev pub IsLeftUpto : ℕ → ℕ → Type 0
+  IsLeftUpto from left = (i : ℕ) → (has_bit left i ≡ true ↔ ((has_bit front i ≡ true) × ((p : ℕ) → p < from → has_bit numbers p ≡ true → has_bit (get_or words p 0) i ≡ v)))
 
-pub sifted_more : (sheet : Marks) (used label : Label) (index word more p : ℕ) (m : Mark) → ((i : ℕ) → IsInside sheet i used) → IsSiftedUpto sheet label index word →
-    p < 52 → index ≤ p → ((q : ℕ) → index ≤ q → q < p → used q ≡ Absent) → m ≡ label p →
-    ((i : ℕ) → i < 64 → has_bit more i ≡ not (is_mark_within (mark_in sheet p i) m)) → IsSiftedUpto sheet label (p + 1) (bit_or word more)
-sifted_more sheet used label index word more p m inside was small from none mark bits = record {
-  out = λ i i_small set within. elim (cases_Bool (has_bit word i)) [
-    | inl y ↦ was.out i i_small y within
-    | inr n ↦ not_inside (mark_in sheet p i) (label p) (sym (bit i i_small) ∙ or_right (has_bit word i) (has_bit more i) (sym (has_bit_or word more i) ∙ set) n) (within p small)
-  ];
-  within = λ i q i_small q_small below clear.
-      let none_set = or_false (has_bit word i) (has_bit more i) (sym (has_bit_or word more i) ∙ clear) in
-      elim (cases_eq q p) [
-        | inl same ↦ subst (λ (x : ℕ). IsMarkWithin (mark_in sheet x i) (label x)) (sym same) (inside_from (mark_in sheet p i) (label p) (sym (bit i i_small) ∙ none_set.1))
-        | inr other ↦ elim (cases_lt q index) [
-          | inl before ↦ was.within i q i_small q_small before none_set.0
-          | inr behind ↦ absent_within (mark_in sheet q i) (label q) (mark_within_absent (mark_in sheet q i) (used q) (inside i q q_small) (none q behind (omega (arith, below, other))))
-        ]
-      ];
-}
+  abbrev pub IsLeft : ℕ → Type 0
+  IsLeft left = (i : ℕ) → (has_bit left i ≡ true ↔ ((has_bit front i ≡ true) × ((p : ℕ) → has_bit numbers p ≡ true → has_bit (get_or words p 0) i ≡ v)))
+
+  pub left_start : IsLeftUpto 0 front
+  left_start i = (λ set. (set, λ p low in'. absurd (omega (arith, low))), λ both. both.0)
+
+  pub left_next : (from p left left' : ℕ) → from ≤ p → ((j : ℕ) → from ≤ j → j < p → has_bit numbers j ≡ false) → has_bit numbers p ≡ true → IsLeftUpto from left →
+      ((i : ℕ) → (has_bit left' i ≡ true ↔ ((has_bit left i ≡ true) × (has_bit (get_or words p 0) i ≡ v)))) → IsLeftUpto (p + 1) left'
+  left_next from p left left' above clear mine was bits i = (
+    λ set.
+        let both = (bits i).0 set in
+        let old = (was i).0 both.0 in (
+          old.0,
+          λ q low in'. elim (cases_eq q p) [
+            | inl same ↦ subst (λ (k : ℕ). has_bit (get_or words k 0) i ≡ v) (sym same) both.1
+            | inr other ↦ elim (cases_lt q from) [
+              | inl before ↦ old.1 q before in'
+              | inr behind ↦ absurd (false≢true (sym (clear q behind (omega (arith, low, other))) ∙ in'))
+            ]
+          ],
+        ),
+    λ both. (bits i).1 ((was i).1 (both.0, λ q low in'. both.1 q (omega (arith, low, above)) in'), both.1 p (omega arith) mine),
+  )
+
+  pub left_end : (from left : ℕ) → ((j : ℕ) → from ≤ j → has_bit numbers j ≡ false) → IsLeftUpto from left → IsLeft left
+  left_end from left clear was i = (
+    λ set. (
+      ((was i).0 set).0,
+      λ p in'. elim (cases_lt p from) [
+        | inl before ↦ ((was i).0 set).1 p before in'
+        | inr behind ↦ absurd (false≢true (sym (clear p behind) ∙ in'))
+      ],
+    ),
+    λ both. (was i).1 (both.0, λ p low in'. both.1 p in'),
+  )
+
+  pub left_none : (from left : ℕ) → left ≡ 0 → IsLeftUpto from left → IsLeft 0
+  left_none from left none was i = (
+    λ set. absurd (false≢true (sym (has_bit-zero i) ∙ set)),
+    λ both. rw none at ((was i).1 (both.0, λ p low in'. both.1 p in')),
+  )
+
+both_bits : (a b : Bool) → ((a && b) ≡ true) ↔ ((a ≡ true) × (b ≡ true))
+both_bits true b = (λ e. (refl, e), λ both. both.1)
+both_bits false b = (λ e. absurd (false≢true e), λ both. absurd (false≢true both.0))
+
+one_bit : (a b : Bool) → ((a && not b) ≡ true) ↔ ((a ≡ true) × (b ≡ false))
+one_bit true true = (λ e. absurd (false≢true e), λ both. absurd (false≢true (sym both.1)))
+one_bit true false = (λ e. (refl, refl), λ both. refl)
+one_bit false b = (λ e. absurd (false≢true e), λ both. absurd (false≢true both.0))
+
+pub and_bits : (left word left' : ℕ) → left' ≡ bit_and left word → (i : ℕ) → (has_bit left' i ≡ true ↔ ((has_bit left i ≡ true) × (has_bit word i ≡ true)))
+and_bits left word left' is i = subst (λ (w : ℕ). has_bit w i ≡ true ↔ ((has_bit left i ≡ true) × (has_bit word i ≡ true))) (sym is)
+    (subst (λ (t : Bool). t ≡ true ↔ ((has_bit left i ≡ true) × (has_bit word i ≡ true))) (sym (has_bit_and left word i)) (both_bits (has_bit left i) (has_bit word i)))
+
+pub without_bits : (left word left' : ℕ) → ((i : ℕ) → has_bit left' i ≡ (has_bit left i && not (has_bit word i))) →
+    (i : ℕ) → (has_bit left' i ≡ true ↔ ((has_bit left i ≡ true) × (has_bit word i ≡ false)))
+without_bits left word left' is i =
+    subst (λ (t : Bool). t ≡ true ↔ ((has_bit left i ≡ true) × (has_bit word i ≡ false))) (sym (is i)) (one_bit (has_bit left i) (has_bit word i))
+
+-- a mark is within another if each of its literals is one of the other's
+pub literals_within : (a b c d : Bool) → (a ≡ true → c ≡ true) → (b ≡ true → d ≡ true) → IsMarkWithin (mark_of a b) (mark_of c d)
+literals_within false false c d y n = tt
+literals_within true false c d y n = rw (y refl) (only_yes d)
   where
-    bit : (i : ℕ) → i < 64 → has_bit more i ≡ not (is_mark_within (mark_in sheet p i) (label p))
-    bit i i_small = bits i i_small ∙ ap (λ (x : Mark). not (is_mark_within (mark_in sheet p i) x)) mark
-
-    or_right : (a b : Bool) → (a || b) ≡ true → a ≡ false → b ≡ true
-    or_right a b e f = grind arith
-
-    or_false : (a b : Bool) → (a || b) ≡ false → (a ≡ false) × (b ≡ false)
-    or_false false b e = (refl, e)
-    or_false true b e = absurd (false≢true (sym e))
-
-pub sifted_end : (sheet : Marks) (used label : Label) (index word : ℕ) → ((i : ℕ) → IsInside sheet i used) → IsSiftedUpto sheet label index word →
-    ((q : ℕ) → index ≤ q → used q ≡ Absent) → (i : ℕ) → i < 64 → (has_bit word i ≡ false ↔ IsInside sheet i label)
-sifted_end sheet used label index word inside was none i i_small = (
-  λ clear q small. elim (cases_lt q index) [
-    | inl before ↦ was.within i q i_small small before clear
-    | inr behind ↦ absent_within (mark_in sheet q i) (label q) (mark_within_absent (mark_in sheet q i) (used q) (inside i q small) (none q behind))
-  ],
-  λ within. false_from_ne_true (has_bit word i) (λ set. was.out i i_small set within),
-)
-
--- on the propositions below `index`, the label is within exactly the labels with a bit
-pub record IsAboveUpto (sheet : Marks) (label : Label) (index word : ℕ) : Type 0 where
-  pub out : (i : ℕ) → i < 64 → has_bit word i ≡ false → IsOutside sheet i label → ⊥
-  pub within : (i q : ℕ) → q < 52 → q < index → has_bit word i ≡ true → IsMarkWithin (label q) (mark_in sheet q i)
-
-pub above_more : (sheet : Marks) (label : Label) (index word more p : ℕ) (m : Mark) → IsAboveUpto sheet label index word →
-    p < 52 → ((q : ℕ) → index ≤ q → q < p → label q ≡ Absent) → m ≡ label p →
-    ((i : ℕ) → has_bit more i ≡ is_mark_within m (mark_in sheet p i)) → IsAboveUpto sheet label (p + 1) (bit_and word more)
-above_more sheet label index word more p m was small none mark bits = record {
-  out = λ i i_small clear outside. elim (cases_Bool (has_bit word i)) [
-    | inr n ↦ was.out i i_small n outside
-    | inl y ↦ not_within (label p) (mark_in sheet p i) (sym (bit i) ∙ and_right (has_bit word i) (has_bit more i) (sym (has_bit_and word more i) ∙ clear) y) (outside p small)
-  ];
-  within = λ i q q_small below set.
-      let both = and_true (has_bit word i) (has_bit more i) (sym (has_bit_and word more i) ∙ set) in
-      elim (cases_eq q p) [
-        | inl same ↦ subst (λ (x : ℕ). IsMarkWithin (label x) (mark_in sheet x i)) (sym same) (inside_from (label p) (mark_in sheet p i) (ap not (sym (bit i) ∙ both.1)))
-        | inr other ↦ elim (cases_lt q index) [
-          | inl before ↦ was.within i q q_small before both.0
-          | inr behind ↦ absent_within (label q) (mark_in sheet q i) (none q behind (omega (arith, below, other)))
-        ]
-      ];
-}
+    only_yes : (d : Bool) → IsMarkWithin (mark_of true false) (mark_of true d)
+    only_yes true = tt
+    only_yes false = tt
+literals_within false true c d y n = rw (n refl) (only_no c)
   where
-    bit : (i : ℕ) → has_bit more i ≡ is_mark_within (label p) (mark_in sheet p i)
-    bit i = bits i ∙ ap (λ (x : Mark). is_mark_within x (mark_in sheet p i)) mark
+    only_no : (c : Bool) → IsMarkWithin (mark_of false true) (mark_of c true)
+    only_no true = tt
+    only_no false = tt
+literals_within true true c d y n = rw (y refl, n refl) tt
 
-    and_right : (a b : Bool) → (a && b) ≡ false → a ≡ true → b ≡ false
-    and_right a b e f = grind arith
+pub positive_within : (a b c d : Bool) → IsMarkWithin (mark_of a b) (mark_of c d) → a ≡ true → c ≡ true
+positive_within a b c d within set = grind arith
 
-    and_true : (a b : Bool) → (a && b) ≡ true → (a ≡ true) × (b ≡ true)
-    and_true true b e = (refl, e)
-    and_true false b e = absurd (false≢true e)
+pub negative_within : (a b c d : Bool) → IsMarkWithin (mark_of a b) (mark_of c d) → b ≡ true → d ≡ true
+negative_within a b c d within set = grind arith
 
-pub above_end : (sheet : Marks) (label : Label) (index word : ℕ) → IsAboveUpto sheet label index word →
-    ((q : ℕ) → index ≤ q → label q ≡ Absent) → (i : ℕ) → i < 64 → (has_bit word i ≡ true ↔ IsOutside sheet i label)
-above_end sheet label index word was none i i_small = (
-  λ set q small. elim (cases_lt q index) [
-    | inl before ↦ was.within i q small before set
-    | inr behind ↦ absent_within (label q) (mark_in sheet q i) (none q behind)
-  ],
-  λ outside. true_from_ne_false (has_bit word i) (λ clear. was.out i i_small clear outside),
-)
+-- the numbers of the literals of a label are below 52
+pub literal_below : (label : TheLabel) (positive negative p : ℕ) → MarksEnd → AreLiterals label positive negative → ((has_bit positive p ≡ true) ⊎ (has_bit negative p ≡ true)) → p < 52
+literal_below label positive negative p end are set = elim (cases_lt p 52) [
+  | inl below ↦ below
+  | inr above ↦ absurd (never (has_bit positive p) (has_bit negative p) (are p ∙ end label p above) set)
+]
+  where
+    never : (a b : Bool) → mark_of a b ≡ Absent → (a ≡ true) ⊎ (b ≡ true) → ⊥
+    never a b none one = grind arith
+
+-- a label is within another if it has no literal that the label of all has and the other hasn't
+module _ (sheet : Marks) (used label : TheLabel) (used_positive used_negative positive negative : ℕ) (of_used : AreLiterals used used_positive used_negative)
+    (of_label : AreLiterals label positive negative) (i : ℕ) (inside : IsInside sheet i (marks used)) where
+  pub inside_from_none : (outside_positive outside_negative : ℕ) → ((p : ℕ) → has_bit outside_positive p ≡ (has_bit used_positive p && not (has_bit positive p))) →
+      ((p : ℕ) → has_bit outside_negative p ≡ (has_bit used_negative p && not (has_bit negative p))) →
+      IsInNone sheet.positive outside_positive i → IsInNone sheet.negative outside_negative i → IsInside sheet i (marks label)
+  inside_from_none outside_positive outside_negative p_is n_is none_positive none_negative p small =
+      let within = subst (λ (m : Mark). IsMarkWithin (mark_in sheet p i) m) (sym (of_used p)) (inside p small) in
+      subst (λ (m : Mark). IsMarkWithin (mark_in sheet p i) m) (of_label p) (literals_within (bit sheet.positive p) (bit sheet.negative p) (has_bit positive p) (has_bit negative p)
+      (λ set. has (bit sheet.positive p) (has_bit used_positive p) (has_bit positive p) (has_bit outside_positive p) (p_is p) set
+      (positive_within (bit sheet.positive p) (bit sheet.negative p) (has_bit used_positive p) (has_bit used_negative p) within set) (none_positive p))
+      (λ set. has (bit sheet.negative p) (has_bit used_negative p) (has_bit negative p) (has_bit outside_negative p) (n_is p) set
+      (negative_within (bit sheet.positive p) (bit sheet.negative p) (has_bit used_positive p) (has_bit used_negative p) within set) (none_negative p)))
+    where
+      bit : List ℕ → ℕ → Bool
+      bit words q = has_bit (get_or words q 0) i
+
+      has : (a u l o : Bool) → o ≡ (u && not l) → a ≡ true → u ≡ true → (o ≡ true → a ≡ false) → l ≡ true
+      has a u l o is set of none = grind arith
+
+  pub none_from_inside : (outside_positive outside_negative : ℕ) → ((p : ℕ) → has_bit outside_positive p ≡ (has_bit used_positive p && not (has_bit positive p))) →
+      ((p : ℕ) → has_bit outside_negative p ≡ (has_bit used_negative p && not (has_bit negative p))) → MarksEnd → IsInside sheet i (marks label) →
+      IsInNone sheet.positive outside_positive i × IsInNone sheet.negative outside_negative i
+  none_from_inside outside_positive outside_negative p_is n_is end within = (
+    λ p set.
+        let parts = (one_bit (has_bit used_positive p) (has_bit positive p)).0 (sym (p_is p) ∙ set) in
+        let here = subst (λ (m : Mark). IsMarkWithin (mark_in sheet p i) m) (sym (of_label p)) (within p (literal_below used used_positive used_negative p end of_used (inl parts.0))) in
+        false_from_ne_true (has_bit (get_or sheet.positive p 0) i) (λ mine. false≢true (sym parts.1 ∙ positive_within (has_bit (get_or sheet.positive p 0) i) (has_bit (get_or sheet.negative p 0) i) (has_bit positive p) (has_bit negative p) here mine)),
+    λ p set.
+        let parts = (one_bit (has_bit used_negative p) (has_bit negative p)).0 (sym (n_is p) ∙ set) in
+        let here = subst (λ (m : Mark). IsMarkWithin (mark_in sheet p i) m) (sym (of_label p)) (within p (literal_below used used_positive used_negative p end of_used (inr parts.0))) in
+        false_from_ne_true (has_bit (get_or sheet.negative p 0) i) (λ mine. false≢true (sym parts.1 ∙ negative_within (has_bit (get_or sheet.positive p 0) i) (has_bit (get_or sheet.negative p 0) i) (has_bit positive p) (has_bit negative p) here mine)),
+  )
+
+-- a label is above another if it has all its literals
+module _ (sheet : Marks) (label : TheLabel) (positive negative : ℕ) (of_label : AreLiterals label positive negative) (i : ℕ) where
+  pub outside_from_all : IsInAll sheet.positive positive i → IsInAll sheet.negative negative i → IsOutside sheet i (marks label)
+  outside_from_all all_positive all_negative p small = subst (λ (m : Mark). IsMarkWithin m (mark_in sheet p i)) (of_label p)
+      (literals_within (has_bit positive p) (has_bit negative p) (has_bit (get_or sheet.positive p 0) i) (has_bit (get_or sheet.negative p 0) i) (all_positive p) (all_negative p))
+
+  pub all_from_outside : MarksEnd → IsOutside sheet i (marks label) → IsInAll sheet.positive positive i × IsInAll sheet.negative negative i
+  all_from_outside end outside = (
+    λ p set. positive_within (has_bit positive p) (has_bit negative p) (has_bit (get_or sheet.positive p 0) i) (has_bit (get_or sheet.negative p 0) i)
+        (subst (λ (m : Mark). IsMarkWithin m (mark_in sheet p i)) (sym (of_label p)) (outside p (literal_below label positive negative p end of_label (inl set)))) set,
+    λ p set. negative_within (has_bit positive p) (has_bit negative p) (has_bit (get_or sheet.positive p 0) i) (has_bit (get_or sheet.negative p 0) i)
+        (subst (λ (m : Mark). IsMarkWithin m (mark_in sheet p i)) (sym (of_label p)) (outside p (literal_below label positive negative p end of_label (inr set)))) set,
+  )
 
 zero_word : (p : ℕ) → get_or (replicate 52 zero) p zero ≡ zero
 zero_word p = elim (cases_lt p 52) [
@@ -172,13 +221,6 @@ zero_word p = elim (cases_lt p 52) [
 
 pub nothing_marked : (p i : ℕ) → mark_in (sheet_of (replicate 52 0) (replicate 52 0)) p i ≡ Absent
 nothing_marked p i = rw (zero_word p, has_bit-zero i) refl
-
--- what two bits say of the mark that they make
-pub outside_bits : (a b v w : Bool) → ((a && not v) || (b && not w)) ≡ not (is_mark_within (mark_of a b) (mark_of v w))
-outside_bits a b v w = grind arith
-
-pub both_set : (a b : Bool) → (a && b) ≡ is_mark_within Unknown (mark_of a b)
-both_set a b = grind arith
 
 pub either_marked : (a b : Bool) → (a || b) ≡ is_marked (mark_of a b)
 either_marked a b = grind arith

@@ -1,5 +1,5 @@
 -- The marks of labels side by side, as words.
-use Rattle.std.specs.Prelude.{ℕ, ◌<◌, List, slice_index_or}
+use Rattle.std.specs.Prelude.{ℕ, ◌≡◌, ◌<◌, true, false, List, slice_index_or}
 use Rattle.cstn_label.specs.declared.marks.Mark.{Mark}
 use Rattle.cstn_label.specs.Labels.{Label, IsMarkWithin}
 use Rattle.cstn_label.specs.Read.{mark_of}
@@ -20,3 +20,10 @@ IsInside sheet i label = (p : ℕ) → p < 52 → IsMarkWithin (mark_in sheet p 
 
 abbrev pub IsOutside : Marks → ℕ → Label → Type 0
 IsOutside sheet i label = (p : ℕ) → p < 52 → IsMarkWithin (label p) (mark_in sheet p i)
+
+-- bit i is in none of the words of these numbers, and in all of them
+abbrev pub IsInNone : List ℕ → ℕ → ℕ → Type 0
+IsInNone words numbers i = (p : ℕ) → has_bit numbers p ≡ true → has_bit (slice_index_or words p 0) i ≡ false
+
+abbrev pub IsInAll : List ℕ → ℕ → ℕ → Type 0
+IsInAll words numbers i = (p : ℕ) → has_bit numbers p ≡ true → has_bit (slice_index_or words p 0) i ≡ true

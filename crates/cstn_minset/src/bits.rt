@@ -25,13 +25,6 @@ pub fn first_bits(count: u32) -> u64
     (1 << count) - 1
 }
 
-/// The word with every bit set, or with none.
-pub fn all_or_none(on: bool) -> u64
-    ensures { (k : ℕ) → k < 64 → has_bit result k ≡ on }
-{
-    if on { u64::MAX } else { 0 }
-}
-
 /// The bits of a word that aren't set in another.
 pub fn bits_without(word: u64, other: u64) -> u64
     ensures { (k : ℕ) → has_bit result k ≡ (has_bit word k && not (has_bit other k)) }

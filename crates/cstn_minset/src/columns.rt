@@ -5,7 +5,8 @@ ghost use Rattle.cstn_label.specs.Labels.{IsMarked, IsWithin};
 ghost use Rattle.cstn_label.specs.Read.{marks};
 ghost use Rattle.cstn_minset.specs.Columns.{AreThose};
 
-use crate::bits::{bits_without, first_bits};
+use crate::bits::first_bits;
+use crate::literals::Literals;
 use crate::sheet::Sheet;
 use arrayvec::ArrayVec;
 use cstn_label::{Label, Prop, joined_is_the_least_above, labels_are_their_marks};
@@ -36,7 +37,7 @@ pub struct Columns {
     records: ArrayVec<Record, 64>,
     sheet: Sheet,
     // A label within which all labels of the records are.
-    used: Label,
+    used: Literals,
 }
 
 impl Model for Columns {
@@ -57,7 +58,7 @@ impl Columns {
         Columns {
             records: ArrayVec::new(),
             sheet: Sheet::empty(),
-            used: Label::empty(),
+            used: Literals::of(Label::empty()),
         }
     }
 
@@ -107,7 +108,7 @@ impl Columns {
         joined_is_the_least_above();
         let place = self.records.len() as u32;
         self.sheet.replace(Label::empty(), added.label, place);
-        self.used = self.used.join(added.label);
+        self.used = self.used.join(&Literals::of(added.label));
         self.records.push(added);
     }
 
@@ -127,23 +128,21 @@ impl Columns {
     }
 
     /// The records whose label is within this one, as bits.
-    pub fn within(&self, label: Label) -> u64
-        ensures { AreThose (λ r. IsWithin (marks r.label) (marks label)) self.now.items result }
+    pub fn within(&self, label: &Literals) -> u64
+        ensures { AreThose (λ r. IsWithin (marks r.label) (marks label.now)) self.now.items result }
     {
         labels_are_their_marks();
-        let count = self.records.len() as u32;
-        bits_without(first_bits(count), self.sheet.not_within(self.used, label))
+        let front = first_bits(self.records.len() as u32);
+        self.sheet.within(front, &self.used, label)
     }
 
     /// The records within whose label this one is, as bits.
-    pub fn above(&self, label: Label) -> u64
-        ensures { AreThose (λ r. IsWithin (marks label) (marks r.label)) self.now.items result }
+    pub fn above(&self, label: &Literals) -> u64
+        ensures { AreThose (λ r. IsWithin (marks label.now) (marks r.label)) self.now.items result }
     {
         labels_are_their_marks();
-        if !label.is_within(self.used) {
-            return 0;
-        }
-        first_bits(self.records.len() as u32) & self.sheet.above(label)
+        let front = first_bits(self.records.len() as u32);
+        self.sheet.above(front, label)
     }
 
     /// The records whose label marks p, as bits.

@@ -11,6 +11,7 @@ ghost use Rattle.cstn_minset.specs.Sets.{IsRecordAbove, IsRecordOf, AreSlotsOf, 
 
 use crate::bits::{bits_without, first_bit_from, first_bits};
 use crate::columns::{Columns, Record};
+use crate::literals::Literals;
 use crate::page::{Page, higher};
 use crate::rows::Rows;
 use cstn_label::{Label, NodeId, Prop};
@@ -19,18 +20,19 @@ use cstn_label::{Label, NodeId, Prop};
 pub fn greatest_within(rows: &Rows, node: NodeId, label: Label) -> i32
     ensures { (result ≡ pos 0) ⊎ ((k i : ℕ) × (r : TheRecord) × IsRecordAt rows.now.pages node.0 k i r × IsRecordOf (marks label) result r) }
 {
+    let literals = Literals::of(label);
     let mut greatest = 0;
     let mut place = rows.first(node.0 as u32);
     while let Some(number) = place {
-        greatest = greatest_on_page(rows.page(number), label, greatest);
+        greatest = greatest_on_page(rows.page(number), &literals, greatest);
         place = rows.next(number);
     }
     greatest
 }
 
 // The greatest least value of a record of a page whose label is within this one, or the floor where that is lower.
-fn greatest_on_page(page: &Page, label: Label, floor: i32) -> i32
-    ensures { (result ≡ floor) ⊎ ((i : ℕ) × (r : TheRecord) × (slice_get page.now.records.items i ≡ Some r) × IsRecordOf (marks label) result r) }
+fn greatest_on_page(page: &Page, label: &Literals, floor: i32) -> i32
+    ensures { (result ≡ floor) ⊎ ((i : ℕ) × (r : TheRecord) × (slice_get page.now.records.items i ≡ Some r) × IsRecordOf (marks label.now) result r) }
 {
     if page.high <= floor {
         return floor;
@@ -58,10 +60,11 @@ pub fn greatest_without(rows: &Rows, node: NodeId, label: Label) -> [i32; 52]
     ensures { (p : ℕ) → p < 52 → (slice_index_or result p (pos 0) ≡ pos 0) ⊎ ((k i : ℕ) × (r : TheRecord) × IsRecordAt rows.now.pages node.0 k i r
         × IsRecordOf (without (marks label) p) (slice_index_or result p (pos 0)) r) }
 {
+    let literals = Literals::of(label);
     let mut greatest = [0; 52];
     let mut place = rows.first(node.0 as u32);
     while let Some(number) = place {
-        raise_on_page(rows.page(number), label, &mut greatest);
+        raise_on_page(rows.page(number), label, &literals, &mut greatest);
         place = rows.next(number);
     }
     greatest
@@ -69,11 +72,12 @@ pub fn greatest_without(rows: &Rows, node: NodeId, label: Label) -> [i32; 52]
 
 // Raises each of these to the greatest least value of a record of a page whose label is within this one and doesn't mark the
 // proposition, where that is higher.
-fn raise_on_page(page: &Page, label: Label, greatest: &mut [i32; 52])
+fn raise_on_page(page: &Page, label: Label, literals: &Literals, greatest: &mut [i32; 52])
+    requires { literals.now ≡ label }
     ensures { (p : ℕ) → p < 52 → (slice_index_or greatest.new p (pos 0) ≡ slice_index_or greatest.old p (pos 0))
         ⊎ ((i : ℕ) × (r : TheRecord) × (slice_get page.now.records.items i ≡ Some r) × IsRecordOf (without (marks label) p) (slice_index_or greatest.new p (pos 0)) r) }
 {
-    let within = page.records.within(label);
+    let within = page.records.within(literals);
     if within == 0 {
         return;
     }

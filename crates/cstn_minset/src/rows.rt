@@ -17,8 +17,8 @@ use std::mem;
 /// For each head a row of records, in pages. A row has no order; the least values of a page are told by its range.
 ///
 /// Each head has a first page of its own, which may have few records or none. Every other page of a row is at least half full.
-/// So at most `capacity` records find room, and no call but [`Rows::start`] takes memory: 75.5 bytes for each record of the
-/// capacity, and 2,424 bytes for each head. Pages that were never used are not written.
+/// So at most `capacity` records find room, and no call but [`Rows::start`] takes memory: 76 bytes for each record of the
+/// capacity, and 2,440 bytes for each head. Pages that were never used are not written.
 #[derive(Drop)]
 pub struct Rows {
     // The first pages are those of the heads.

@@ -1,14 +1,14 @@
-ghost use Rattle.std.specs.Prelude.{ℕ, ◌≡◌, ◌<◌, ◌↔◌, true, false, not};
+ghost use Rattle.std.specs.Prelude.{ℕ, ◌≡◌, ◌<◌, ◌↔◌, true};
 ghost use Rattle.cstn_label.specs.declared.marks.Mark.TheVariants.{Absent};
 ghost use Rattle.cstn_label.specs.Labels.{IsMarked};
 ghost use Rattle.cstn_label.specs.Marks.{is_marked};
-ghost use Rattle.cstn_label.specs.Tests.{is_mark_within};
 ghost use Rattle.cstn_label.specs.Read.{marks, mark_of};
 ghost use Rattle.cstn_label.specs.Words.{has_bit};
-ghost use Rattle.cstn_minset.specs.Sheets.{mark_in, IsInside, IsOutside};
+ghost use Rattle.cstn_minset.specs.Sheets.{mark_in, IsInside, IsOutside, IsInNone, IsInAll};
 
-use crate::bits::{all_or_none, bits_without, with_bit};
-use cstn_label::{Label, Mark, Prop};
+use crate::bits::{bits_without, first_bit_from, with_bit};
+use crate::literals::Literals;
+use cstn_label::{Label, Mark, Prop, labels_are_their_marks};
 use std::marker::Model;
 
 /// The marks of 64 labels side by side: for each literal a word, whose bit i tells whether label i has it. So what is asked of
@@ -68,56 +68,26 @@ impl Sheet {
         self.negative[at] = with_bit(self.negative[at], i, no);
     }
 
-    /// The labels that have a mark which isn't within the other label's. `used` is a label within which they all are.
-    pub fn not_within(&self, used: Label, label: Label) -> u64
-        requires used { (i : ℕ) → IsInside self.now i (marks used) }
-        ensures { (i : ℕ) → i < 64 → (has_bit result i ≡ false ↔ IsInside self.now i (marks label)) }
+    /// Of these labels, those that are within the other label. `used` is a label within which they all are.
+    pub fn within(&self, front: u64, used: &Literals, label: &Literals) -> u64
+        requires used { (i : ℕ) → IsInside self.now i (marks used.now) }
+        ensures { (i : ℕ) → (has_bit result i ≡ true ↔ ((has_bit front i ≡ true) × IsInside self.now i (marks label.now))) }
     {
-        let mut found = 0;
-        let mut index = 0;
-        while let Some(p) = used.first_marked_from(index) {
-            found |= self.not_within_mark(p, label.mark(p));
-            index = p.index + 1;
-        }
-        found
+        labels_are_their_marks();
+        let (used_positive, used_negative) = used.words();
+        let (positive, negative) = label.words();
+        let left = in_none(front, &self.positive, bits_without(used_positive, positive));
+        in_none(left, &self.negative, bits_without(used_negative, negative))
     }
 
-    // The labels whose mark on p isn't within this one.
-    fn not_within_mark(&self, p: Prop, m: Mark) -> u64
-        ensures { (i : ℕ) → i < 64 → has_bit result i ≡ not (is_mark_within (mark_in self.now p.index i) m) }
+    /// Of these labels, those that the other label is within.
+    pub fn above(&self, front: u64, label: &Literals) -> u64
+        ensures { (i : ℕ) → (has_bit result i ≡ true ↔ ((has_bit front i ≡ true) × IsOutside self.now i (marks label.now))) }
     {
-        let (yes, no) = literals(m);
-        let at = p.index as usize;
-        let positive = bits_without(self.positive[at], all_or_none(yes));
-        let negative = bits_without(self.negative[at], all_or_none(no));
-        positive | negative
-    }
-
-    /// The labels that the other label is within.
-    pub fn above(&self, label: Label) -> u64
-        ensures { (i : ℕ) → i < 64 → (has_bit result i ≡ true ↔ IsOutside self.now i (marks label)) }
-    {
-        let mut found = u64::MAX;
-        let mut index = 0;
-        while let Some(p) = label.first_marked_from(index) {
-            found &= self.above_mark(p, label.mark(p));
-            index = p.index + 1;
-        }
-        found
-    }
-
-    // The labels that have a mark on p which this one is within.
-    fn above_mark(&self, p: Prop, m: Mark) -> u64
-        requires { m ≡ Absent → ⊥ }
-        ensures { (i : ℕ) → has_bit result i ≡ is_mark_within m (mark_in self.now p.index i) }
-    {
-        let at = p.index as usize;
-        match m {
-            Mark::Absent => 0,
-            Mark::Yes => self.positive[at],
-            Mark::No => self.negative[at],
-            Mark::Unknown => self.positive[at] & self.negative[at],
-        }
+        labels_are_their_marks();
+        let (positive, negative) = label.words();
+        let left = in_all(front, &self.positive, positive);
+        in_all(left, &self.negative, negative)
     }
 
     /// The labels that mark p.
@@ -126,6 +96,42 @@ impl Sheet {
     {
         self.positive[p.index as usize] | self.negative[p.index as usize]
     }
+}
+
+// Of these bits, those that are in none of the words of the numbers.
+fn in_none(front: u64, words: &[u64; 52], numbers: u64) -> u64
+    requires { (p : ℕ) → has_bit numbers p ≡ true → p < 52 }
+    ensures { (i : ℕ) → (has_bit result i ≡ true ↔ ((has_bit front i ≡ true) × IsInNone words.now numbers i)) }
+{
+    let mut left = front;
+    let mut from = 0;
+    while let Some(p) = first_bit_from(numbers, from) {
+        let word = words[p as usize];
+        left = bits_without(left, word);
+        if left == 0 {
+            return 0;
+        }
+        from = p + 1;
+    }
+    left
+}
+
+// Of these bits, those that are in all of the words of the numbers.
+fn in_all(front: u64, words: &[u64; 52], numbers: u64) -> u64
+    requires { (p : ℕ) → has_bit numbers p ≡ true → p < 52 }
+    ensures { (i : ℕ) → (has_bit result i ≡ true ↔ ((has_bit front i ≡ true) × IsInAll words.now numbers i)) }
+{
+    let mut left = front;
+    let mut from = 0;
+    while let Some(p) = first_bit_from(numbers, from) {
+        let word = words[p as usize];
+        left &= word;
+        if left == 0 {
+            return 0;
+        }
+        from = p + 1;
+    }
+    left
 }
 
 // Whether a mark has the positive literal, and whether it has the negative one.

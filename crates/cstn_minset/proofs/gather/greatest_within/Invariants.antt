@@ -11,7 +11,7 @@ use Rattle.cstn_minset.proofs.gather.greatest_within.Given as goal
 abbrev pub invariant-loop-place : goal.invariant-loop-place
 invariant-loop-place l = record {
   scan : IsScanned l.rows l.fn.node.0 (λ r. ⊥) l.place;
-  floor : (l.greatest ≡ pos 0) ⊎ ((k i : ℕ) × (r : Record) × IsRecordAt l.rows.pages l.fn.node.0 k i r × IsRecordOf (marks l.label) l.greatest r);
+  floor : (l.greatest ≡ pos 0) ⊎ ((k i : ℕ) × (r : Record) × IsRecordAt l.rows.pages l.fn.node.0 k i r × IsRecordOf (marks l.fn.label) l.greatest r);
 }
 
 abbrev pub decreases-loop-place : goal.decreases-loop-place

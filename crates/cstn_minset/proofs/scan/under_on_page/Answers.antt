@@ -25,9 +25,9 @@ loop-i-preserved c =
     let items = c.args.page.now.records.items in
     let i = c.in-Some.i in
     let kept = c.index-records-i.result in
-    let there = (c.above-above.ensures i).0 c.in-Some.ensures.set in
+    let there = ((rw c.requires.label at c.above-above.ensures) i).0 c.in-Some.ensures.set in
     let here : slice_get items i ≡ Some kept = slice_get_read items (length items) i kept refl (slice_get_within items i there.0 there.1) (rw c.as_slice-records.ensures.value at c.index-records-i.is) in
-    none_among items c.above-above.result _ i (IsRecordUnder c.args.b.now) (λ r. IsWithin (marks c.args.b.now.label) (marks r.label)) kept c.above-above.ensures (λ r is. is.1) c.loop-i.invariant c.in-Some.ensures.least here
+    none_among items c.above-above.result _ i (IsRecordUnder c.args.b.now) (λ r. IsWithin (marks c.args.b.now.label) (marks r.label)) kept (rw c.requires.label at c.above-above.ensures) (λ r is. is.1) c.loop-i.invariant c.in-Some.ensures.least here
     (λ is. let low = is.0 in let high = c.if-kept-b.false in absurd (omega (arith, ints)))
 
 pub returns-then-kept-b-clause-some : goal.returns-then-kept-b-clause-some
@@ -35,11 +35,11 @@ returns-then-kept-b-clause-some c =
     let items = c.args.page.now.records.items in
     let i = c.in-Some.i in
     let kept = c.index-records-i.result in
-    let there = (c.above-above.ensures i).0 c.in-Some.ensures.set in
+    let there = ((rw c.requires.label at c.above-above.ensures) i).0 c.in-Some.ensures.set in
     let here : slice_get items i ≡ Some kept = slice_get_read items (length items) i kept refl (slice_get_within items i there.0 there.1) (rw c.as_slice-records.ensures.value at c.index-records-i.is) in
     let label = subst (λ (r : Record). IsWithin (marks c.args.b.now.label) (marks r.label)) (same_Some there.0 kept (sym there.1 ∙ here)) there.2 in
     (kept, here, (let low = c.if-kept-b.true in omega (arith, ints), label))
 
 pub returns-clause-none : goal.returns-clause-none
 returns-clause-none c =
-    none_behind c.args.page.now.records.items c.above-above.result _ (IsRecordUnder c.args.b.now) (λ r. IsWithin (marks c.args.b.now.label) (marks r.label)) c.above-above.ensures (λ r is. is.1) c.loop-i.invariant c.in_default.ensures.none
+    none_behind c.args.page.now.records.items c.above-above.result _ (IsRecordUnder c.args.b.now) (λ r. IsWithin (marks c.args.b.now.label) (marks r.label)) (rw c.requires.label at c.above-above.ensures) (λ r is. is.1) c.loop-i.invariant c.in_default.ensures.none

@@ -5,11 +5,11 @@ use Rattle.cstn_minset.specs.Columns.{Listing, AreThose}
 use Rattle.cstn_minset.proofs.ColumnLemmas.{columns_inside, those_within}
 use Rattle.cstn_minset.proofs.columns.Columns.within.Goals as goal
 
-pub not_within-requires : goal.not_within-requires
-not_within-requires c = record { used = columns_inside c.self.inside.records.items c.self.inside.sheet c.self.inside.used c.self.invariant }
+pub within-requires : goal.within-requires
+within-requires c = record { used = columns_inside c.self.inside.records.items c.self.inside.sheet c.self.inside.used c.self.invariant }
 
 pub returns : goal.returns
 returns c =
-    subst (λ (v : Listing). AreThose (λ r. IsWithin (marks r.label) (marks c.args.label)) v.items c.bits_without.result) c.self.view_is
-    (those_within c.self.inside.records.items c.self.inside.sheet c.self.inside.used c.args.label c.first_bits.result c.not_within.result c.bits_without.result
-    c.labels_are_their_marks.ensures.above c.self.invariant (rw c.len-count.ensures.value at c.first_bits.ensures) c.not_within.ensures c.bits_without.ensures)
+    subst (λ (v : Listing). AreThose (λ r. IsWithin (marks r.label) (marks c.args.label.now)) v.items c.within.result) c.self.view_is
+    (those_within c.self.inside.records.items c.self.inside.sheet c.self.inside.used c.args.label.now c.first_bits-front.result c.within.result
+    c.labels_are_their_marks.ensures.above c.self.invariant (rw c.len.ensures.value at c.first_bits-front.ensures) c.within.ensures)
