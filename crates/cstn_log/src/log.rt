@@ -34,7 +34,7 @@ use std::marker::Model;
 /// An entry is live while no later one dominates it. A pool has the bound of each entry, and a minimal set those of the live
 /// ones, each under the id that [`Log::slot`] answers. An entry keeps its id while entries before it are taken out, and only
 /// its place changes: premises are kept by slot, and a table tells the place of each. All memory of the log is taken by
-/// [`Log::start`]: 148.6 bytes for each entry that there may be, so 623 MB for the largest cap of 4,194,304, and 2,424 bytes for each
+/// [`Log::start`]: 149.1 bytes for each entry that there may be, so 625 MB for the largest cap of 4,194,304, and 2,440 bytes for each
 /// time-point. Of these, 4 bytes an entry are written only as far as a time-point has live entries, and one byte an entry is used
 /// by [`Log::retract`] alone.
 #[derive(Drop)]
