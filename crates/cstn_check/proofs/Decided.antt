@@ -1,5 +1,5 @@
 -- The tests decide the definitions.
-use Rattle.std.proofs.Common.{ℕ, ◌≡◌, inl, inr, ◌<◌, ◌≤◌, true, false, not, ◌&&◌, eqb, ltb, Some, None, arith, sym, ap, ◌∙◌}
+use Rattle.std.proofs.Common.{ℕ, ◌≡◌, inl, inr, ◌<◌, true, false, not, ◌&&◌, eqb, ltb, Some, None, arith, sym, ap, ◌∙◌}
 use Rattle.std.specs.Prelude.{ℤ, pos, ◌≤ℤ◌, int_lt, ◌-ℤ◌, ◌+ℤ◌}
 use Rattle.std.specs.Int.{int_min}
 use Rattle.std.proofs.lemmas.Int.{ints}

@@ -1,145 +1,186 @@
 -- Least values up to which the conclusions of wait are dominated.
-use Rattle.std.proofs.Common.{ℕ, arith, ◌≡◌, ◌⊎◌, inl, inr, ◌<◌, Bool, true, false, not, List, [], ◌∷◌, length, Option, Some, None, refl, sym, subst, ap, ◌∙◌}
-use Rattle.std.specs.Prelude.{ℤ, pos, ◌==◌, slice_index_or, replicate, Result, Ok, Err, IfOk}
-use Rattle.std.proofs.lemmas.Bool.{cases_Bool, cond-true, cond-false, and_right, eqb-true}
-use Rattle.cstn_facts.proofs.Places.{get_or_repeated}
-use Rattle.cstn_label.specs.declared.bounds.Bound.{Bound as DeclaredBound}
+use Rattle.std.proofs.Common.{ℕ, zero, suc, arith, ◌≡◌, ◌⊎◌, inl, inr, ◌+◌, ◌<◌, ◌≤◌, true, false, Option, Some, None, refl, sym, subst, ap, ◌∙◌}
+use Rattle.std.specs.Prelude.{ℤ, pos, ◌+ℤ◌, ◌≤ℤ◌, ◌<ℤ◌, ◌==◌, int_lt, slice_get, slice_index_or}
+use Rattle.std.specs.Int.{int_min}
+use Rattle.std.proofs.lemmas.Int.{ints, clamps}
+use Rattle.std.proofs.lemmas.Bool.{cases_Bool, cond-false, and_parts, eqb-true, false≢true}
+use Rattle.cstn_facts.proofs.Integers.{int_lt-true, int_lt-false}
 use Rattle.cstn_label.specs.declared.marks.Mark.{Mark}
-use Rattle.cstn_label.specs.declared.marks.Mark.TheVariants.{Absent}
+use Rattle.cstn_label.specs.declared.marks.Mark.TheVariants.{Absent, Yes, No, Unknown}
 use Rattle.cstn_label.specs.Labels.{Label, IsMarkWithin, IsWithin, joined, joined_mark, without}
-use Rattle.cstn_label.specs.Bounds.{Bound, Dominates}
-use Rattle.cstn_label.specs.Read.{the_bound}
-use Rattle.cstn_net.specs.Networks.{Network, Observes, count}
+use Rattle.cstn_label.specs.Bounds.{Bound}
+use Rattle.cstn_label.specs.Read.{the_bound, marks}
+use Rattle.cstn_net.specs.Limits.{most_deadline}
+use Rattle.cstn_net.specs.Networks.{Network, Observes, IsWellFormed, count, limit}
 use Rattle.cstn_rules.specs.declared.entries.Entry.{Entry}
-use Rattle.cstn_rules.specs.Derivations.{Entry as TheEntry}
 use Rattle.cstn_rules.specs.Read.{the_entry}
-use Rattle.cstn_rules.specs.Rules.{base, without_own}
-use Rattle.cstn_log.specs.Entries.{State, IsBoundAt, the_entries}
-use Rattle.cstn_check.specs.Growth.{Instance, is_covered, premises_live, conclusion, with_conclusion, step}
-use Rattle.cstn_check.specs.Turns.{IsOpen, IsTaken}
-use Rattle.cstn_check.specs.Steps.{is_refutation}
-use Rattle.cstn_check.specs.declared.steps.Step.{Step}
-use Rattle.cstn_check.specs.declared.steps.Step.TheVariants.{Open}
-use Rattle.cstn_pool.specs.declared.pool.Full.{Full}
-use Rattle.cstn_check.specs.Waits.{HasBound}
-use Rattle.cstn_check.specs.Floors.{IsFloor, AreFloors, ground_floor}
-use Rattle.cstn_check.specs.declared.waits.Floor.{Floor}
-use Rattle.cstn_check.proofs.Lists.{Extends, covered_kept, covered_by}
+use Rattle.cstn_rules.specs.Rules.{IsWait, base, without_own}
+use Rattle.cstn_rules.specs.Tests.{wait_of}
+use Rattle.cstn_log.specs.Entries.{State, the_entries}
+use Rattle.cstn_check.specs.Growth.{is_covered, is_live, conclusion, of_two}
+use Rattle.cstn_check.specs.Growth.Instance.{wait_at}
+use Rattle.cstn_check.specs.Turns.{IsOpen}
+use Rattle.cstn_check.specs.Waits.{IsSpentWait}
+use Rattle.cstn_check.specs.Floors.{IsFloor}
+use Rattle.cstn_check.proofs.Lists.{covered_by}
 use Rattle.cstn_check.proofs.Bounded.{covered_at}
+use Rattle.cstn_check.proofs.Derives.{wait_is}
 use Rattle.cstn_check.proofs.Reading.{entries_small}
-use Rattle.cstn_check.proofs.TurnLemmas.{idle, step_on}
-use Rattle.cstn_check.proofs.TryLemmas.{own_follows, taken_on}
+use Rattle.cstn_check.proofs.TryLemmas.{own_follows}
 use Rattle.cstn_label.proofs.BoundLemmas.{dominates_through}
 use Rattle.cstn_log.proofs.StepLemmas.{entry_read}
 
--- a floor stays one while the list grows
-pub floor_on : (net : Network) (L G : List TheEntry) (b : Bound) (p : ℕ) (floor : ℤ) → Extends L G → IsFloor net L b p floor → IsFloor net G b p floor
-floor_on net L G b p floor more f = record { covered = λ seen r w low. covered_kept L G r more (f.covered seen r w low) }
+-- an entry of the list doesn't mark what its time-point observes
+pub own_absent : (net : Network) (s : State) (k : ℕ) (e : Entry) → IsOpen net s → slice_get s.entries k ≡ Some e → (q : ℕ) →
+    slice_index_or net.observes e.bound.node.0 None ≡ Some q → marks e.bound.label q ≡ Absent
+own_absent net s k e ready there q own =
+    own_follows net (the_entries s.entries) k (the_entry e).why (the_bound e.bound) q (ready.derivation k (the_entry e) (entry_read s.entries k e there)) own
 
-pub floors_on : (net : Network) (L G : List TheEntry) (b : Bound) (floors : List Floor) → Extends L G → AreFloors net L b floors → AreFloors net G b floors
-floors_on net L G b floors more f = record { size = f.size; each = λ p small. floor_on net L G b p (slice_index_or floors p ground_floor).least more (f.each p small) }
+-- ---- labels
 
--- no conclusion up to 0 is new
-pub floor_at_ground : (net : Network) (s : State) (b : Bound) (p : ℕ) → IsOpen net s → b.node < count net → IsFloor net (the_entries s.entries) b p (pos 0)
-floor_at_ground net s b p ready inside = record {
-  covered = λ seen r w low.
-      let L = the_entries s.entries in
-      let at : r.node ≡ b.node = ap (λ (x : Bound). x.node) w.gives in
-      let d = covered_by L (base b.node) (entries_small s.entries) (ready.kept.based b.node inside) in
-      covered_at L d.place d.entry r d.there (dominates_through d.entry.bound (base b.node) r d.dominates (record { node = sym at; least = low; label = λ q. tt }));
-}
-
-pub floors_at_ground : (net : Network) (s : State) (b : Bound) → IsOpen net s → b.node < count net → AreFloors net (the_entries s.entries) b (replicate 52 ground_floor)
-floors_at_ground net s b ready inside = record {
-  size = refl;
-  each = λ p small. subst (λ (z : Floor). IsFloor net (the_entries s.entries) b p z.least) (sym (get_or_repeated 52 p ground_floor)) (floor_at_ground net s b p ready inside);
-}
-
--- ---- an entry whose label is within that of the bound
-
-within_join : (m n o : Mark) → IsMarkWithin m o → IsMarkWithin m (joined_mark n o)
-within_join m n o h = grind arith
-
-off_absent : (a : Label) (p q : ℕ) → a q ≡ Absent → without a p q ≡ Absent
-off_absent a p q off = elim (cases_Bool (q == p)) [
-  | inl same ↦ cond-true (q == p) Absent (a q) same
-  | inr other ↦ cond-false (q == p) Absent (a q) other ∙ off
-]
-
-within_own : (o : Option ℕ) (d s c : Label) → IsWithin d c → ((q : ℕ) → o ≡ Some q → c q ≡ Absent) → IsWithin d (without_own o (joined s c))
-within_own None d s c h clean = λ q. within_join (d q) (s q) (c q) (h q)
+-- a label is within a joined one without its own mark, where it is within the joined one and doesn't have that mark
+within_own : (o : Option ℕ) (d s c : Label) → ((q : ℕ) → IsMarkWithin (d q) (joined_mark (s q) (c q))) → ((q : ℕ) → o ≡ Some q → d q ≡ Absent) →
+    IsWithin d (without_own o (joined s c))
+within_own None d s c h clean = h
 within_own (Some p) d s c h clean = λ q. elim (cases_Bool (q == p)) [
   | inl same ↦
-      let e : p ≡ q = sym (eqb-true q p same) in
-      subst (λ m. IsMarkWithin (d q) m) (clean q (ap Some e) ∙ sym (cond-true (q == p) Absent (joined_mark (s q) (c q)) same)) (h q)
+      subst (λ m. IsMarkWithin m (without_own (Some p) (joined s c) q)) (sym (clean q (ap Some (sym (eqb-true q p same))))) tt
   | inr other ↦
-      subst (λ m. IsMarkWithin (d q) m) (sym (cond-false (q == p) Absent (joined_mark (s q) (c q)) other)) (within_join (d q) (s q) (c q) (h q))
+      subst (λ m. IsMarkWithin (d q) m) (sym (cond-false (q == p) Absent (joined_mark (s q) (c q)) other)) (h q)
 ]
 
--- the least value of an entry at the bound's time-point is a floor, if its label is within that of the bound without p
-pub floor_raised : (net : Network) (L : List Entry) (k : ℕ) (over : DeclaredBound) (b : Bound) (p : ℕ) → IsBoundAt L k over → (the_bound over).node ≡ b.node →
-    IsWithin (the_bound over).label (without b.label p) → ((q : ℕ) → Observes net b.node q → b.label q ≡ Absent) → IsFloor net (the_entries L) b p (the_bound over).least
-floor_raised net L k over b p at node within clean = record {
-  covered = λ seen r w low.
-      let wide = within_own (slice_index_or net.observes b.node None) (the_bound over).label seen.label (without b.label p) within
-      (λ q own. off_absent b.label p q (clean q (record { what = own }))) in
-      let d : Dominates (the_bound over) r = record {
-        node = node ∙ sym (ap (λ (x : Bound). x.node) w.gives);
-        least = low;
-        label = subst (λ (x : Bound). IsWithin (the_bound over).label x.label) (sym w.gives) wide;
-      } in
-      covered_at (the_entries L) k (the_entry at.entry) r (entry_read L k at.entry at.there)
-      (subst (λ (z : DeclaredBound). Dominates (the_bound z) r) (sym at.is) d);
-}
+within_left : (m n o : Mark) → IsMarkWithin m n → IsMarkWithin m (joined_mark n o)
+within_left m n o h = grind arith
 
--- a bound of the list doesn't mark what its time-point observes
-pub own_absent : (net : Network) (s : State) (k : ℕ) (b : Bound) → IsOpen net s → HasBound s.entries k b → (q : ℕ) → Observes net b.node q → b.label q ≡ Absent
-own_absent net s k b ready has q own =
-    let at = entry_read s.entries k has.entry has.there in
-    subst (λ (z : Bound). slice_index_or net.observes z.node None ≡ Some q → z.label q ≡ Absent) has.is
-    (own_follows net (the_entries s.entries) k (the_entry has.entry).why (the_bound has.entry.bound) q (ready.derivation k (the_entry has.entry) at)) own.what
+within_right : (m n o : Mark) → IsMarkWithin m o → IsMarkWithin m (joined_mark n o)
+within_right m n o h = grind arith
 
--- ---- what is tried in vain
+-- ---- what a floor covers
 
-pub idle_covered : (net : Network) (s : State) (i : Instance) (r : Bound) → IsOpen net s → conclusion net (the_entries s.entries) i ≡ Some r →
-    is_covered (the_entries s.entries) r ≡ true → IsTaken net s s (step net (the_entries s.entries) i) false
-idle_covered net s i r ready gives covered =
+-- a bound up to a floor is covered, where its label has each label below that of the floor, but for the own mark
+pub under_floor : (net : Network) (s : State) (x : ℕ) (label : Label) (floor : ℤ) (r : Bound) → IsOpen net s → x < count net →
+    IsFloor s.entries x label floor → r.node ≡ x → r.least ≤ℤ floor →
+    ((d : Label) → IsWithin d label → ((q : ℕ) → slice_index_or net.observes x None ≡ Some q → d q ≡ Absent) → IsWithin d r.label) →
+    is_covered (the_entries s.entries) r ≡ true
+under_floor net s x label floor r ready inside (inl ground) at low wide =
     let L = the_entries s.entries in
-    idle net s (step net L i) ready
-    (step_on net L i ready.unrefuted ∙ ap (with_conclusion L i) gives
-    ∙ cond-false _ _ _ (and_right (premises_live L i) (not (is_covered L r)) (ap not covered)))
+    let d = covered_by L (base x) (entries_small s.entries) (ready.kept.based x inside) in
+    covered_at L d.place d.entry r d.there
+    (dominates_through d.entry.bound (base x) r d.dominates (record { node = sym at; least = subst (λ z. r.least ≤ℤ z) ground low; label = λ q. tt }))
+under_floor net s x label floor r ready inside (inr (k, e, there, node, within, least)) at low wide =
+    covered_at (the_entries s.entries) k (the_entry e) r (entry_read s.entries k e there)
+    (record {
+      node = node ∙ sym at;
+      least = subst (λ z. r.least ≤ℤ z) (sym least) low;
+      label = wide (marks e.bound.label) within
+          (λ q own. own_absent net s k e ready there q (ap (λ n. slice_index_or net.observes n None) node ∙ own));
+    })
 
--- the floors stay ones where that of what x observes is replaced
-pub floors_then : (net : Network) (old new : State) (i : Instance) (b : Bound) (x : ℕ) (floors after : List Floor) (floor : Floor) (o : Result Step Full) →
-    IfOk o (λ s. IsTaken net old new (step net (the_entries old.entries) i) (is_refutation s)) →
-    IfOk o (λ r. (p : ℕ) → Observes net x p → IsFloor net (the_entries new.entries) b p floor.least) →
-    AreFloors net (the_entries old.entries) b floors → length after ≡ 52 →
-    ((p : ℕ) → p < 52 → (slice_index_or after p ground_floor ≡ slice_index_or floors p ground_floor)
-    ⊎ (Observes net x p × (slice_index_or after p ground_floor ≡ floor))) →
-    IfOk o (λ r. AreFloors net (the_entries new.entries) b after)
-floors_then net old new i b x floors after floor (Ok r) t f were size each = record {
-  size = size;
-  each = λ p small. elim (each p small) [
-    | inl same ↦
-        subst (λ (z : Floor). IsFloor net (the_entries new.entries) b p z.least) (sym same)
-        (floor_on net (the_entries old.entries) (the_entries new.entries) b p (slice_index_or floors p ground_floor).least (taken_on net old new (i ∷ []) (is_refutation r) t) (were.each p small))
-    | inr set ↦ subst (λ (z : Floor). IsFloor net (the_entries new.entries) b p z.least) (sym set.1) (f p set.0)
-  ];
-}
-floors_then net old new i b x floors after floor (Err e) t f were size each = tt
+least_seen : (a b c : ℤ) → int_min (int_min a b) c ≤ℤ a
+least_seen a b c = omega (arith, ints, clamps)
 
--- a floor that was one of the old list, or raised from it, is one of the new list
-pub floor_rose : (net : Network) (old new : State) (i : Instance) (b : Bound) (x : ℕ) (low high : Floor) (o : Result Step Full) →
-    IfOk o (λ s. IsTaken net old new (step net (the_entries old.entries) i) (is_refutation s)) →
-    ((p : ℕ) → Observes net x p → IsFloor net (the_entries old.entries) b p low.least) →
-    ((p : ℕ) → Observes net x p → IsFloor net (the_entries new.entries) b p low.least → IsFloor net (the_entries new.entries) b p high.least) →
-    IfOk o (λ r. (p : ℕ) → Observes net x p → IsFloor net (the_entries new.entries) b p high.least)
-floor_rose net old new i b x low high (Ok r) t f rose = λ p own.
-    rose p own (floor_on net (the_entries old.entries) (the_entries new.entries) b p low.least (taken_on net old new (i ∷ []) (is_refutation r) t) (f p own))
-floor_rose net old new i b x low high (Err e) t f rose = tt
+least_other : (a b c : ℤ) → int_min (int_min a b) c ≤ℤ b
+least_other a b c = omega (arith, ints, clamps)
 
-pub floors_after : (net : Network) (old new : State) (i : Instance) (b : Bound) (floors : List Floor) (o : Result Step Full) →
-    IfOk o (λ s. IsTaken net old new (step net (the_entries old.entries) i) (is_refutation s)) → AreFloors net (the_entries old.entries) b floors →
-    IfOk o (λ s. s ≡ Open → AreFloors net (the_entries new.entries) b floors)
-floors_after net old new i b floors (Ok r) t f = λ e. floors_on net (the_entries old.entries) (the_entries new.entries) b floors (taken_on net old new (i ∷ []) (is_refutation r) t) f
-floors_after net old new i b floors (Err e) t f = tt
+-- ---- waits that are spent
+
+-- wait of two entries is spent where each conclusion is covered
+wait_spent : (net : Network) (s : State) (i j : ℕ) (e f : Entry) → slice_get s.entries i ≡ Some e → slice_get s.entries j ≡ Some f →
+    ((p : ℕ) (r : Bound) → IsWait net p (the_bound e.bound) (the_bound f.bound) r → is_covered (the_entries s.entries) r ≡ true) → IsSpentWait net s i j
+wait_spent net s i j e f at_i at_j each = λ r gives live.
+    let L = the_entries s.entries in
+    let is : conclusion net L (wait_at i j) ≡ wait_of net (the_bound e.bound) (the_bound f.bound) =
+    ap (λ o. of_two (wait_of net) o (slice_get L j)) (entry_read s.entries i e at_i)
+    ∙ ap (λ o. of_two (wait_of net) (Some (the_entry e)) o) (entry_read s.entries j f at_j) in
+    let w = wait_is net (slice_index_or net.observes e.bound.node.0 None) (the_bound e.bound) (the_bound f.bound) r refl (sym is ∙ gives) in
+    each w.0 r w.1
+
+-- wait of a dead entry is spent
+pub dead_spent : (net : Network) (s : State) (i j : ℕ) → (is_live (the_entries s.entries) i ≡ false) ⊎ (is_live (the_entries s.entries) j ≡ false) → IsSpentWait net s i j
+dead_spent net s i j (inl dead) = λ r gives live.
+    absurd (false≢true (sym dead ∙ (and_parts (is_live (the_entries s.entries) i) (is_live (the_entries s.entries) j) live).0))
+dead_spent net s i j (inr dead) = λ r gives live.
+    absurd (false≢true (sym dead ∙ (and_parts (is_live (the_entries s.entries) i) (is_live (the_entries s.entries) j) live).1))
+
+-- wait of two entries is spent where the second doesn't mark what the first observes
+pub unmarked_spent : (net : Network) (s : State) (i j : ℕ) (e f : Entry) → slice_get s.entries i ≡ Some e → slice_get s.entries j ≡ Some f →
+    ((p : ℕ) → Observes net e.bound.node.0 p → marks f.bound.label p ≡ Absent) → IsSpentWait net s i j
+unmarked_spent net s i j e f at_i at_j none =
+    wait_spent net s i j e f at_i at_j (λ p r w. absurd (w.marked (none p w.observes)))
+
+-- wait of an entry at the observer is spent, where its least value and the reaction are up to a floor of the other's label without
+-- the proposition
+pub seen_spent : (net : Network) (s : State) (i j p : ℕ) (e f : Entry) (floor : ℤ) → IsOpen net s → f.bound.node.0 < count net →
+    slice_get s.entries i ≡ Some e → slice_get s.entries j ≡ Some f → Observes net e.bound.node.0 p →
+    IsFloor s.entries f.bound.node.0 (without (marks f.bound.label) p) floor → (e.bound.least +ℤ pos (net.reaction p)) ≤ℤ floor → IsSpentWait net s i j
+seen_spent net s i j p e f floor ready inside at_i at_j observes is low =
+    wait_spent net s i j e f at_i at_j (λ q r w.
+    let same : q ≡ p = (let a = w.observes.what in let b = observes.what in cc) in
+    let x = f.bound.node.0 in
+    let c = without (marks f.bound.label) q in
+    let low_q : (e.bound.least +ℤ pos (net.reaction q)) ≤ℤ floor = subst (λ n. (e.bound.least +ℤ pos (net.reaction n)) ≤ℤ floor) (sym same) low in
+    let least = least_seen (e.bound.least +ℤ pos (net.reaction q)) f.bound.least (pos (limit net x + 1)) in
+    let upto : int_min (int_min (e.bound.least +ℤ pos (net.reaction q)) f.bound.least) (pos (limit net x + 1)) ≤ℤ floor = omega (arith, ints, least, low_q) in
+    under_floor net s x c floor r ready inside (subst (λ n. IsFloor s.entries x (without (marks f.bound.label) n) floor) (sym same) is)
+    (ap (λ (z : Bound). z.node) w.gives)
+    (subst (λ (z : Bound). z.least ≤ℤ floor) (sym w.gives) upto)
+    (λ d within clean. subst (λ (z : Bound). IsWithin d z.label) (sym w.gives)
+    (within_own (slice_index_or net.observes x None) d (marks e.bound.label) c (λ m. within_right (d m) (marks e.bound.label m) (c m) (within m)) clean)))
+
+-- wait of an entry at the observer and another is spent, where the other's least value, or its own with the reaction, is up to a
+-- floor of its own label at the other's time-point
+pub marking_spent : (net : Network) (s : State) (i j p : ℕ) (e f : Entry) (floor : ℤ) → IsOpen net s → f.bound.node.0 < count net →
+    slice_get s.entries i ≡ Some e → slice_get s.entries j ≡ Some f → Observes net e.bound.node.0 p →
+    IsFloor s.entries f.bound.node.0 (marks e.bound.label) floor →
+    ((e.bound.least +ℤ pos (net.reaction p)) ≤ℤ floor) ⊎ (f.bound.least ≤ℤ floor) → IsSpentWait net s i j
+marking_spent net s i j p e f floor ready inside at_i at_j observes is low =
+    wait_spent net s i j e f at_i at_j (λ q r w.
+    let same : q ≡ p = (let a = w.observes.what in let b = observes.what in cc) in
+    let x = f.bound.node.0 in
+    let c = without (marks f.bound.label) q in
+    let a = e.bound.least +ℤ pos (net.reaction q) in
+    let upto : int_min (int_min a f.bound.least) (pos (limit net x + 1)) ≤ℤ floor = elim low [
+      | inl own ↦
+          let own_q : (e.bound.least +ℤ pos (net.reaction q)) ≤ℤ floor = subst (λ n. (e.bound.least +ℤ pos (net.reaction n)) ≤ℤ floor) (sym same) own in
+          let least = least_seen (e.bound.least +ℤ pos (net.reaction q)) f.bound.least (pos (limit net x + 1)) in
+          omega (arith, ints, least, own_q)
+      | inr other ↦
+          let least = least_other (e.bound.least +ℤ pos (net.reaction q)) f.bound.least (pos (limit net x + 1)) in
+          omega (arith, ints, least, other)
+    ] in
+    under_floor net s x (marks e.bound.label) floor r ready inside is
+    (ap (λ (z : Bound). z.node) w.gives)
+    (subst (λ (z : Bound). z.least ≤ℤ floor) (sym w.gives) upto)
+    (λ d within clean. subst (λ (z : Bound). IsWithin d z.label) (sym w.gives)
+    (within_own (slice_index_or net.observes x None) d (marks e.bound.label) c (λ m. within_left (d m) (marks e.bound.label m) (c m) (within m)) clean)))
+
+-- ---- ranges
+
+pub limit_in_time : (net : Network) → IsWellFormed net → (x : ℕ) → limit net x ≤ most_deadline
+limit_in_time net good zero = omega arith
+limit_in_time net good (suc x) = good.in_time
+
+-- a floor is from 0 to the largest limit + 1
+pub floor_ranged : (net : Network) (s : State) (x : ℕ) (label : Label) (floor : ℤ) → IsWellFormed net → IsOpen net s → IsFloor s.entries x label floor →
+    (pos 0 ≤ℤ floor) × (floor ≤ℤ pos (most_deadline + 1))
+floor_ranged net s x label floor good ready (inl ground) = (omega (arith, ints, ground), omega (arith, ints, ground))
+floor_ranged net s x label floor good ready (inr (k, e, there, node, within, least)) =
+    let r = ready.kept.ranged k (the_entry e) (entry_read s.entries k e there) in
+    let most = limit_in_time net good e.bound.node.0 in
+    (omega (arith, ints, least, r.low), omega (arith, ints, least, r.high, most))
+
+-- ---- cases
+
+-- an integer is above another, or up to it
+pub cases_above : (a b : ℤ) → (a <ℤ b) ⊎ (b ≤ℤ a)
+cases_above a b = elim (cases_Bool (int_lt a b)) [
+  | inl yes' ↦ inl (int_lt-true a b yes')
+  | inr no' ↦ inr (int_lt-false a b no')
+]
+
+-- a label marks a proposition, or it doesn't
+pub cases_marked : (m : Mark) → (m ≡ Absent → ⊥) ⊎ (m ≡ Absent)
+cases_marked Absent = inr refl
+cases_marked Yes = inl (λ e. let f : ⊥ = cc in f)
+cases_marked No = inl (λ e. let f : ⊥ = cc in f)
+cases_marked Unknown = inl (λ e. let f : ⊥ = cc in f)

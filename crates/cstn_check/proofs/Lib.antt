@@ -18,7 +18,6 @@ mod Examples
 pub mod TestLemmas
 pub mod Reading
 pub mod TurnLemmas
-pub mod WalkLemmas
 pub mod Outcomes
 -- Instances that are passed over.
 pub mod Sequences
@@ -26,10 +25,11 @@ pub mod Growing
 pub mod Skips
 pub mod ChainSkips
 pub mod SpentLemmas
+pub mod FloorLemmas
+pub mod SiftLemmas
 -- How many rules are tried.
 pub mod CostLemmas
 pub mod TryLemmas
-pub mod FloorLemmas
 -- Checks and their verdicts.
 pub mod VerdictLemmas
 pub mod Keeping

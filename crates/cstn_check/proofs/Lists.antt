@@ -11,7 +11,6 @@ use Rattle.cstn_rules.specs.Derivations.{Entry}
 use Rattle.cstn_label.specs.Tests.{dominates}
 use Rattle.cstn_check.specs.Growth.{is_covered, is_live, live_bounds}
 use Rattle.cstn_check.proofs.Decided.{true_dominates, dominates_true}
-use Rattle.cstn_label.proofs.MarkLemmas.{mark_within_through}
 use Rattle.cstn_label.proofs.BoundLemmas.{dominates_through, dominates_itself}
 use Rattle.cstn_check.specs.Relations.{AreOnLetters}
 

@@ -1,13 +1,13 @@
 -- The last entry of a list with its ancestors, as steps of a refutation.
-use Rattle.std.proofs.Common.{ℕ, zero, suc, ◌≡◌, ◌-◌, ◌<◌, ◌≤◌, List, length, get_or, Some, arith, sym, subst, ap, ◌∙◌}
+use Rattle.std.proofs.Common.{ℕ, ◌≡◌, ◌-◌, ◌<◌, ◌≤◌, List, length, get_or, Some, arith, sym, subst, ap, ◌∙◌}
 use Rattle.std.specs.Prelude.{slice_get}
 use Rattle.std.specs.List.{All}
 use Rattle.std.proofs.lemmas.Int.{ints}
 use Rattle.std.proofs.lemmas.List.{length-map}
 use Rattle.std.proofs.lemmas.Option.{slice_get_within, slice_get-get_or}
 use Rattle.cstn_label.specs.Bounds.{Bound}
-use Rattle.cstn_net.specs.Limits.{most_deadline, most_load}
-use Rattle.cstn_net.specs.Networks.{Network, IsWellFormed, count, limit}
+use Rattle.cstn_net.specs.Limits.{most_load}
+use Rattle.cstn_net.specs.Networks.{Network, IsWellFormed, count}
 use Rattle.cstn_rules.specs.declared.entries.Entry.{Entry as DeclaredEntry}
 use Rattle.cstn_rules.specs.Derivations.{Entry, IsRefutation}
 use Rattle.cstn_rules.specs.Read.{the_entry}
@@ -21,6 +21,7 @@ use Rattle.cstn_check.specs.Growth.{log_of}
 use Rattle.cstn_check.specs.Kept.{IsKept, IsRanged}
 use Rattle.cstn_check.specs.Turns.{LastRefutes}
 use Rattle.cstn_check.proofs.Decides.{log_derived}
+use Rattle.cstn_check.proofs.FloorLemmas.{limit_in_time}
 use Rattle.cstn_check.proofs.GoodLemmas.{good_at}
 use Rattle.cstn_log.proofs.StepLemmas.{entry_read}
 
@@ -44,13 +45,9 @@ part_text net list r refuting load is few =
     record { load_low = omega arith; load_high = omega arith; few = omega arith }
 
 module _ (net : Network) (good : IsWellFormed net) (list : List Entry) (kept : IsKept net list) where
-  limit_in_time : (x : ℕ) → limit net x ≤ most_deadline
-  limit_in_time zero = omega arith
-  limit_in_time (suc x) = good.in_time
-
   ranged_step : (e : DeclaredEntry) → IsRanged net (the_entry e).bound → IsStep e
   ranged_step e r =
-      let most = limit_in_time e.bound.node.0 in
+      let most = limit_in_time net good e.bound.node.0 in
       let low = r.low in
       let high = r.high in
       record { low = low; high = omega (arith, ints) }

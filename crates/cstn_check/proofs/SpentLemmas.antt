@@ -15,6 +15,7 @@ use Rattle.cstn_check.specs.Growth.Instance.{chain_at, wait_at}
 use Rattle.cstn_check.specs.Kept.{IsKept}
 use Rattle.cstn_check.specs.Spent.{IsSpent, AreSpent, is_fresh, fresh_count}
 use Rattle.cstn_check.specs.Turns.{IsOpen, IsTaken}
+use Rattle.cstn_check.specs.Waits.{IsSpentWait}
 use Rattle.cstn_check.proofs.Lists.{Extends}
 use Rattle.cstn_check.proofs.Grows.{has_left, has_right, spent_kept, tried_extends, all_spent}
 use Rattle.cstn_check.proofs.Closes.{has_chain, has_waits}
@@ -76,6 +77,18 @@ waits_spent net s fresh n j ready are low =
       spent_idle net L (wait_at j k) (are.waits j k low (omega (arith, upto, low))),
     )) in
     idle net s (tried net L (waits_below (j + 1) j)) ready (sym same)
+
+-- a turn's waits go on at the next place, where the waits of those between are spent
+pub waits_to : (net : Network) (old new : State) (j i r : ℕ) → i ≤ r → ((k : ℕ) → i ≤ k → k < r → IsSpentWait net new k j × IsSpentWait net new j k) →
+    IsTaken net old new (tried net (the_entries old.entries) (waits_below i j)) false →
+    IsTaken net old new (tried net (the_entries old.entries) (waits_below r j)) false
+waits_to net old new j i r upto spent t =
+    let M = the_entries new.entries in
+    let is = waits_passed net (the_entries old.entries) M j i r upto t.entries (λ k low high. (
+      spent_idle net M (wait_at k j) (spent k low high).0,
+      spent_idle net M (wait_at j k) (spent k low high).1,
+    )) in
+    record { entries = is; refuted_is = t.refuted_is ∙ ap (is_refuted net) (sym t.entries ∙ is); longer = t.longer }
 
 -- once a list is grown, each instance is spent
 pub grown_spent : (net : Network) (list : List Entry) (fresh : List ℕ) → IsWellFormed net → IsKept net list → is_refuted net (grow net list) ≡ false → AreSpent net (grow net list) fresh (length (grow net list))

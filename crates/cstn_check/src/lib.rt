@@ -15,11 +15,11 @@ mod puts;
 mod room;
 mod search;
 mod search_laws;
+mod sifting;
 mod steps;
 mod turns;
 mod verdicts;
 mod waits;
-mod walks;
 
 pub use checks::Check;
 pub use deadlines::logs_hold_lower_ones;

@@ -6,7 +6,7 @@ ghost use Rattle.cstn_net.specs.Read.{the_network};
 ghost use Rattle.cstn_rules.specs.Rules.{Refutes};
 ghost use Rattle.cstn_rules.specs.Derivations.{Follows};
 ghost use Rattle.cstn_rules.specs.Read.{the_entry};
-ghost use Rattle.cstn_log.specs.Entries.{the_entries, IsCoveredBy};
+ghost use Rattle.cstn_log.specs.Entries.{the_entries};
 ghost use Rattle.cstn_check.specs.Growth.{is_covered};
 ghost use Rattle.cstn_check.specs.Turns.{IsOpen, IsTaken, IsCut};
 ghost use Rattle.cstn_check.specs.Steps.{is_refutation};
@@ -18,9 +18,8 @@ use cstn_net::Network;
 use cstn_pool::Full;
 use cstn_rules::{Entry, refutes};
 
-// Puts a conclusion at the end of the list, where no entry dominates it. The entry at `near` is the first that is asked, and
-// `near` becomes the place of the one that dominates it.
-pub fn put(net: &Network, log: &mut Log, e: Entry, near: &mut u32) -> Result<Step, Full>
+// Puts a conclusion at the end of the list, where no entry dominates it.
+pub fn put(net: &Network, log: &mut Log, e: Entry) -> Result<Step, Full>
     requires ready { IsOpen (the_network net.now) log.old }
     requires follows { Follows (the_network net.now) (the_entries log.old.entries) (length log.old.entries) e.why (the_bound e.bound) }
     requires node { e.bound.node.0 < count (the_network net.now) }
@@ -30,8 +29,9 @@ pub fn put(net: &Network, log: &mut Log, e: Entry, near: &mut u32) -> Result<Ste
     ensures cut { IsErr result → IsCut log.old log.new
         (cond (is_covered (the_entries log.old.entries) (the_bound e.bound)) (the_entries log.old.entries)
         (the_entries log.old.entries ++ the_entry e ∷ [])) }
+    ensures agenda { log.new.agenda ≡ log.old.agenda }
 {
-    if covers(log, &e.bound, near) {
+    if log.covered(&e.bound) {
         return Ok(Step::Open);
     }
     log.push(net, e)?;
@@ -48,30 +48,4 @@ fn step_to(net: &Network, b: &Bound) -> Step
     } else {
         Step::Open
     }
-}
-
-// Whether some entry dominates the bound. The one at `near` is asked first, and `near` becomes the place of one that is found.
-fn covers(log: &Log, b: &Bound, near: &mut u32) -> bool
-    ensures covered { IsTrue result ↔ IsCoveredBy log.now.entries b.now }
-{
-    if is_over(log, *near, b) {
-        return true;
-    }
-    match log.cover(b) {
-        Some(place) => {
-            *near = place;
-            true
-        }
-        None => false,
-    }
-}
-
-// Whether there is an entry at the place, and it dominates the bound.
-fn is_over(log: &Log, place: u32, b: &Bound) -> bool
-    ensures covered { IsTrue result → IsCoveredBy log.now.entries b.now }
-{
-    if log.len() <= place {
-        return false;
-    }
-    log.bound(place).dominates(b)
 }

@@ -48,8 +48,7 @@ fn try_chain(
         constraint: c.id,
         premise: j,
     };
-    let mut near = j;
-    put(net, log, Entry { bound, why }, &mut near)
+    put(net, log, Entry { bound, why })
 }
 
 // Does nothing. A constraint of a network in memory stands for one of the network that the definitions speak of.

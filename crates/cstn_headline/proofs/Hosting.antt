@@ -2,6 +2,7 @@
 use Rattle.std.proofs.Common.{◌≡◌, ◌∙◌, ◌<◌, ◌≤◌, ◌+◌, ℕ, zero, suc, refl, ap, sym, subst, inl, inr, arith}
 use Rattle.std.specs.Prelude.{Option, None, Some}
 use Rattle.std.proofs.lemmas.Bool.{cases_lt}
+use Rattle.std.proofs.lemmas.Option.{same_Some}
 use Rattle.std.specs.Option.{option_map}
 use Rattle.cstn_run.specs.hosted.Sessions.{HostSession, case_of, due_in, or_later, due_from, unfinished}
 use Rattle.cstn_run.proofs.hosts.Endings.{begins}
@@ -38,8 +39,9 @@ first_from session (suc n) from id due found = by_due (due_at session from) refl
     by_due : (o : Option ℕ) → due_at session from ≡ o → or_later (option_map (λ t. (from, t)) o) (due_from session (from + 1) n) ≡ Some (id, due) →
         (due_from session (from + 1) n ≡ Some (id, due) → IsFirst session (from + 1) n id due) → IsFirst session from (suc n) id due
     by_due (Some t) is found' later =
-        let same : from ≡ id = cc in
-        let moment : t ≡ due = cc in
+        let pair : ◌≡◌ {A = ℕ × ℕ} (from, t) (id, due) = same_Some (from, t) (id, due) found' in
+        let same : from ≡ id = ap (λ (p : ℕ × ℕ). p.0) pair in
+        let moment : t ≡ due = ap (λ (p : ℕ × ℕ). p.1) pair in
         record {
           above = omega (arith, same);
           below = omega (arith, same);

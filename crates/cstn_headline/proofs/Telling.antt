@@ -49,10 +49,10 @@ network_told answer bytes deadline live said telling each output = by_said (docu
 -- ---- verdicts
 
 -- what an outcome tells, where it is one of three
-pub verdict_told : (yes no full : Type 0) (o : Outcome) → ((o ≡ Good) × yes) ⊎ (((o ≡ Bad) × no) ⊎ ((o ≡ Full) × full)) → Tells (by_verdict yes no full) o
-verdict_told yes no full o (inl is) = subst (Tells (by_verdict yes no full)) (sym is.0) is.1
-verdict_told yes no full o (inr (inl is)) = subst (Tells (by_verdict yes no full)) (sym is.0) is.1
-verdict_told yes no full o (inr (inr is)) = subst (Tells (by_verdict yes no full)) (sym is.0) is.1
+pub verdict_told : (holds fails long : Type 0) (o : Outcome) → ((o ≡ Good) × holds) ⊎ (((o ≡ Bad) × fails) ⊎ ((o ≡ Full) × long)) → Tells (by_verdict holds fails long) o
+verdict_told holds fails long o (inl is) = subst (Tells (by_verdict holds fails long)) (sym is.0) is.1
+verdict_told holds fails long o (inr (inl is)) = subst (Tells (by_verdict holds fails long)) (sym is.0) is.1
+verdict_told holds fails long o (inr (inr is)) = subst (Tells (by_verdict holds fails long)) (sym is.0) is.1
 
 pub check_told : (right wrong off : Type 0) (o : Outcome) → ((o ≡ Good) × right) ⊎ (((o ≡ Bad) × wrong) ⊎ ((o ≡ Script) × off)) → Tells (by_check right wrong off) o
 check_told right wrong off o (inl is) = subst (Tells (by_check right wrong off)) (sym is.0) is.1
@@ -96,13 +96,13 @@ labelled_judged no_text cap names m after_yes live said of capped output = by_ju
     by_judged (inr (inr is)) = inr (inr is)
 
 -- what a verdict on a labelled network tells, where more is told after yes
-pub after_verdict : NoAccepted → (cap : ℕ) (names : List (List ℕ)) (m : Labelled) (yes_said : Said) (live : List ℕ) (said : Said) (yes no : Type 0) → IsOfLabelled names m → cap ≤ most_load →
-    (IsLabelledYes cap m → said ≡ yes_said → yes) → (IsLabelledNo cap m → IsNoText names (lowered m) said.text → no) → yes_said.outcome ≡ Good →
-    IsOutput (on_verdict cap names (lowered m) (says yes_said) (verdict cap (lowered m))) live said → Tells (by_verdict yes no (cap < load_of (lowered m))) said.outcome
-after_verdict no_text cap names m yes_said live said yes no of capped on_yes on_no good output =
-    verdict_told yes no (cap < load_of (lowered m)) said.outcome (by_judged (labelled_judged no_text cap names m (says yes_said) live said of capped output))
+pub after_verdict : NoAccepted → (cap : ℕ) (names : List (List ℕ)) (m : Labelled) (yes_said : Said) (live : List ℕ) (said : Said) (holds fails : Type 0) → IsOfLabelled names m → cap ≤ most_load →
+    (IsLabelledYes cap m → said ≡ yes_said → holds) → (IsLabelledNo cap m → IsNoText names (lowered m) said.text → fails) → yes_said.outcome ≡ Good →
+    IsOutput (on_verdict cap names (lowered m) (says yes_said) (verdict cap (lowered m))) live said → Tells (by_verdict holds fails (cap < load_of (lowered m))) said.outcome
+after_verdict no_text cap names m yes_said live said holds fails of capped on_yes on_no good output =
+    verdict_told holds fails (cap < load_of (lowered m)) said.outcome (by_judged (labelled_judged no_text cap names m (says yes_said) live said of capped output))
   where
-    by_judged : LabelledJudged cap names m (said ≡ yes_said) said → ((said.outcome ≡ Good) × yes) ⊎ (((said.outcome ≡ Bad) × no) ⊎ ((said.outcome ≡ Full) × (cap < load_of (lowered m))))
+    by_judged : LabelledJudged cap names m (said ≡ yes_said) said → ((said.outcome ≡ Good) × holds) ⊎ (((said.outcome ≡ Bad) × fails) ⊎ ((said.outcome ≡ Full) × (cap < load_of (lowered m))))
     by_judged (inl is) = inl (ap (λ (s : Said). s.outcome) is.1 ∙ good, on_yes is.0 is.1)
     by_judged (inr (inl is)) = inr (inl (is.0, on_no is.1.0 is.1.1))
     by_judged (inr (inr is)) = inr (inr is)

@@ -28,7 +28,7 @@ Tells telling Wide = telling.wide
 
 -- a verdict: yes, no, or that a log is too long
 abbrev pub by_verdict : Type 0 → Type 0 → Type 0 → Telling
-by_verdict yes no full = record { good = yes; bad = no; full = full; unfinished = ⊥; script = ⊥; wide = ⊥ }
+by_verdict holds fails long = record { good = holds; bad = fails; full = long; unfinished = ⊥; script = ⊥; wide = ⊥ }
 
 -- a check of a text: it is right, it is wrong, or it is none of its grammar
 abbrev pub by_check : Type 0 → Type 0 → Type 0 → Telling

@@ -1,22 +1,14 @@
 -- Words as sets of their bits.
-use Rattle.std.proofs.Common.{ℕ, ◌≡◌, inl, inr, ◌+◌, ◌-◌, ◌*◌, ◌/◌, ◌%◌, ◌^◌, ◌<◌, ◌≤◌, max, true, false, ◌||◌, eqb, arith, sym, subst, ap, ◌∙◌, bit_and, bit_or, w64}
+use Rattle.std.proofs.Common.{ℕ, ◌≡◌, inl, inr, ◌+◌, ◌-◌, ◌*◌, ◌/◌, ◌%◌, ◌^◌, ◌<◌, ◌≤◌, true, false, eqb, arith, sym, subst, ap, ◌∙◌, bit_and, bit_or, w64}
 use Rattle.std.specs.Int.{bit_at, bit_not, trailing_zeros}
 use Rattle.std.proofs.Math.Nat.{div-le_self, div-div-eq-div-mul}
 use Rattle.std.proofs.lemmas.Nat.{pow-add}
 use Rattle.std.proofs.lemmas.Bool.{cases_lt, eq-eqb}
-use Rattle.std.proofs.lemmas.Bool.Decides.{nat_tests}
-use Rattle.std.proofs.lemmas.Nat.Bits.{bit_at-zero, bit_at_above, bit_at-trailing_zeros, bit_at_set_same, bit_at_set_other, bit_at_clear_same, bit_at_clear_other, bit_at_or, bit_at-lt}
+use Rattle.std.proofs.lemmas.Nat.Bits.{bit_at-zero, bit_at_above, bit_at-trailing_zeros, bit_at_set_same, bit_at_set_other, bit_at_clear_same, bit_at_clear_other}
 use Rattle.cstn_label.specs.Words.{has_bit}
 
 pub none_in_zero : (i : ℕ) → has_bit 0 i ≡ false
 none_in_zero i = ap (λ n. eqb n 1) (bit_at-zero i)
-
-greater_bit : (a b : ℕ) → a < 2 → b < 2 → eqb (max a b) 1 ≡ (eqb a 1 || eqb b 1)
-greater_bit a b h k = grind (arith, nat_tests)
-
--- two words joined have the bits of both
-pub has_bit_or : (a b i : ℕ) → has_bit (bit_or a b) i ≡ (has_bit a i || has_bit b i)
-has_bit_or a b i = ap (λ n. eqb n 1) (bit_at_or a b i) ∙ greater_bit (bit_at a i) (bit_at b i) (bit_at-lt a i) (bit_at-lt b i)
 
 -- `word | 1 << i` has bit i, and the other bits of the word
 pub set_here : (word i : ℕ) → i < 64 → has_bit (bit_or word (1 * 2 ^ i % 2 ^ 64)) i ≡ true

@@ -1,10 +1,10 @@
 -- Sets of numbers below 4,096 and the words that have them.
-use Rattle.std.proofs.Common.{ℕ, zero, ◌≡◌, ◌⊎◌, inl, inr, ◌/◌, ◌%◌, ◌<◌, true, false, List, get_or, set, replicate, arith, sym, subst, ap, ◌∙◌, length-set, bit_or, length}
-use Rattle.std.proofs.lemmas.Bool.{cases_lt, false≢true, or_left, or_right}
+use Rattle.std.proofs.Common.{ℕ, zero, suc, ◌≡◌, ◌⊎◌, inl, inr, ◌/◌, ◌%◌, ◌+◌, ◌<◌, ◌≤◌, Bool, true, false, List, get_or, set, replicate, arith, refl, sym, cond, subst, ap, ◌∙◌, length-set}
+use Rattle.std.proofs.lemmas.Bool.{cases_eq, cases_lt, false≢true}
 use Rattle.std.proofs.lemmas.List.{get_or-replicate, get_or_past, length-replicate, get_or-set_same, get_or-set_other}
 use Rattle.cstn_label.specs.Words.{has_bit}
 use Rattle.cstn_log.specs.Blocks.{has_number, AreSummed}
-use Rattle.cstn_log.proofs.BitLemmas.{none_in_zero, has_bit_or}
+use Rattle.cstn_log.proofs.BitLemmas.{none_in_zero}
 use Rattle.cstn_log.proofs.ListLemmas.{cases_same}
 
 zero_at : (n k : ℕ) → get_or (replicate n zero) k zero ≡ zero
@@ -55,24 +55,36 @@ set_summed rows new row word words inside was others this = record {
     other : (r : ℕ) → (r ≡ row → ⊥) → get_or (set words row word) r 0 ≡ get_or words r 0
     other r ne = get_or-set_other words row r word 0 ne
 
--- a word is put into a row, beside the bits that are there
-module _ (row word : ℕ) (old new : List ℕ) (inside : row < length old) (is : new ≡ set old row (bit_or (get_or old row 0) word)) where
-  row_is : get_or new row 0 ≡ bit_or (get_or old row 0) word
-  row_is = ap (λ l. get_or l row 0) is ∙ get_or-set_same old row (bit_or (get_or old row 0) word) 0 inside
+one_if : Bool → ℕ
+one_if b = cond b 1 0
 
-  pub or_kept : (k : ℕ) → has_number old k ≡ true → has_number new k ≡ true
-  or_kept k has = elim (cases_same (k / 64) row) [
-    | inl at ↦
-        ap (λ r. has_bit (get_or new r 0) (k % 64)) at ∙ ap (λ w. has_bit w (k % 64)) row_is ∙ has_bit_or (get_or old row 0) word (k % 64)
-        ∙ or_left (has_bit (get_or old row 0) (k % 64)) (has_bit word (k % 64)) (ap (λ r. has_bit (get_or old r 0) (k % 64)) (sym at) ∙ has)
-    | inr ne ↦
-        ap (λ w. has_bit w (k % 64)) (ap (λ l. get_or l (k / 64) 0) is ∙ get_or-set_other old row (k / 64) (bit_or (get_or old row 0) word) 0 ne) ∙ has
+-- how many numbers below n a set has
+pub count_below : List ℕ → ℕ → ℕ
+count_below words zero = 0
+count_below words (suc n) = count_below words n + one_if (has_number words n)
+
+-- a set that lost one number has one fewer
+module _ (old new : List ℕ) (k : ℕ) (had : has_number old k ≡ true) (gone : has_number new k ≡ false)
+    (others : (m : ℕ) → (m ≡ k → ⊥) → has_number new m ≡ has_number old m) where
+  same_below : (n : ℕ) → n ≤ k → count_below new n ≡ count_below old n
+  unfolding count_below
+  same_below zero upto = refl
+  same_below (suc n) upto =
+      let rest = same_below n (omega (arith, upto)) in
+      let last = ap one_if (others n (λ same. let f : ⊥ = omega (arith, upto, same) in f)) in
+      omega (arith, rest, last)
+
+  pub fewer_below : (n : ℕ) → k < n → count_below new n < count_below old n
+  unfolding count_below one_if
+  fewer_below zero inside = absurd (omega (arith, inside))
+  fewer_below (suc n) inside = elim (cases_eq n k) [
+    | inl same ↦
+        let rest = same_below n (omega (arith, same)) in
+        let off : one_if (has_number new n) ≡ 0 = ap one_if (ap (has_number new) same ∙ gone) in
+        let on : one_if (has_number old n) ≡ 1 = ap one_if (ap (has_number old) same ∙ had) in
+        omega (arith, rest, off, on)
+    | inr other ↦
+        let rest = fewer_below n (omega (arith, inside, other)) in
+        let last = ap one_if (others n other) in
+        omega (arith, rest, last)
   ]
-
-  pub or_added : (k : ℕ) → k / 64 ≡ row → has_bit word (k % 64) ≡ true → has_number new k ≡ true
-  or_added k at has =
-      ap (λ r. has_bit (get_or new r 0) (k % 64)) at ∙ ap (λ w. has_bit w (k % 64)) row_is ∙ has_bit_or (get_or old row 0) word (k % 64)
-      ∙ or_right (has_bit (get_or old row 0) (k % 64)) (has_bit word (k % 64)) has
-
-pub or_bit : (a b i : ℕ) → has_bit b i ≡ true → has_bit (bit_or a b) i ≡ true
-or_bit a b i has = has_bit_or a b i ∙ or_right (has_bit a i) (has_bit b i) has

@@ -1,16 +1,18 @@
 -- What a log keeps.
 use Rattle.std.proofs.Common.{◌≡◌, ◌≢◌, inl, inr, ℕ, zero, suc, ◌<◌, ◌≤◌, List, [], ◌∷◌, length, get_or, replicate, Bool, true, false, nat_eq, refl, ap, sym, ◌∙◌, subst, arith}
-use Rattle.std.specs.Prelude.{Option, None, Some, IfSome, IfNone, IsTrue, ◌↔◌, is_some, slice_get, count_by, if◌then◌else◌}
+use Rattle.std.specs.Prelude.{ℤ, Option, None, Some, IfSome, IfNone, IsTrue, ◌↔◌, is_some, slice_get, count_by, if◌then◌else◌}
 use Rattle.std.proofs.lemmas.List.{length-replicate}
 use Rattle.std.proofs.lemmas.Bool.{cases_lt, cases_Bool}
-use Rattle.std.proofs.lemmas.Option.{none-some, same_Some, slice_get-get_or}
+use Rattle.std.proofs.lemmas.Option.{none-some, same_Some, slice_get-get_or, slice_get_within}
 use Rattle.std.proofs.lemmas.List.Sums.{count_by-le-length}
 use Rattle.cstn_label.specs.declared.bounds.Bound.{Bound}
+use Rattle.cstn_label.specs.Labels.{Label, IsWithin}
+use Rattle.cstn_label.specs.Read.{marks}
 use Rattle.cstn_rules.specs.declared.entries.Entry.{Entry}
 use Rattle.cstn_pool.specs.declared.slot_id.SlotId.{SlotId}
 use Rattle.cstn_pool.specs.Slots.{value_at}
 use Rattle.cstn_minset.specs.Sets.{Entries, IsThere, IsOver, IsCovered}
-use Rattle.cstn_log.specs.Entries.{HasId, IsBoundAt, IsDominator, IsCoveredBy, IsLive}
+use Rattle.cstn_log.specs.Entries.{HasId, HasLeast, IsBoundAt, IsDominator, IsCoveredBy, IsLive}
 use Rattle.cstn_log.specs.Kept.{IsKept, IsPooled, IsTabled}
 
 -- no id has an empty slot
@@ -154,3 +156,27 @@ kept_empty cap births nodes = record {
   fresh = record { none_over = λ j k e f less there also over. absurd (none-some e there) };
   inside = λ k e there. absurd (none-some e there);
 }
+
+-- ---- what the minimal set tells of the entries
+
+-- a least value that the minimal set has, the list has
+pub least_there : (table : Entries) (entries : List Entry) (ids : List SlotId) (x : ℕ) (label : Label) (least : ℤ) → IsTabled table entries ids →
+    (slot : ℕ) × (b : ℕ × Bound) × (get_or table slot None ≡ Some b) × (b.1.node.0 ≡ x) × IsWithin (marks b.1.label) label × (b.1.least ≡ least) → HasLeast entries x label least
+least_there table entries ids x label least is (slot, b, there, at, within, value) =
+    let f = is.placed slot b there in
+    (f.0, f.1, f.3, ap (λ (z : Bound). z.node.0) f.5 ∙ at, subst (λ (z : Bound). IsWithin (marks z.label) label) (sym f.5) within, ap (λ (z : Bound). z.least) f.5 ∙ value)
+
+-- each place has an id
+id_there : (ids : List SlotId) (k : ℕ) → k < length ids → (id : SlotId) × (slice_get ids k ≡ Some id)
+id_there [] k h = absurd (omega (arith, h))
+id_there (x ∷ xs) zero h = (x, refl)
+id_there (x ∷ xs) (suc k) h = id_there xs k (omega (arith, h))
+
+-- a live entry is in the minimal set
+pub placed_live : (slots : List (Option (ℕ × Entry))) (births : ℕ) (table : Entries) (entries : List Entry) (ids : List SlotId) (nodes k : ℕ) (e : Entry) →
+    IsKept slots births table entries ids nodes → slice_get entries k ≡ Some e → IsLive entries k →
+    (id : SlotId) × (slice_get ids k ≡ Some id) × (get_or table id.slot None ≡ Some (id.birth, e.bound))
+placed_live slots births table entries ids nodes k e is there live =
+    let inside = slice_get_within entries k e there in
+    let id = id_there ids k (omega (arith, inside, is.size)) in
+    (id.0, id.1, is.tabled.live k id.0 e id.1 there live)

@@ -5,7 +5,7 @@ pub mod ChoiceLemmas
 -- A log that grows.
 pub mod LiveLemmas
 mod BlockLemmas
-pub mod PlaceSetLemmas
+mod AgendaLemmas
 pub mod KeptLemmas
 pub mod PushLemmas
 -- Its entries as a derivation.

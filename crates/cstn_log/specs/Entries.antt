@@ -1,6 +1,8 @@
 -- Lists of entries.
-use Rattle.std.specs.Prelude.{◌≡◌, ℕ, zero, suc, ◌<◌, ◌≤◌, List, [], ◌∷◌, ◌++◌, map, Some, nat_lt, slice_get, if◌then◌else◌}
+use Rattle.std.specs.Prelude.{◌≡◌, ℕ, ℤ, zero, suc, ◌<◌, ◌≤◌, List, [], ◌∷◌, ◌++◌, map, Some, nat_lt, slice_get, if◌then◌else◌}
 use Rattle.cstn_label.specs.declared.bounds.Bound.{Bound}
+use Rattle.cstn_label.specs.Labels.{Label, IsWithin}
+use Rattle.cstn_label.specs.Read.{marks}
 use Rattle.cstn_net.specs.Networks.{Network, count}
 use Rattle.cstn_rules.specs.declared.entries.Entry.{Entry}
 use Rattle.cstn_rules.specs.declared.entries.Why.TheVariants.{Base}
@@ -11,13 +13,14 @@ use Rattle.cstn_pool.specs.declared.slot_id.SlotId.{SlotId}
 use Rattle.cstn_minset.specs.Sets.{IsOver}
 
 -- what contracts see of a log: its entries with their ids in the pool, how many births the pool has given, how many entries
--- there may be, and the number of time-points
+-- there may be, the number of time-points, and the places on its agenda
 pub record State : Type 0 where
   pub entries : List Entry
   pub ids : List SlotId
   pub births : ℕ
   pub cap : ℕ
   pub nodes : ℕ
+  pub agenda : List (List ℕ)
 
 -- one of the ids is this one
 abbrev pub HasId : List SlotId → SlotId → Type 0
@@ -44,6 +47,11 @@ IsDominator entries k b = (over : Bound) × IsBoundAt entries k over × IsOver o
 -- some entry dominates the bound
 abbrev pub IsCoveredBy : List Entry → Bound → Type 0
 IsCoveredBy entries b = (k : ℕ) × (e : Entry) × (slice_get entries k ≡ Some e) × IsOver e.bound b
+
+-- some entry at the time-point, whose label is within this one, has this least value
+abbrev pub HasLeast : List Entry → ℕ → Label → ℤ → Type 0
+HasLeast entries x label least = (k : ℕ) × (e : Entry) × (slice_get entries k ≡ Some e) × (e.bound.node.0 ≡ x) × IsWithin (marks e.bound.label) label
+    × (e.bound.least ≡ least)
 
 -- an entry is live while no later one dominates it
 pub record IsLive (entries : List Entry) (k : ℕ) : Type 0 where

@@ -1,5 +1,5 @@
 -- How a log keeps its entries.
-use Rattle.std.specs.Prelude.{◌≡◌, ◌⊎◌, ℕ, ◌<◌, ◌≤◌, ◌+◌, ◌*◌, ◌/◌, Bool, true, false, List, length, map, Option, None, Some, slice_get, slice_index_or}
+use Rattle.std.specs.Prelude.{◌≡◌, ◌⊎◌, ℕ, ◌<◌, ◌≤◌, ◌+◌, Bool, true, false, List, length, map, Option, None, Some, slice_get, slice_index_or}
 use Rattle.cstn_label.specs.declared.bounds.Bound.{Bound}
 use Rattle.cstn_net.specs.Limits.{most_load}
 use Rattle.cstn_rules.specs.declared.entries.Entry.{Entry}
@@ -8,9 +8,6 @@ use Rattle.cstn_pool.specs.Slots.{live_of}
 use Rattle.cstn_minset.specs.Sets.{Entries, IsPlaced, IsCovered}
 use Rattle.cstn_log.specs.Entries.{IsCoveredBy, IsLive, AllNew}
 use Rattle.cstn_log.specs.Cuts.{is_marked, rank, renumbered, replaced}
-use Rattle.cstn_label.specs.declared.props.Prop.{Prop}
-use Rattle.cstn_log.specs.declared.sets.PlaceSets.{PlaceSets}
-use Rattle.cstn_log.specs.PlaceSets.{AreMarked, AreStanding}
 
 -- the entry with its premises at the new places, where its list is cut to the marked places
 abbrev pub renewed : List Bool → Entry → Entry
@@ -65,34 +62,22 @@ pub record AreLeft (marks : List Bool) (ids : List SlotId) (n : ℕ) (old new : 
   pub gone : (k : ℕ) (id : SlotId) → k < n → slice_get ids k ≡ Some id → is_marked marks k ≡ false → slice_index_or new id.slot None ≡ None
   pub count : live_of new + n ≡ live_of old + rank marks n
 
--- the room for a mark of each entry when some are taken out
-pub record IsRoom (cap told marks : ℕ) : Type 0 where
+-- for how many marks, slots and places there is room
+pub record Rooms : Type 0 where
+  pub for_marks : ℕ
+  pub for_slots : ℕ
+  pub for_places : ℕ
+
+-- the room for a mark and a slot of each entry, and for each place
+pub record IsRoom (cap told : ℕ) (rooms : Rooms) : Type 0 where
   pub size : told ≡ cap
-  pub for_marks : cap ≤ marks
+  pub for_marks : cap ≤ rooms.for_marks
+  pub for_slots : cap ≤ rooms.for_slots
+  pub for_places : cap < rooms.for_places
   pub few : cap ≤ most_load
 
--- the room for the blocks of the sets of places
-pub record IsIndexRoom (cap marks stands : ℕ) : Type 0 where
-  pub for_marks : cap / 4096 * 52 + 52 ≤ marks
-  pub for_nodes : cap / 4096 * 52 + 52 ≤ stands
-
--- the sets of the places that mark a proposition, those of the places at a time-point, the proposition of the time-points that
--- have one, and how many blocks there is room for
-pub record IndexParts : Type 0 where
-  pub marking : PlaceSets
-  pub standing : PlaceSets
-  pub watched : List (Option Prop)
-  pub for_marks : ℕ
-  pub for_nodes : ℕ
-
--- the sets have the live places of the entries, and there is room
-pub record IsIndexed (entries : List Entry) (cap : ℕ) (c : IndexParts) : Type 0 where
-  pub marked : AreMarked entries c.marking
-  pub stand : AreStanding c.watched entries c.standing
-  pub room : IsIndexRoom cap c.for_marks c.for_nodes
-
--- the entries are kept, with the sets of their places, and there is room
-pub record IsLog (slots : List (Option (ℕ × Entry))) (births : ℕ) (table : Entries) (entries : List Entry) (ids : List SlotId) (nodes cap for_marks : ℕ) (index : IndexParts) : Type 0 where
+-- the entries are kept, and there is room
+pub record IsLog (slots : List (Option (ℕ × Entry))) (births : ℕ) (table : Entries) (entries : List Entry) (ids : List SlotId)
+    (nodes cap : ℕ) (rooms : Rooms) : Type 0 where
   pub kept : IsKept slots births table entries ids nodes
-  pub room : IsRoom (length slots) cap for_marks
-  pub indexed : IsIndexed entries (length slots) index
+  pub room : IsRoom (length slots) cap rooms

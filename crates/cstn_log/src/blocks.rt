@@ -1,12 +1,14 @@
-//! Sets of numbers below 4,096, as bits. The least number of a set is found in a few steps, and sets are joined a word at a time.
-ghost use Rattle.std.specs.Prelude.{ℕ, ◌≡◌, ◌<◌, ◌+◌, ◌*◌, ◌/◌, ◌≤◌, true, false, length, IfNone, IfSome, set, bit_or, slice_index_or};
-ghost use Rattle.cstn_label.specs.Words.{has_bit};
+// Sets of numbers below 4,096, as bits. The least number of a set is found in a few steps.
+ghost use Rattle.std.specs.Prelude.{ℕ, ◌≡◌, ◌<◌, true, false, IfNone, IfSome};
 ghost use Rattle.cstn_log.specs.Blocks.{has_number};
 
 use crate::bits::{BITS, first_bit_from, with_bit};
 use std::marker::Model;
 
-/// A set of numbers below 4,096.
+// How many numbers there are.
+pub const SIZE: u32 = 4096;
+
+// A set of numbers below 4,096.
 #[derive(Drop)]
 pub struct Block {
     // Bit k % 64 of the word k / 64 tells whether the set has k.
@@ -27,7 +29,7 @@ impl Model for Block {
 }
 
 impl Block {
-    /// The set with no number.
+    // The set with no number.
     pub fn empty() -> Block
         ensures empty { (k : ℕ) → has_number result k ≡ false }
     {
@@ -37,7 +39,7 @@ impl Block {
         }
     }
 
-    /// Puts a number into the set.
+    // Puts a number into the set.
     pub fn insert(&mut self, k: u32)
         requires { k < 4096 }
         ensures here { has_number self.new k ≡ true }
@@ -48,62 +50,7 @@ impl Block {
         self.rows = with_bit(self.rows, row, true);
     }
 
-    /// Puts all numbers below 4,096 into the set.
-    pub fn insert_all(&mut self)
-        ensures all { (k : ℕ) → k < 4096 → has_number self.new k ≡ true }
-        ensures kept { (k : ℕ) → has_number self.old k ≡ true → has_number self.new k ≡ true }
-    {
-        for k in 0..4096 {
-            self.insert(k);
-        }
-    }
-
-    /// Puts the numbers of another set into this one.
-    pub fn add_all(&mut self, other: &Block)
-        ensures kept { (k : ℕ) → has_number self.old k ≡ true → has_number self.new k ≡ true }
-        ensures added { (k : ℕ) → k < 4096 → has_number other.now k ≡ true → has_number self.new k ≡ true }
-    {
-        let mut index = 0;
-        while let Some(row) = other.row_from(index) {
-            self.add_word(row, other.word(row));
-            index = row + 1;
-        }
-    }
-
-    // The first row from `index` on that has a number.
-    fn row_from(&self, index: u32) -> Option<u32>
-        ensures from { IfSome result (λ r. index ≤ r) }
-        ensures small { IfSome result (λ r. r < 64) }
-        ensures some { IfSome result (λ r. (i : ℕ) × (i < 64) × (has_bit (slice_index_or self.now r 0) i ≡ true)) }
-        ensures between { IfSome result (λ r. (k : ℕ) → index ≤ k / 64 → k / 64 < r → has_number self.now k ≡ false) }
-        ensures none { IfNone result ((k : ℕ) → k < 4096 → index ≤ k / 64 → has_number self.now k ≡ false) }
-    {
-        if index >= BITS {
-            return None;
-        }
-        first_bit_from(self.rows, index)
-    }
-
-    // The word of a row.
-    fn word(&self, row: u32) -> u64
-        requires { row < 64 }
-        ensures { result ≡ slice_index_or self.now row 0 }
-    {
-        self.words[row as usize]
-    }
-
-    // Adds the bits of a word, which has one, to a row.
-    fn add_word(&mut self, row: u32, word: u64)
-        requires row { row < 64 }
-        requires some { (i : ℕ) × (i < 64) × (has_bit word i ≡ true) }
-        ensures words { self.new ≡ set self.old row (bit_or (slice_index_or self.old row 0) word) }
-        ensures size { length self.old ≡ 64 }
-    {
-        self.words[row as usize] |= word;
-        self.rows = with_bit(self.rows, row, true);
-    }
-
-    /// Takes the least number out of the set, and answers it; None exactly where the set has none.
+    // Takes the least number out of the set, and answers it; None exactly where the set has none.
     pub fn take_first(&mut self) -> Option<u32>
         ensures here { IfSome result (λ k. has_number self.old k ≡ true) }
         ensures small { IfSome result (λ k. k < 4096) }
@@ -122,8 +69,8 @@ impl Block {
         }
     }
 
-    // The least number of the set.
-    fn first(&self) -> Option<u32>
+    // The least number of the set; None exactly where it has none.
+    pub fn first(&self) -> Option<u32>
         ensures here { IfSome result (λ k. has_number self.now k ≡ true) }
         ensures small { IfSome result (λ k. k < 4096) }
         ensures least { IfSome result (λ k. (m : ℕ) → m < k → has_number self.now m ≡ false) }
@@ -138,7 +85,7 @@ impl Block {
         }
     }
 
-    /// Takes a number out of the set.
+    // Takes a number out of the set.
     pub fn remove(&mut self, k: u32)
         requires { k < 4096 }
         ensures gone { has_number self.new k ≡ false }

@@ -1,6 +1,7 @@
 //! The log: the list of bounds that follow by the rules, in order, each with the rule that gave it.
 #![tactic(auto)]
 
+mod agenda;
 mod bits;
 mod blocks;
 mod caps;
@@ -10,10 +11,7 @@ mod laws;
 mod list;
 mod log;
 mod putting;
-mod sets;
-mod watched;
 
-pub use blocks::Block;
 pub use caps::Cap;
 pub use cuts::{
     cuts_are_derivations, cuts_are_known, dropping_leaves_derivations, parts_are_derivations,

@@ -5,7 +5,7 @@ ghost use Rattle.cstn_net.specs.Limits.{most_load};
 ghost use Rattle.cstn_rules.specs.declared.entries.Entry.{Entry as TheEntry};
 ghost use Rattle.cstn_pool.specs.Slots.{live_of};
 ghost use Rattle.cstn_log.specs.Entries.{HasId, IsBoundAt, the_entries};
-ghost use Rattle.cstn_log.specs.Kept.{AreLeft, AreStored, IsPooled, renewed};
+ghost use Rattle.cstn_log.specs.Kept.{IsIdAt, AreLeft, AreStored, IsPooled, renewed};
 ghost use Rattle.cstn_log.specs.Cuts.{PremisesBelow, AllEarlier, IsClosedUnder, replaced, chosen};
 ghost use Rattle.cstn_log.specs.Lists.{Listing, AreApart, IsFiled, ids_in};
 
@@ -129,6 +129,14 @@ impl EntryList {
             Some(place) if self.is_id(*place, id) => Some(*place),
             _ => None,
         }
+    }
+
+    // The place of the entry in a slot that has one.
+    pub fn place_in(&self, slot: u32) -> u32
+        requires { (birth k : ℕ) × IsIdAt self.now.ids slot birth k }
+        ensures { (birth k : ℕ) → IsIdAt self.now.ids slot birth k → result ≡ k }
+    {
+        self.places[slot as usize]
     }
 
     // Whether the entry at a place has this id.

@@ -1,6 +1,6 @@
-ghost use Rattle.std.specs.Prelude.{List, ◌≡◌, ◌⊎◌, ◌<◌, ◌≤◌, ◌+◌, ◌^◌, ◌++◌, ◌∷◌, [], ◌↔◌, ◌/◌, ◌%◌, ℕ, Some, None, true, false, length, take, IsTrue};
+ghost use Rattle.std.specs.Prelude.{List, ◌≡◌, ◌⊎◌, ◌<◌, ◌≤◌, ◌+◌, ◌^◌, ◌++◌, ◌∷◌, [], ◌↔◌, ◌*◌, pos, ℕ, Some, None, true, false, length, take, IsTrue};
 ghost use Rattle.std.specs.Prelude.{IfNone, IfOk, IfSome, IsErr, IsOk, OnErr, slice_get, slice_index_or};
-ghost use Rattle.cstn_label.specs.Read.{the_bound};
+ghost use Rattle.cstn_label.specs.Read.{the_bound, marks};
 ghost use Rattle.std.specs.List.{Contains};
 ghost use Rattle.cstn_net.specs.Limits.{most_load};
 ghost use Rattle.cstn_net.specs.Networks.{Network as TheNetwork, Constraint, IsNetwork, count};
@@ -9,21 +9,18 @@ ghost use Rattle.cstn_net.specs.Bounds.{HoldsIn};
 ghost use Rattle.cstn_net.specs.Read.{the_network};
 ghost use Rattle.cstn_rules.specs.Rules.{base};
 ghost use Rattle.cstn_rules.specs.Derivations.{Follows, IsDerivation, IsRefutation};
-ghost use Rattle.cstn_minset.specs.Sets.{IsPlaced};
-ghost use Rattle.cstn_log.specs.Entries.{State, HasId, AreBornFrom, the_entries, IsBoundAt, IsDominator, IsCoveredBy, IsLive, AllNew, bases, first_entries};
+ghost use Rattle.cstn_minset.specs.Sets.{IsPlaced, IsSoughtAbove};
+ghost use Rattle.cstn_log.specs.Entries.{State, HasId, AreBornFrom, the_entries, IsBoundAt, IsDominator, IsCoveredBy, IsLive, HasLeast, AllNew, bases, first_entries};
 ghost use Rattle.cstn_log.specs.Cuts.{PremisesBelow, is_marked as is_marked_at, chosen, marked_staying, with_ancestors, last_marked, cut, part, dropped};
 ghost use Rattle.cstn_log.specs.Kept.{IsIdAt, AreStored};
-ghost use Rattle.cstn_label.specs.declared.props.Prop.{Prop as TheProp};
-ghost use Rattle.cstn_log.specs.Blocks.{has_number};
-ghost use Rattle.cstn_log.specs.PlaceSets.{IsMarkedAt, IsAtNode, AreMarked, AreStanding};
+ghost use Rattle.cstn_log.specs.Agendas.{has_place};
+ghost use Rattle.cstn_label.specs.Labels.{IsMarked, without};
 
-use crate::blocks::Block;
+use crate::agenda::Agenda;
 use crate::caps::Cap;
 use crate::cutting::{count_marked, cut, mark_ancestors, mark_staying};
 use crate::list::EntryList;
-use crate::putting::{clear, place_all};
-use crate::sets::PlaceSets;
-use crate::watched::{all_watched, put_all, put_standing, watched_at};
+use crate::putting::{clear, place_all, put_down};
 use cstn_label::{Bound, Label, NodeId, Prop, domination_is_an_order};
 use cstn_minset::MinSet;
 use cstn_net::Network;
@@ -32,51 +29,44 @@ use cstn_rules::{Entry, Why, derivations_are_sound};
 use std::alloc::{AllocError, Global};
 use std::marker::Model;
 
-// How many places may be remembered.
-const HINTS: usize = 16384;
-
 /// Entries in the order in which they were pushed. None is dominated by an earlier one.
 ///
 /// An entry is live while no later one dominates it. A pool has the bound of each entry, and a minimal set those of the live
 /// ones, each under the id that [`Log::slot`] answers. An entry keeps its id while entries before it are taken out, and only
 /// its place changes: premises are kept by slot, and a table tells the place of each. All memory of the log is taken by
-/// [`Log::start`]: 132.5 bytes for each entry that there may be, so 556 MB for the largest cap of 4,194,304, 810 bytes for each
-/// time-point, and 64 KB. Of these, 13.5 bytes an entry are for the sets of places that mark a proposition and of those at its
-/// observer, written only where a set has a place. One more byte an entry is used by [`Log::retract`] alone.
+/// [`Log::start`]: 149.1 bytes for each entry that there may be, so 625 MB for the largest cap of 4,194,304, and 2,440 bytes for each
+/// time-point. Of these, 4 bytes an entry are written only as far as a time-point has live entries, and one byte an entry is used
+/// by [`Log::retract`] alone.
 #[derive(Drop)]
 pub struct Log {
     minimal: MinSet,
     list: EntryList,
-    // The places whose labels mark each proposition, and those at the observer of each.
-    marking: PlaceSets,
-    standing: PlaceSets,
-    // For each time-point the proposition whose set has the places at it, if one has.
-    watched: Vec<Option<Prop>>,
+    // Places that are still to be tried.
+    agenda: Agenda,
+    // Slots that were looked for.
+    found: Vec<u32>,
     // Which entries stay when some are taken out.
     marks: Vec<bool>,
-    // Places that were remembered. No answer of another call depends on them.
-    hints: Vec<u32>,
 }
 
 impl Model for Log {
-    ghost use Rattle.std.specs.Prelude.{vec_capacity};
+    ghost use Rattle.std.specs.Prelude.{◌*◌, length, vec_capacity};
     ghost use Rattle.cstn_log.specs.Entries.{State};
     ghost use Rattle.cstn_log.specs.Kept.{IsLog};
-    ghost use Rattle.cstn_log.specs.PlaceSets.{room_of};
 
     ghost Value = { State };
 
-    ghost view = { λ l. record { entries = l.list.entries; ids = l.list.ids; births = l.list.pool.births; cap = l.list.cap; nodes = l.minimal.nodes } };
+    ghost view = { λ l. record {
+      entries = l.list.entries;
+      ids = l.list.ids;
+      births = l.list.pool.births;
+      cap = l.list.cap;
+      nodes = l.minimal.nodes;
+      agenda = l.agenda;
+    } };
 
     ghost invariant = { λ l. IsLog l.list.pool.slots l.list.pool.births l.minimal.table l.list.entries l.list.ids l.minimal.nodes
-        l.list.cap (vec_capacity l.marks)
-        (record {
-          marking = l.marking;
-          standing = l.standing;
-          watched = l.watched.items;
-          for_marks = room_of l.marking;
-          for_nodes = room_of l.standing;
-        }) };
+        l.list.cap (record { for_marks = vec_capacity l.marks; for_slots = vec_capacity l.found; for_places = 4096 * length l.agenda }) };
 }
 
 impl Log {
@@ -89,8 +79,7 @@ impl Log {
         ensures derivation { IfOk result (λ log. IsDerivation (the_network net.now) (the_entries log.entries)) }
     {
         let nodes = net.count();
-        let watched = all_watched(alloc, net)?;
-        let mut log = Log::empty(alloc, nodes, cap, watched)?;
+        let mut log = Log::empty(alloc, nodes, cap)?;
         if nodes as u32 <= cap.entries {
             log.push_bases(net);
         }
@@ -98,28 +87,21 @@ impl Log {
     }
 
     // A log with no entry.
-    fn empty(
-        alloc: Global,
-        nodes: u16,
-        cap: Cap,
-        watched: Vec<Option<Prop>>,
-    ) -> Result<Log, AllocError>
-        ensures { IfOk result (λ log. log ≡ record { entries = []; ids = []; births = 0; cap = cap.entries; nodes = nodes }) }
+    fn empty(alloc: Global, nodes: u16, cap: Cap) -> Result<Log, AllocError>
+        ensures entries { IfOk result (λ log. (log.entries ≡ []) × (log.ids ≡ []) × (log.births ≡ 0)) }
+        ensures size { IfOk result (λ log. (log.cap ≡ cap.entries) × (log.nodes ≡ nodes)) }
     {
         let minimal = MinSet::start(alloc, nodes, cap.entries)?;
         let list = EntryList::empty(alloc, cap)?;
-        let marking = PlaceSets::empty(alloc, cap)?;
-        let standing = PlaceSets::empty(alloc, cap)?;
+        let agenda = Agenda::start(alloc, cap)?;
+        let found = Vec::with_capacity(alloc, cap.entries as usize)?;
         let marks = Vec::with_capacity(alloc, cap.entries as usize)?;
-        let hints = vec![in alloc; 0; HINTS]?;
         Ok(Log {
             minimal,
             list,
-            marking,
-            standing,
-            watched,
+            agenda,
+            found,
             marks,
-            hints,
         })
     }
 
@@ -169,8 +151,6 @@ impl Log {
         // A bound that follows by a rule is at a time-point of the network.
         prove!(e.bound.node.0 < count);
         self.minimal.place(&e.bound, id);
-        self.marking.put_marked(e.bound.label, place);
-        put_standing(&mut self.standing, &self.watched, e.bound.node, place);
         Ok(place)
     }
 
@@ -198,21 +178,6 @@ impl Log {
         ensures live { IsTrue result ↔ IsLive self.now.entries k }
     {
         self.minimal.holds(self.list.id(k as usize))
-    }
-
-    /// The place that was remembered last for a place and a time-point, or any other number. It may be of an entry that was taken
-    /// out since.
-    pub fn hint(&self, k: u32, x: NodeId) -> u32 {
-        self.hints.get(hint_cell(k, x)).copied().unwrap_or(0)
-    }
-
-    /// Remembers a place for a place and a time-point.
-    pub fn remember(&mut self, k: u32, x: NodeId, place: u32)
-        ensures stays { self.new ≡ self.old }
-    {
-        if let Some(hint) = self.hints.get_mut(hint_cell(k, x)) {
-            *hint = place;
-        }
     }
 
     /// How many entries there are.
@@ -312,14 +277,6 @@ impl Log {
         self.list.keep(&self.marks);
         self.minimal.clear();
         place_all(&mut self.minimal, &self.list);
-        self.marking.clear();
-        self.standing.clear();
-        put_all(
-            &mut self.marking,
-            &mut self.standing,
-            &self.watched,
-            &self.list,
-        );
         (before - staying) as u32
     }
 
@@ -346,45 +303,64 @@ impl Log {
         ensures born { (id : SlotId) → HasId self.old.ids id → id.birth < self.old.births }
     {
         clear(&mut self.minimal, &mut self.list);
-        self.marking.clear();
-        self.standing.clear();
     }
 
-    /// Puts into a block the live places whose entry's label marks p, of the stretch of 4,096 places with this number, each less
-    /// the first place of the stretch. It may put in places of dead entries too, and of others.
-    pub fn add_marking(&self, p: Prop, stretch: u32, block: &mut Block)
-        ensures kept { (k : ℕ) → has_number block.old k ≡ true → has_number block.new k ≡ true }
-        ensures added { (k : ℕ) → k / 4096 ≡ stretch → IsMarkedAt self.now.entries p.index k → IsLive self.now.entries k
-            → has_number block.new (k % 4096) ≡ true }
+    /// A least value of an entry at the time-point whose label is within this one, or 0. It is the greatest of these.
+    pub fn floor(&self, x: NodeId, label: Label) -> i32
+        ensures floor { (result ≡ pos 0) ⊎ HasLeast self.now.entries x.0 (marks label) result }
     {
-        self.marking.add_to(p, stretch, block);
+        self.minimal.floor(x, label)
     }
 
-    /// Puts into a block the live places whose entry is at the time-point, as [`Log::add_marking`] does. It takes few steps where
-    /// the time-point is an observer.
-    pub fn add_standing(&self, x: NodeId, stretch: u32, block: &mut Block)
-        ensures kept { (k : ℕ) → has_number block.old k ≡ true → has_number block.new k ≡ true }
-        ensures added { (k : ℕ) → k / 4096 ≡ stretch → IsAtNode self.now.entries x.0 k → IsLive self.now.entries k
-            → has_number block.new (k % 4096) ≡ true }
+    /// For each proposition a least value of an entry at the time-point whose label is within this one without the proposition, or
+    /// 0. Where the label marks the proposition, it is the greatest of these.
+    pub fn floors(&self, x: NodeId, label: Label) -> [i32; 52]
+        ensures floors { (p : ℕ) → p < 52 → (slice_index_or result p (pos 0) ≡ pos 0)
+            ⊎ HasLeast self.now.entries x.0 (without (marks label) p) (slice_index_or result p (pos 0)) }
     {
-        match watched_at(&self.watched, x) {
-            Some(p) => self.standing.add_to(p, stretch, block),
-            None => block.insert_all(),
-        }
+        self.minimal.floors(x, label)
     }
 
-    /// Lets the place of a dead entry out of the sets of places, so that it is put into no block from then on, unless it is put
-    /// in for another place.
-    pub fn leave_out(&mut self, k: u32)
-        requires inside { k < length self.old.entries }
-        requires dead { ¬ IsLive self.old.entries k }
-        ensures stays { self.new ≡ self.old }
+    /// Whether a live entry at the time-point may mark the proposition.
+    pub fn may_mark(&self, x: NodeId, p: Prop) -> bool
+        ensures none { result ≡ false → (k : ℕ) (e : Entry) → slice_get self.now.entries k ≡ Some e → IsLive self.now.entries k
+            → e.bound.node.0 ≡ x.0 → ¬ IsMarked (marks e.bound.label) p.index }
     {
-        let b = self.list.bound(k as usize);
-        self.marking.remove_marked(b.label, k);
-        if let Some(p) = watched_at(&self.watched, b.node) {
-            self.standing.remove(p, k);
-        }
+        self.minimal.may_mark(x, p)
+    }
+
+    /// Puts on the agenda the places up to `upto` of the live entries at the time-point with a least value above the floor, and
+    /// of those alone that mark a proposition, if one is given.
+    pub fn put_down(&mut self, x: NodeId, floor: i32, marking: Option<Prop>, upto: u32)
+        requires upto { upto < length self.old.entries }
+        ensures stays { self.new ≡ record self.old { agenda = self.new.agenda } }
+        ensures kept { (k : ℕ) → has_place self.old.agenda k ≡ true → has_place self.new.agenda k ≡ true }
+        ensures added { (k : ℕ) (e : Entry) → slice_get self.old.entries k ≡ Some e → IsLive self.old.entries k → k ≤ upto
+            → IsSoughtAbove x.0 floor marking e.bound → has_place self.new.agenda k ≡ true }
+        ensures upto { (k : ℕ) → has_place self.new.agenda k ≡ true → (has_place self.old.agenda k ≡ true) ⊎ (k ≤ upto) }
+    {
+        self.minimal.slots_above(x, floor, marking, &mut self.found);
+        put_down(&self.list, &self.found, upto, &mut self.agenda);
+    }
+
+    /// Takes the least place off the agenda, and answers it; None exactly where it has none.
+    pub fn take_next(&mut self) -> Option<u32>
+        ensures stays { self.new ≡ record self.old { agenda = self.new.agenda } }
+        ensures here { IfSome result (λ k. has_place self.old.agenda k ≡ true) }
+        ensures least { IfSome result (λ k. (m : ℕ) → m < k → has_place self.old.agenda m ≡ false) }
+        ensures gone { IfSome result (λ k. has_place self.new.agenda k ≡ false) }
+        ensures others { IfSome result (λ k. (m : ℕ) → (m ≡ k → ⊥) → has_place self.new.agenda m ≡ has_place self.old.agenda m) }
+        ensures none { IfNone result ((m : ℕ) → has_place self.old.agenda m ≡ false) }
+    {
+        self.agenda.take_first()
+    }
+
+    /// Takes all places off the agenda.
+    pub fn clear_agenda(&mut self)
+        ensures stays { self.new ≡ record self.old { agenda = self.new.agenda } }
+        ensures none { (k : ℕ) → has_place self.new.agenda k ≡ false }
+    {
+        self.agenda.clear();
     }
 
     /// The id under which the pool keeps the entry at a place. A later entry has an id of a greater birth.
@@ -431,11 +407,6 @@ impl Log {
     {
         &self.minimal
     }
-}
-
-// The cell of what is remembered for a place and a time-point.
-fn hint_cell(k: u32, x: NodeId) -> usize {
-    (k as usize * 1021 + x.0 as usize) % HINTS
 }
 
 // The base bound of a time-point.

@@ -1,9 +1,12 @@
 // Empties the list and the minimal set of a log, and fills the set with the bounds of the entries that are left.
-ghost use Rattle.std.specs.Prelude.{ℕ, ◌≡◌, ◌<◌, [], List, Option, Some, length, slice_get, slice_index_or, None};
+ghost use Rattle.std.specs.Prelude.{ℕ, ◌≡◌, ◌⊎◌, ◌<◌, ◌≤◌, ◌*◌, true, [], List, Option, Some, length, slice_get, slice_index_or, None};
 ghost use Rattle.cstn_rules.specs.declared.entries.Entry.{Entry as TheEntry};
 ghost use Rattle.cstn_log.specs.Entries.{AllNew};
-ghost use Rattle.cstn_log.specs.Kept.{IsKept, IsPooled, IsTabled};
+ghost use Rattle.cstn_log.specs.Kept.{IsIdAt, IsKept, IsPooled, IsTabled};
+ghost use Rattle.cstn_log.specs.Agendas.{has_place};
+ghost use Rattle.std.specs.List.{All, Contains};
 
+use crate::agenda::Agenda;
 use crate::list::EntryList;
 use cstn_label::domination_is_an_order;
 use cstn_minset::MinSet;
@@ -33,5 +36,22 @@ pub fn place_all(minimal: &mut MinSet, list: &EntryList)
     domination_is_an_order();
     for k in 0..list.len() {
         minimal.place(&list.bound(k), list.id(k));
+    }
+}
+
+// Puts on the agenda the places up to `upto` of the entries in some slots.
+pub fn put_down(list: &EntryList, slots: &[u32], upto: u32, agenda: &mut Agenda)
+    requires held { All (λ s. (birth k : ℕ) × IsIdAt list.now.ids s birth k) slots.now }
+    requires room { upto < 4096 * length agenda.old }
+    ensures kept { (k : ℕ) → has_place agenda.old k ≡ true → has_place agenda.new k ≡ true }
+    ensures added { (s birth k : ℕ) → Contains slots.now s → IsIdAt list.now.ids s birth k → k ≤ upto → has_place agenda.new k ≡ true }
+    ensures upto { (k : ℕ) → has_place agenda.new k ≡ true → (has_place agenda.old k ≡ true) ⊎ (k ≤ upto) }
+    ensures size { length agenda.new ≡ length agenda.old }
+{
+    for at in 0..slots.len() {
+        let place = list.place_in(slots[at]);
+        if place <= upto {
+            agenda.insert(place);
+        }
     }
 }

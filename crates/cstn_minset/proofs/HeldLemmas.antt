@@ -5,7 +5,7 @@ use Rattle.std.specs.List.{swap_remove}
 use Rattle.std.proofs.lemmas.List.{map-append, length-map, length-take, length-set}
 use Rattle.std.proofs.lemmas.List.Sorted.{IsPermutation-refl, IsPermutation-sym, IsPermutation-trans, IsPermutation-map, IsPermutation-append_left, IsPermutation-append_right, IsPermutation-append_comm, IsPermutation-to_front, IsPermutation-swap_remove}
 use Rattle.std.proofs.lemmas.Option.{none-some, same_Some}
-use Rattle.cstn_minset.specs.declared.page.Record.{Record}
+use Rattle.cstn_minset.specs.declared.columns.Record.{Record}
 use Rattle.cstn_minset.specs.declared.page.Page.{Page}
 use Rattle.cstn_minset.specs.Pages.{on_page, held}
 
@@ -113,7 +113,7 @@ pub page_size : (p : Page) → length (on_page p) ≡ length p.records.items
 page_size p = length-map p.records.items (λ x. (p.head, x))
 
 -- where each page behind the first ones is half full, all hold so many records
-pub halves : (n : ℕ) (pages : List Page) → ((k : ℕ) (p : Page) → n ≤ k → slice_get pages k ≡ Some p → 16 ≤ length p.records.items) → 16 * (length pages - n) ≤ length (held pages)
+pub halves : (n : ℕ) (pages : List Page) → ((k : ℕ) (p : Page) → n ≤ k → slice_get pages k ≡ Some p → 32 ≤ length p.records.items) → 32 * (length pages - n) ≤ length (held pages)
 halves n [] half = omega arith
 halves zero (p ∷ pages) half =
     let first = half 0 p (omega arith) refl in

@@ -3,7 +3,7 @@ use Rattle.std.proofs.Common.{◌++◌, List, [], ◌∷◌, arith}
 use Rattle.std.specs.Prelude.{ℤ, ◌≤ℤ◌, All}
 use Rattle.std.proofs.lemmas.Int.{ints}
 use Rattle.std.proofs.lemmas.List.Elements.{All-push}
-use Rattle.cstn_minset.specs.declared.page.Record.{Record}
+use Rattle.cstn_minset.specs.declared.columns.Record.{Record}
 
 -- a wider range holds of one record more
 pub page_with : (low high low' high' : ℤ) (rs : List Record) (r : Record) → All (λ x. (low ≤ℤ x.least) × (x.least ≤ℤ high)) rs → (low' ≤ℤ low) × (low' ≤ℤ r.least) → (high ≤ℤ high') × (r.least ≤ℤ high') → All (λ x. (low' ≤ℤ x.least) × (x.least ≤ℤ high')) (rs ++ r ∷ [])

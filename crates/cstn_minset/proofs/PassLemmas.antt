@@ -5,10 +5,10 @@ use Rattle.std.proofs.lemmas.Bool.{cases_lt, cases_eq}
 use Rattle.std.proofs.lemmas.Option.{none-some, same_Some, slice_get_within}
 use Rattle.cstn_label.specs.declared.bounds.Bound.{Bound}
 use Rattle.cstn_pool.specs.declared.slot_id.SlotId.{SlotId}
-use Rattle.cstn_minset.specs.declared.page.Record.{Record}
+use Rattle.cstn_minset.specs.declared.columns.Record.{Record}
 use Rattle.cstn_minset.specs.declared.page.Page.{Page}
 use Rattle.cstn_minset.specs.Pages.{Paged}
-use Rattle.cstn_minset.specs.Sets.{Entries, entry_at, IsPlaced, IsListed, IsInSlot, IsRecordAt, IsFirst, IsStored, record_of, bound_of, birth_at}
+use Rattle.cstn_minset.specs.Sets.{Entries, IsPlaced, IsListed, IsRecordAt, IsFirst, IsStored, bound_of}
 use Rattle.cstn_minset.specs.Passes.{IsCandidate, IsOnPage, IsOnPages, IsEarliest, earlier}
 use Rattle.cstn_minset.proofs.SetLemmas.{held_at}
 use Rattle.cstn_minset.proofs.StoredLemmas.{entry_in_slot, no_entry}

@@ -6,7 +6,7 @@ use Rattle.std.proofs.lemmas.Bool.{cases_eq, cases_lt}
 use Rattle.std.proofs.lemmas.List.{nil_from_length}
 use Rattle.std.proofs.lemmas.Option.{same_Some, slice_get_within, get_or_from_slice_get, slice_get-get_or}
 use Rattle.cstn_pool.specs.Slots.{padded}
-use Rattle.cstn_minset.specs.declared.page.Record.{Record}
+use Rattle.cstn_minset.specs.declared.columns.Record.{Record}
 use Rattle.cstn_minset.specs.declared.page.Page.{Page}
 use Rattle.cstn_minset.specs.Chains.{Table, IsIn}
 use Rattle.cstn_minset.specs.Links.{Ring, AreLinks, SameSize}
@@ -26,7 +26,7 @@ pub read_page : (pages : List Page) (i : ℕ) (p read : Page) → slice_get page
 read_page pages i p read is reads = reads ∙ get_or_from_slice_get pages i p read is
 
 -- a page with one record more, or one less, still fits
-pub fit_more : (heads k : ℕ) (p q : Page) (r : Record) → IsInOrder heads p → p.head < heads → length p.records.items < 32 → q.head ≡ p.head → q.records.items ≡ p.records.items ++ r ∷ [] → IsPage q → (heads ≤ k → p.head < heads → 16 ≤ length p.records.items) → IsFit heads k q
+pub fit_more : (heads k : ℕ) (p q : Page) (r : Record) → IsInOrder heads p → p.head < heads → length p.records.items < 64 → q.head ≡ p.head → q.records.items ≡ p.records.items ++ r ∷ [] → IsPage q → (heads ≤ k → p.head < heads → 32 ≤ length p.records.items) → IsFit heads k q
 fit_more heads k p q r is row room head items range half =
     let size : length q.records.items ≡ length p.records.items + 1 = rw items (length-append p.records.items (r ∷ [])) in
     record {
@@ -34,7 +34,7 @@ fit_more heads k p q r is row room head items range half =
       half = λ behind below. omega (arith, size, half behind row);
     }
 
-pub fit_less : (heads k i : ℕ) (p q : Page) (r : Record) → IsInOrder heads p → p.head < heads → i < length p.records.items → q.head ≡ p.head → q.records.items ≡ swap_remove p.records.items i r → IsPage q → (heads ≤ k → 16 < length p.records.items) → IsFit heads k q
+pub fit_less : (heads k i : ℕ) (p q : Page) (r : Record) → IsInOrder heads p → p.head < heads → i < length p.records.items → q.head ≡ p.head → q.records.items ≡ swap_remove p.records.items i r → IsPage q → (heads ≤ k → 32 < length p.records.items) → IsFit heads k q
 fit_less heads k i p q r is row inside head items range half =
     let size = less_by_one p.records.items q.records.items i r inside items in
     record {
@@ -42,7 +42,7 @@ fit_less heads k i p q r is row inside head items range half =
       half = λ behind below. omega (arith, size, half behind);
     }
 
-pub fit_half : (heads k : ℕ) (q : Page) → q.head < heads → length q.records.items ≡ 16 → IsPage q → IsFit heads k q
+pub fit_half : (heads k : ℕ) (q : Page) → q.head < heads → length q.records.items ≡ 32 → IsPage q → IsFit heads k q
 fit_half heads k q row size range = record {
   order = record { range = range; room = omega (arith, size); head = omega (arith, row); free = λ at_end. absurd (omega (arith, at_end, row)) };
   half = λ behind below. omega (arith, size);
@@ -73,7 +73,7 @@ behind_first heads k pages own free = elim (cases_lt k heads) [
 ]
 
 -- where no page is of no row, and records find room, there is a page that was never used
-pub page_left : (heads capacity room : ℕ) (pages : List Page) (links : Ring) → IsPaged heads capacity pages links room → ((u j : ℕ) → IsIn (padded None (most_pages heads capacity) (homes 0 pages)) heads u j → j < 0) → length (held pages) + 16 ≤ capacity → length pages < most_pages heads capacity
+pub page_left : (heads capacity room : ℕ) (pages : List Page) (links : Ring) → IsPaged heads capacity pages links room → ((u j : ℕ) → IsIn (padded None (most_pages heads capacity) (homes 0 pages)) heads u j → j < 0) → length (held pages) + 32 ≤ capacity → length pages < most_pages heads capacity
 page_left heads capacity room pages links is none left = elim (cases_lt (length pages) (most_pages heads capacity)) [
   | inl less ↦ less
   | inr all ↦

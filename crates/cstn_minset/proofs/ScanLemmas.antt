@@ -1,9 +1,11 @@
 -- Scans of the pages of a row.
-use Rattle.std.proofs.Common.{◌≡◌, inl, inr, ℕ, ◌+◌, ◌<◌, List, Bool, false, refl, sym, ◌∙◌, subst, arith}
+use Rattle.std.proofs.Common.{◌≡◌, inl, inr, ℕ, ◌+◌, ◌<◌, ◌≤◌, List, Bool, false, refl, sym, ◌∙◌, subst, arith}
 use Rattle.std.specs.Prelude.{Option, None, Some, slice_get, IsTrue, ◌↔◌}
-use Rattle.std.proofs.lemmas.Bool.{cases_eq}
+use Rattle.std.proofs.lemmas.Bool.{cases_eq, cases_lt, false≢true}
 use Rattle.std.proofs.lemmas.Option.{same_Some}
-use Rattle.cstn_minset.specs.declared.page.Record.{Record}
+use Rattle.cstn_label.specs.Words.{has_bit}
+use Rattle.cstn_minset.specs.Columns.{AreThose}
+use Rattle.cstn_minset.specs.declared.columns.Record.{Record}
 use Rattle.cstn_minset.specs.declared.page.Page.{Page}
 use Rattle.cstn_minset.specs.Chains.{IsFirstKey}
 use Rattle.cstn_minset.specs.Pages.{Paged, IsPageOf, numbered, most_pages}
@@ -53,6 +55,23 @@ none_next rs n Kind x none here not = λ i r less there kind.
 
 pub none_more : (rs : List Record) (n : ℕ) (Kind : Record → Type 0) (x : Record) (test : Bool) → IsNoneUpto rs n Kind → slice_get rs n ≡ Some x → (IsTrue test ↔ Kind x) → test ≡ false → IsNoneUpto rs (n + 1) Kind
 none_more rs n Kind x test none here is no' = none_next rs n Kind x none here (λ kind. (let sure = is.1 kind in cc))
+
+-- where records of the kind have a bit, none is of the kind up to the next bit that is set, if that one's record isn't
+pub none_among : (rs : List Record) (word from i : ℕ) (Kind Wide : Record → Type 0) (x : Record) → AreThose Wide rs word → ((r : Record) → Kind r → Wide r) → IsNoneUpto rs from Kind →
+    ((j : ℕ) → from ≤ j → j < i → has_bit word j ≡ false) → slice_get rs i ≡ Some x → ¬ Kind x → IsNoneUpto rs (i + 1) Kind
+none_among rs word from i Kind Wide x those wide before clear here not = none_next rs i Kind x (λ j r less there kind.
+    elim (cases_lt j from) [
+      | inl low ↦ before j r low there kind
+      | inr high ↦ false≢true (sym (clear j high less) ∙ (those j).1 (r, there, wide r kind))
+    ]) here not
+
+pub none_behind : (rs : List Record) (word from : ℕ) (Kind Wide : Record → Type 0) → AreThose Wide rs word → ((r : Record) → Kind r → Wide r) → IsNoneUpto rs from Kind →
+    ((j : ℕ) → from ≤ j → has_bit word j ≡ false) → (i : ℕ) (r : Record) → slice_get rs i ≡ Some r → ¬ Kind r
+none_behind rs word from Kind Wide those wide before clear i r there kind =
+    elim (cases_lt i from) [
+      | inl low ↦ before i r low there kind
+      | inr high ↦ false≢true (sym (clear i high) ∙ (those i).1 (r, there, wide r kind))
+    ]
 
 -- no record of the first n pages is of the kind
 abbrev pub AreNoneUpto : List Page → ℕ → (Record → Type 0) → Type 0

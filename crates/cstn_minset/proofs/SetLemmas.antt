@@ -12,7 +12,7 @@ use Rattle.cstn_label.specs.declared.labels.Label.{Label}
 use Rattle.cstn_label.specs.Labels.{IsWithin}
 use Rattle.cstn_label.specs.Read.{marks}
 use Rattle.cstn_pool.specs.declared.slot_id.SlotId.{SlotId}
-use Rattle.cstn_minset.specs.declared.page.Record.{Record}
+use Rattle.cstn_minset.specs.declared.columns.Record.{Record}
 use Rattle.cstn_minset.specs.declared.page.Page.{Page}
 use Rattle.cstn_minset.specs.Pages.{Paged, on_page, held, SameRows}
 use Rattle.cstn_minset.proofs.RowLemmas.{at_all, all_from}
@@ -40,7 +40,7 @@ records_emptied f n (suc s) (Some x ∷ T) e is =
     let at : f (record_of (suc n + s) e.1) ≡ f (record_of (n + suc s) e.1) = ap (λ m. f (record_of m e.1)) (omega arith) in
     omega (arith, rest, at, sum_by-cons f (record_of n x.1) (records_from (suc n) T), sum_by-cons f (record_of n x.1) (records_from (suc n) (set T s None)))
 
-records_le : (n : ℕ) (T : Entries) → length (records_from n T) ≤ length T
+pub records_le : (n : ℕ) (T : Entries) → length (records_from n T) ≤ length T
 records_le n [] = omega arith
 records_le n (None ∷ T) = let rest = records_le (suc n) T in omega (arith, rest)
 records_le n (Some x ∷ T) = let rest = records_le (suc n) T in omega (arith, rest)

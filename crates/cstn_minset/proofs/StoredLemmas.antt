@@ -5,7 +5,7 @@ use Rattle.std.proofs.lemmas.Bool.{cases_eq}
 use Rattle.std.proofs.lemmas.List.{get_or-set_other, get_or-set_same, length-set, length-replicate}
 use Rattle.std.proofs.lemmas.Option.{none-some, same_Some}
 use Rattle.cstn_label.specs.declared.bounds.Bound.{Bound}
-use Rattle.cstn_minset.specs.declared.page.Record.{Record}
+use Rattle.cstn_minset.specs.declared.columns.Record.{Record}
 use Rattle.cstn_minset.specs.Pages.{Paged, held, SameRows}
 use Rattle.cstn_minset.specs.Sets.{Entries, entry_at, IsPlaced, record_of, bound_of, recorded, entries_from, table_of, no_birth, birth_at, IsListed, IsNoneInSlot, IsInSlot, IsMinimal, IsKept, AreBirths, IsStored}
 use Rattle.cstn_minset.proofs.TableLemmas.{placed_more, placed_less, none_of}

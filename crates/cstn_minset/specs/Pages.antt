@@ -1,7 +1,7 @@
 -- Rows of records in pages.
 use Rattle.std.specs.Prelude.{◌≡◌, ℕ, suc, ◌+◌, ◌/◌, ◌<◌, ◌≤◌, ◌^◌, ◌≤ℤ◌, ◌++◌, List, [], ◌∷◌, map, length, Some, None, slice_get, All, flat_map}
 use Rattle.cstn_pool.specs.Slots.{padded}
-use Rattle.cstn_minset.specs.declared.page.Record.{Record}
+use Rattle.cstn_minset.specs.declared.columns.Record.{Record}
 use Rattle.cstn_minset.specs.declared.page.Page.{Page}
 use Rattle.cstn_minset.specs.Chains.{Table}
 use Rattle.cstn_minset.specs.Links.{Ring, AreLinks}
@@ -35,7 +35,7 @@ homes n (page ∷ pages) = Some (page.head, n) ∷ homes (suc n) pages
 
 -- how many pages there may be: one for each head, and enough for all records where each of these pages is half full
 abbrev pub most_pages : ℕ → ℕ → ℕ
-most_pages heads capacity = heads + capacity / 16 + 1
+most_pages heads capacity = heads + capacity / 32 + 1
 
 -- the chains of pages: each page that was used is in that of its row, under its number
 abbrev pub numbered : Paged → Table
@@ -48,7 +48,7 @@ SameRows old new = (new.heads ≡ old.heads) × (new.capacity ≡ old.capacity)
 -- a page that is in order: its range and its room hold, and it is of a row, or of none and empty
 pub record IsInOrder (heads : ℕ) (page : Page) : Type 0 where
   pub range : IsPage page
-  pub room : length page.records.items ≤ 32
+  pub room : length page.records.items ≤ 64
   pub head : page.head ≤ heads
   pub free : page.head ≡ heads → page.records.items ≡ []
 
@@ -62,7 +62,7 @@ pub record IsPaged (heads capacity : ℕ) (pages : List Page) (links : Ring) (ro
   pub small : (heads < 2 ^ 16) × (capacity < 2 ^ 32)
   pub own : (h : ℕ) → h < heads → IsPageOf pages h h
   pub order : All (IsInOrder heads) pages
-  pub half : (k : ℕ) (page : Page) → heads ≤ k → slice_get pages k ≡ Some page → page.head < heads → 16 ≤ length page.records.items
+  pub half : (k : ℕ) (page : Page) → heads ≤ k → slice_get pages k ≡ Some page → page.head < heads → 32 ≤ length page.records.items
 
 -- the pages are those with which rows begin: each is the first page of a head, and empty
 abbrev pub AreOpened : ℕ → List Page → Type 0

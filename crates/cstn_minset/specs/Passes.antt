@@ -1,12 +1,12 @@
 -- Passes over all records for the bound of a kind with the least birth.
-use Rattle.std.specs.Prelude.{◌≡◌, ℕ, ◌<◌, ◌≤◌, List, Option, None, Some, MatchOption, slice_get, nat_lt, if◌then◌else◌}
+use Rattle.std.specs.Prelude.{◌≡◌, ℕ, ◌≤◌, List, Option, None, Some, MatchOption, slice_get, nat_lt, if◌then◌else◌}
 use Rattle.cstn_label.specs.declared.bounds.Bound.{Bound}
 use Rattle.cstn_pool.specs.declared.slot_id.SlotId.{SlotId}
-use Rattle.cstn_minset.specs.declared.page.Record.{Record}
+use Rattle.cstn_minset.specs.declared.columns.Record.{Record}
 use Rattle.cstn_minset.specs.declared.page.Page.{Page}
 use Rattle.cstn_minset.specs.declared.passes.Sought.{Sought}
 use Rattle.cstn_minset.specs.declared.passes.Sought.TheVariants.{At, Marking}
-use Rattle.cstn_minset.specs.Sets.{IsAt, IsMarking, IsRecordAt, bound_of, birth_at}
+use Rattle.cstn_minset.specs.Sets.{IsAt, IsMarking, bound_of, birth_at}
 
 -- the kind of bounds that is looked for
 abbrev pub kind_of : Sought → Bound → Type 0

@@ -1,11 +1,13 @@
 -- Minimal sets of bounds, each bound in a slot with its birth.
-use Rattle.std.specs.Prelude.{◌≡◌, ◌≢◌, ◌⊎◌, ℕ, suc, ◌+◌, ◌<◌, ◌≤◌, ◌^◌, ◌≤ℤ◌, List, [], ◌∷◌, length, Option, None, Some, slice_index_or, MatchOption, option_map, All, sum_by, slice_get, ◌==◌, if◌then◌else◌}
+use Rattle.std.specs.Prelude.{◌≡◌, ◌≢◌, ◌⊎◌, ℕ, suc, ◌+◌, ◌<◌, ◌≤◌, ◌^◌, ◌≤ℤ◌, ◌<ℤ◌, ℤ, IfSome, List, [], ◌∷◌, length, Option, None, Some, slice_index_or, MatchOption, option_map, All, sum_by, slice_get, ◌==◌, if◌then◌else◌}
+use Rattle.std.specs.List.{Contains}
 use Rattle.cstn_label.specs.declared.bounds.Bound.{Bound}
 use Rattle.cstn_label.specs.Bounds.{Dominates}
-use Rattle.cstn_label.specs.Labels.{IsMarked, IsWithin}
+use Rattle.cstn_label.specs.declared.props.Prop.{Prop}
+use Rattle.cstn_label.specs.Labels.{IsMarked, IsWithin, Label as TheLabel}
 use Rattle.cstn_label.specs.Read.{marks, the_bound}
 use Rattle.cstn_pool.specs.declared.slot_id.SlotId.{SlotId}
-use Rattle.cstn_minset.specs.declared.page.Record.{Record}
+use Rattle.cstn_minset.specs.declared.columns.Record.{Record}
 use Rattle.cstn_minset.specs.declared.page.Page.{Page}
 use Rattle.cstn_minset.specs.Pages.{Paged, held}
 
@@ -136,6 +138,23 @@ IsRecordOver b r = (b.least ≤ℤ r.least) × IsWithin (marks r.label) (marks b
 abbrev pub IsRecordUnder : Bound → Record → Type 0
 IsRecordUnder b r = (r.least ≤ℤ b.least) × IsWithin (marks b.label) (marks r.label)
 
+-- some entry at the time-point, whose label is within this one, has this least value
+abbrev pub HasLeast : Entries → ℕ → TheLabel → ℤ → Type 0
+HasLeast table node label least =
+    (slot : ℕ) × (entry : ℕ × Bound) × IsPlaced table slot entry × IsAt node entry.1 × IsWithin (marks entry.1.label) label × (entry.1.least ≡ least)
+
+-- the bound is at the time-point, its least value is above the floor, and its label marks the proposition, if one is given
+abbrev pub IsSoughtAbove : ℕ → ℤ → Option Prop → Bound → Type 0
+IsSoughtAbove node floor marking b = IsAt node b × (floor <ℤ b.least) × IfSome marking (λ p. IsMarking p.index b)
+
+-- the record is that of such a bound, where it is one of the time-point
+abbrev pub IsRecordAbove : ℤ → Option Prop → Record → Type 0
+IsRecordAbove floor marking r = (floor <ℤ r.least) × IfSome marking (λ p. IsMarked (marks r.label) p.index)
+
+-- the record has this least value, and its label is within the other
+abbrev pub IsRecordOf : TheLabel → ℤ → Record → Type 0
+IsRecordOf label least r = (r.least ≡ least) × IsWithin (marks r.label) label
+
 -- the record lies at the place i of page k, which is one of the row
 abbrev pub IsRecordAt : List Page → ℕ → ℕ → ℕ → Record → Type 0
 IsRecordAt pages h k i r = (page : Page) × (slice_get pages k ≡ Some page) × (page.head ≡ h) × (slice_get page.records.items i ≡ Some r)
@@ -160,6 +179,12 @@ pub record IsInSlot (pages : List Page) (slot : ℕ) (b : Bound) : Type 0 where
   pub there : IsRecordAt pages head page place record_is
   pub slot_is : record_is.slot ≡ slot
   pub bound_is : b ≡ bound_of (head, record_is)
+
+-- the slots are those of the records that are sought above the floor; there are no more of them than records
+pub record AreSlotsOf (records : List Record) (floor : ℤ) (marking : Option Prop) (slots : List ℕ) : Type 0 where
+  pub all : (i : ℕ) (r : Record) → slice_get records i ≡ Some r → IsRecordAbove floor marking r → Contains slots r.slot
+  pub only : All (λ s. (i : ℕ) × (r : Record) × (slice_get records i ≡ Some r) × IsRecordAbove floor marking r × (r.slot ≡ s)) slots
+  pub few : length slots ≤ length records
 
 -- a minimal set whose rows have exactly the records of its bounds
 pub record IsKept (rows : Paged) (nodes : ℕ) (table : Entries) : Type 0 where

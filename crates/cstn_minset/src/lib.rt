@@ -3,14 +3,20 @@
 #![tactic(auto)]
 
 mod births;
+mod bits;
+mod columns;
+mod gather;
 mod laws;
 mod links;
+mod literals;
 mod min_set;
 mod page;
 mod passes;
 mod places;
 mod rows;
 mod scan;
+mod sheet;
 
+pub use bits::{first_bit_from, with_bit};
 pub use laws::{placing_leaves_what_nothing_later_dominates, walks_meet_each_once};
 pub use min_set::MinSet;

@@ -1,22 +1,26 @@
-ghost use Rattle.std.specs.Prelude.{◌≡◌, ◌<◌, ◌≤◌, ◌+◌, ◌^◌, ◌↔◌, ℕ, Some, None, false, length, IsTrue, IfOk, IsSome, IfSome, IfNone, slice_set};
-ghost use Rattle.std.specs.Prelude.{slice_index_or, replicate, map, if◌then◌else◌};
+ghost use Rattle.std.specs.Prelude.{◌≡◌, ◌⊎◌, ◌<◌, ◌≤◌, ◌+◌, ◌^◌, ◌↔◌, ℕ, Some, None, false, length, IsTrue, IfOk, IsSome, IfSome, IfNone, slice_set};
+ghost use Rattle.std.specs.Prelude.{slice_index_or, replicate, map, pos, All, vec_capacity, if◌then◌else◌};
+ghost use Rattle.std.specs.List.{Contains};
+ghost use Rattle.cstn_label.specs.Labels.{without};
+ghost use Rattle.cstn_label.specs.Read.{marks};
 ghost use Rattle.cstn_minset.specs.Sets.{Places, Entries, entry_at, IsPlaced, IsThere, IsOver, IsCovered, IsCleared, AllBornBefore, IsAt, IsMarking, IsFirst};
-ghost use Rattle.cstn_minset.specs.Sets.{IsFirstSlot, IsMinimal};
+ghost use Rattle.cstn_minset.specs.Sets.{IsFirstSlot, IsMinimal, HasLeast, IsSoughtAbove};
 
 use crate::births::{Births, NO_BIRTH};
-use crate::page::Record;
+use crate::columns::Record;
+use crate::gather::{Above, greatest_within, greatest_without, row_marks, slots_above};
 use crate::passes::{Sought, earliest};
 use crate::rows::Rows;
 use crate::scan::{bound_in, place_under, slot_over};
-use cstn_label::{Bound, NodeId, Prop, labels_are_their_marks};
+use cstn_label::{Bound, Label, NodeId, Prop, labels_are_their_marks};
 use cstn_pool::SlotId;
 use std::alloc::{AllocError, Global};
 use std::marker::Model;
 
 /// Bounds of which none dominates another, each under the id of a pool's slot.
 ///
-/// All memory is taken by [`MinSet::start`]: 58 bytes a slot, of which 50 are for the rows of records in which the bounds of a
-/// time-point are looked for and 8 for the birth, and 808 for each time-point. No other call takes any.
+/// All memory is taken by [`MinSet::start`]: 84 bytes a slot, of which 76 are for the rows of records in which the bounds of a
+/// time-point are looked for and 8 for the birth, and 2,440 for each time-point. No other call takes any.
 #[derive(Drop)]
 pub struct MinSet {
     // For each time-point a record of each of its bounds.
@@ -220,6 +224,40 @@ impl MinSet {
             Some(b) => Some((self.births.at(slot), b)),
             None => None,
         }
+    }
+
+    /// The greatest least value of an entry at the time-point whose label is within this one, or 0 where that is lower.
+    pub fn floor(&self, node: NodeId, label: Label) -> i32
+        ensures floor { (result ≡ pos 0) ⊎ HasLeast self.now.table node.0 (marks label) result }
+    {
+        greatest_within(&self.rows, node, label)
+    }
+
+    /// For each proposition that the label marks, the greatest least value of an entry at the time-point whose label is within this
+    /// one without that mark, or 0 where that is lower.
+    pub fn floors(&self, node: NodeId, label: Label) -> [i32; 52]
+        ensures floors { (p : ℕ) → p < 52 → (slice_index_or result p (pos 0) ≡ pos 0)
+            ⊎ HasLeast self.now.table node.0 (without (marks label) p) (slice_index_or result p (pos 0)) }
+    {
+        greatest_without(&self.rows, node, label)
+    }
+
+    /// Writes down the slots of the entries at the time-point with least values above the floor, and of these only of those whose
+    /// labels mark the proposition, if one is given.
+    pub fn slots_above(&self, node: NodeId, floor: i32, marking: Option<Prop>, found: &mut Vec<u32>)
+        requires room { length self.now.table ≤ vec_capacity found.old }
+        ensures all { (s : ℕ) (e : ℕ × Bound) → IsPlaced self.now.table s e → IsSoughtAbove node.0 floor marking e.1 → Contains found.new.items s }
+        ensures only { All (λ s. (e : ℕ × Bound) × IsPlaced self.now.table s e × IsSoughtAbove node.0 floor marking e.1) found.new.items }
+        ensures capacity { vec_capacity found.new ≡ vec_capacity found.old }
+    {
+        slots_above(&self.rows, node, Above { floor, marking }, found);
+    }
+
+    /// Whether an entry at the time-point may mark p; false only where none does.
+    pub fn may_mark(&self, node: NodeId, p: Prop) -> bool
+        ensures none { result ≡ false → (s : ℕ) (e : ℕ × Bound) → IsPlaced self.now.table s e → IsAt node.0 e.1 → ¬ IsMarking p.index e.1 }
+    {
+        row_marks(&self.rows, node, p)
     }
 
     /// Takes all bounds out.

@@ -1,33 +1,15 @@
-ghost use Rattle.std.specs.Prelude.{◌≡◌, ◌<◌, ◌≤◌, ◌≤ℤ◌, ◌+◌, ◌++◌, ◌∷◌, [], length, slice_index_or, IsPermutation};
+ghost use Rattle.std.specs.Prelude.{◌≡◌, ◌⊎◌, ◌<◌, ◌≤◌, ◌≤ℤ◌, ◌+◌, ◌++◌, ◌∷◌, [], length, slice_index_or, IsPermutation};
 ghost use Rattle.std.specs.List.{swap_remove};
 ghost use Rattle.cstn_minset.specs.Pages.{IsPage};
 
-use arrayvec::ArrayVec;
-use cstn_label::Label;
+use crate::columns::{Columns, Record};
+use std::mem;
 
 /// How many records a page has room for.
-pub const ROOM: usize = 32;
+pub const ROOM: usize = 64;
 
 /// How many records a page has at least, unless it is the first of its row.
-pub const HALF: usize = 16;
-
-/// A label and a least value, kept under the number of a slot.
-#[derive(Clone, Copy, Debug, PartialEq, Eq)]
-pub struct Record {
-    pub label: Label,
-    pub least: i32,
-    pub slot: u32,
-}
-
-impl Default for Record {
-    fn default() -> Record {
-        Record {
-            label: Label::empty(),
-            least: 0,
-            slot: 0,
-        }
-    }
-}
+pub const HALF: usize = 32;
 
 /// Some records of one row, in no order. Their least values are from `low` to `high`.
 #[derive(Drop)]
@@ -35,7 +17,7 @@ pub struct Page {
     pub head: u32,
     pub low: i32,
     pub high: i32,
-    pub records: ArrayVec<Record, 32>,
+    pub records: Columns,
 }
 
 impl Page {
@@ -49,13 +31,13 @@ impl Page {
             head,
             low: i32::MAX,
             high: i32::MIN,
-            records: ArrayVec::new(),
+            records: Columns::empty(),
         }
     }
 
     /// Adds a record.
     pub fn add(&mut self, added: Record)
-        requires room { length self.old.records.items < 32 }
+        requires room { length self.old.records.items < 64 }
         requires page { IsPage self.old }
         ensures head { self.new.head ≡ self.old.head }
         ensures added { self.new.records.items ≡ self.old.records.items ++ added ∷ [] }
@@ -81,50 +63,51 @@ impl Page {
     /// Leaves half of the records of a full page here, and answers a page with the other half: those with the greatest least
     /// values.
     pub fn split(&mut self) -> Page
-        requires full { length self.old.records.items ≡ 32 }
+        requires full { length self.old.records.items ≡ 64 }
         requires page { IsPage self.old }
         ensures heads { (self.new.head ≡ self.old.head) × (result.head ≡ self.old.head) }
-        ensures halves { (length self.new.records.items ≡ 16) × (length result.records.items ≡ 16) }
+        ensures halves { (length self.new.records.items ≡ 32) × (length result.records.items ≡ 32) }
         ensures pages { IsPage self.new × IsPage result }
         ensures same { IsPermutation self.old.records.items (self.new.records.items ++ result.records.items) }
     {
+        let mut left = mem::replace(&mut self.records, Columns::empty()).into_records();
         let mut upper = Page::empty(self.head);
         for _ in 0..HALF {
-            let greatest = self.greatest();
-            upper.add(self.take(greatest));
+            let greatest = place_of_greatest(left.as_slice());
+            upper.add(left.swap_remove(greatest));
         }
-        self.refit();
+        self.refill(left.as_slice());
         upper
     }
 
-    // The place of a record with the greatest least value.
-    fn greatest(&self) -> usize
-        requires { 0 < length self.now.records.items }
-        ensures { result < length self.now.records.items }
-    {
-        let records = self.records.as_slice();
-        let mut best = 0;
-        for index in 1..records.len() {
-            if records[index].least > records[best].least {
-                best = index;
-            }
-        }
-        best
-    }
-
-    // Draws `low` and `high` together, to the least values that there are.
-    fn refit(&mut self)
-        requires { IsPage self.old }
+    // Has these records alone from now on, with `low` and `high` drawn together.
+    fn refill(&mut self, records: &[Record])
+        requires few { length records.now ≤ 64 }
         ensures head { self.new.head ≡ self.old.head }
-        ensures same { self.new.records.items ≡ self.old.records.items }
+        ensures records { self.new.records.items ≡ records.now }
         ensures page { IsPage self.new }
     {
         let mut fresh = Page::empty(self.head);
-        for kept in self.records.as_slice() {
+        for kept in records {
             fresh.add(*kept);
         }
         *self = fresh;
     }
+}
+
+// The place of a record with the greatest least value.
+fn place_of_greatest(records: &[Record]) -> usize
+    requires some { 0 < length records.now }
+    requires few { length records.now ≤ 64 }
+    ensures { result < length records.now }
+{
+    let mut best = 0;
+    for index in 1..records.len() {
+        if records[index].least > records[best].least {
+            best = index;
+        }
+    }
+    best
 }
 
 fn lower(a: i32, b: i32) -> i32
@@ -133,8 +116,10 @@ fn lower(a: i32, b: i32) -> i32
     if a < b { a } else { b }
 }
 
-fn higher(a: i32, b: i32) -> i32
-    ensures { (a ≤ℤ result) × (b ≤ℤ result) }
+/// The higher of two least values.
+pub fn higher(a: i32, b: i32) -> i32
+    ensures upper { (a ≤ℤ result) × (b ≤ℤ result) }
+    ensures either { (result ≡ a) ⊎ (result ≡ b) }
 {
     if a < b { b } else { a }
 }

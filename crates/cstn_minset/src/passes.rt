@@ -4,7 +4,8 @@ ghost use Rattle.cstn_minset.specs.Sets.{bound_of};
 ghost use Rattle.cstn_minset.specs.Passes.{kind_of, IsCandidate, IsOnPage, IsOnPages, IsEarliest, earlier as the_earlier};
 
 use crate::births::Births;
-use crate::page::{Page, Record};
+use crate::columns::Record;
+use crate::page::Page;
 use crate::rows::Rows;
 use cstn_label::{Mark, NodeId, Prop};
 use cstn_pool::SlotId;

@@ -1,14 +1,15 @@
 ghost use Rattle.std.specs.Prelude.{◌≡◌, ◌⊎◌, ◌<◌, ◌≤◌, ◌+◌, ◌++◌, ◌∷◌, [], ℕ, Some, None, length, replicate, IfOk, slice_get, slice_index_or, slice_set};
 ghost use Rattle.std.specs.Prelude.{vec_capacity, IsPermutation, All};
 ghost use Rattle.cstn_minset.specs.declared.page.Page.{Page as ThePage};
-ghost use Rattle.cstn_minset.specs.declared.page.Record.{Record};
+ghost use Rattle.cstn_minset.specs.declared.columns.Record.{Record};
 ghost use Rattle.cstn_minset.specs.Chains.{IsFirstKey};
 ghost use Rattle.cstn_minset.specs.Links.{AreLinks, SameSize};
 ghost use Rattle.cstn_pool.specs.Slots.{padded};
 ghost use Rattle.cstn_minset.specs.Pages.{IsPage, IsPageOf, on_page, held, homes, numbered, most_pages, AreOpened, StartsWith, SameRows};
 
+use crate::columns::Record;
 use crate::links::Links;
-use crate::page::{HALF, Page, ROOM, Record};
+use crate::page::{HALF, Page, ROOM};
 use std::alloc::{AllocError, Global};
 use std::marker::Model;
 use std::mem;
@@ -16,8 +17,8 @@ use std::mem;
 /// For each head a row of records, in pages. A row has no order; the least values of a page are told by its range.
 ///
 /// Each head has a first page of its own, which may have few records or none. Every other page of a row is at least half full.
-/// So at most `capacity` records find room, and no call but [`Rows::start`] takes memory: 50 bytes for each record of the
-/// capacity, and 808 bytes for each head. Pages that were never used are not written.
+/// So at most `capacity` records find room, and no call but [`Rows::start`] takes memory: 76 bytes for each record of the
+/// capacity, and 2,440 bytes for each head. Pages that were never used are not written.
 #[derive(Drop)]
 pub struct Rows {
     // The first pages are those of the heads.
@@ -129,7 +130,7 @@ impl Rows {
         requires head { head < self.old.heads }
         requires room { length (held self.old.pages) < self.old.capacity }
         ensures size { SameRows self.old self.new }
-        ensures page { (p : ThePage) × (slice_get self.new.pages result ≡ Some p) × (p.head ≡ head) × (length p.records.items < 32) }
+        ensures page { (p : ThePage) × (slice_get self.new.pages result ≡ Some p) × (p.head ≡ head) × (length p.records.items < 64) }
         ensures same { IsPermutation (held self.old.pages) (held self.new.pages) }
     {
         let page = self.nearest(head, least);
@@ -141,11 +142,11 @@ impl Rows {
 
     // Splits a full page, and answers the half whose range is nearer to the least value.
     fn divide(&mut self, page: u32, least: i32) -> u32
-        requires page { (p : ThePage) × (slice_get self.old.pages page ≡ Some p) × (p.head < self.old.heads) × (length p.records.items ≡ 32) }
+        requires page { (p : ThePage) × (slice_get self.old.pages page ≡ Some p) × (p.head < self.old.heads) × (length p.records.items ≡ 64) }
         requires room { length (held self.old.pages) < self.old.capacity }
         ensures size { SameRows self.old self.new }
         ensures page { (p : ThePage) → slice_get self.old.pages page ≡ Some p
-            → (q : ThePage) × (slice_get self.new.pages result ≡ Some q) × (q.head ≡ p.head) × (length q.records.items < 32) }
+            → (q : ThePage) × (slice_get self.new.pages result ≡ Some q) × (q.head ≡ p.head) × (length q.records.items < 64) }
         ensures same { IsPermutation (held self.old.pages) (held self.new.pages) }
     {
         let upper = self.pages[page as usize].split();
@@ -176,9 +177,9 @@ impl Rows {
     // Makes a page one of the row that it names.
     fn install(&mut self, page: Page) -> u32
         requires row { page.head < self.old.heads }
-        requires half { length page.records.items ≡ 16 }
+        requires half { length page.records.items ≡ 32 }
         requires is { IsPage page }
-        requires room { length (held self.old.pages) + 16 ≤ self.old.capacity }
+        requires room { length (held self.old.pages) + 32 ≤ self.old.capacity }
         ensures size { SameRows self.old self.new }
         ensures there { slice_get self.new.pages result ≡ Some page }
         ensures kept { (k : ℕ) (p : ThePage) → slice_get self.old.pages k ≡ Some p → p.head < self.old.heads → slice_get self.new.pages k ≡ Some p }
@@ -197,7 +198,7 @@ impl Rows {
     fn reuse(&mut self, number: u32, page: Page)
         requires free { IsPageOf self.old.pages self.old.heads number }
         requires row { page.head < self.old.heads }
-        requires half { length page.records.items ≡ 16 }
+        requires half { length page.records.items ≡ 32 }
         requires is { IsPage page }
         ensures { self.new ≡ record self.old { pages = slice_set self.old.pages number page } }
     {
@@ -211,7 +212,7 @@ impl Rows {
     fn append(&mut self, page: Page) -> u32
         requires few { length self.old.pages < most_pages self.old.heads self.old.capacity }
         requires row { page.head < self.old.heads }
-        requires half { length page.records.items ≡ 16 }
+        requires half { length page.records.items ≡ 32 }
         requires is { IsPage page }
         ensures number { result ≡ length self.old.pages }
         ensures pages { self.new ≡ record self.old { pages = self.old.pages ++ page ∷ [] } }
@@ -231,7 +232,7 @@ impl Rows {
         ensures size { SameRows self.old self.new }
         ensures front { (p : ThePage) → slice_get self.old.pages page ≡ Some p
             → (q : ThePage) × (slice_get self.new.pages result ≡ Some q) × (q.head ≡ p.head) × StartsWith p.records.items q.records.items }
-        ensures spare { (q : ThePage) → slice_get self.new.pages result ≡ Some q → (result < self.new.heads) ⊎ (16 < length q.records.items) }
+        ensures spare { (q : ThePage) → slice_get self.new.pages result ≡ Some q → (result < self.new.heads) ⊎ (32 < length q.records.items) }
         ensures same { IsPermutation (held self.old.pages) (held self.new.pages) }
     {
         if page < self.heads || self.pages[page as usize].records.len() > HALF {
@@ -250,7 +251,7 @@ impl Rows {
     fn refill(&mut self, page: u32, first: u32)
         requires behind { self.old.heads ≤ page }
         requires row { first < self.old.heads }
-        requires page { (p : ThePage) × (slice_get self.old.pages page ≡ Some p) × (p.head ≡ first) × (length p.records.items ≤ 16) }
+        requires page { (p : ThePage) × (slice_get self.old.pages page ≡ Some p) × (p.head ≡ first) × (length p.records.items ≤ 32) }
         requires some { (p : ThePage) → slice_get self.old.pages first ≡ Some p → 0 < length p.records.items }
         ensures size { SameRows self.old self.new }
         ensures filled { (p : ThePage) → slice_get self.old.pages page ≡ Some p

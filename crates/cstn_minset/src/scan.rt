@@ -1,10 +1,12 @@
 //! Looking through the rows of records for one that dominates a bound, or that a bound dominates.
-ghost use Rattle.std.specs.Prelude.{◌≡◌, ◌<◌, ◌↔◌, ℕ, Some, IsTrue, IfSome, IfNone, slice_get};
-ghost use Rattle.cstn_minset.specs.declared.page.Record.{Record as TheRecord};
+ghost use Rattle.std.specs.Prelude.{◌≡◌, ◌<◌, ℕ, Some, IfSome, IfNone, slice_get};
+ghost use Rattle.cstn_minset.specs.declared.columns.Record.{Record as TheRecord};
 ghost use Rattle.cstn_minset.specs.Pages.{IsPage};
 ghost use Rattle.cstn_minset.specs.Sets.{IsRecordOver, IsRecordUnder, IsRecordAt, IsNoneOf, IsNoneOn, IsNoneInSlot, IsInSlot, bound_of};
 
-use crate::page::{Page, Record};
+use crate::bits::first_bit_from;
+use crate::literals::Literals;
+use crate::page::Page;
 use crate::rows::Rows;
 use cstn_label::{Bound, NodeId};
 
@@ -13,9 +15,10 @@ pub fn slot_over(rows: &Rows, b: &Bound) -> Option<u32>
     ensures some { IfSome result (λ s. (k i : ℕ) × (r : TheRecord) × IsRecordAt rows.now.pages b.now.node.0 k i r × (r.slot ≡ s) × IsRecordOver b.now r) }
     ensures none { IfNone result (IsNoneOf rows.now.pages b.now.node.0 (IsRecordOver b.now)) }
 {
+    let label = Literals::of(b.label);
     let mut place = rows.first(b.node.0 as u32);
     while let Some(number) = place {
-        if let Some(slot) = over_on_page(rows.page(number), b) {
+        if let Some(slot) = over_on_page(rows.page(number), b, &label) {
             return Some(slot);
         }
         place = rows.next(number);
@@ -28,9 +31,10 @@ pub fn place_under(rows: &Rows, b: &Bound) -> Option<(u32, usize)>
     ensures some { IfSome result (λ at. (r : TheRecord) × IsRecordAt rows.now.pages b.now.node.0 at.0 at.1 r × IsRecordUnder b.now r) }
     ensures none { IfNone result (IsNoneOf rows.now.pages b.now.node.0 (IsRecordUnder b.now)) }
 {
+    let label = Literals::of(b.label);
     let mut place = rows.first(b.node.0 as u32);
     while let Some(number) = place {
-        if let Some(index) = under_on_page(rows.page(number), b) {
+        if let Some(index) = under_on_page(rows.page(number), b, &label) {
             return Some((number, index));
         }
         place = rows.next(number);
@@ -71,25 +75,32 @@ fn bound_on_page(page: &Page, slot: u32) -> Option<Bound>
 }
 
 // The slot of a record of a page of the bound's time-point that dominates the bound.
-fn over_on_page(page: &Page, b: &Bound) -> Option<u32>
-    requires { IsPage page.now }
+fn over_on_page(page: &Page, b: &Bound, label: &Literals) -> Option<u32>
+    requires page { IsPage page.now }
+    requires label { label.now ≡ b.now.label }
     ensures some { IfSome result (λ s. (i : ℕ) × (r : TheRecord) × (slice_get page.now.records.items i ≡ Some r) × (r.slot ≡ s) × IsRecordOver b.now r) }
     ensures none { IfNone result (IsNoneOn page.now (IsRecordOver b.now)) }
 {
     if page.high < b.least {
         return None;
     }
-    for kept in page.records.as_slice() {
-        if is_over(*kept, b) {
+    let records = page.records.as_slice();
+    let within = page.records.within(label);
+    let mut from = 0;
+    while let Some(i) = first_bit_from(within, from) {
+        let kept = records[i as usize];
+        if b.least <= kept.least {
             return Some(kept.slot);
         }
+        from = i + 1;
     }
     None
 }
 
 // The place of a record of a page of the bound's time-point that the bound dominates.
-fn under_on_page(page: &Page, b: &Bound) -> Option<usize>
-    requires { IsPage page.now }
+fn under_on_page(page: &Page, b: &Bound, label: &Literals) -> Option<usize>
+    requires page { IsPage page.now }
+    requires label { label.now ≡ b.now.label }
     ensures some { IfSome result (λ i. (r : TheRecord) × (slice_get page.now.records.items i ≡ Some r) × IsRecordUnder b.now r) }
     ensures none { IfNone result (IsNoneOn page.now (IsRecordUnder b.now)) }
 {
@@ -97,25 +108,14 @@ fn under_on_page(page: &Page, b: &Bound) -> Option<usize>
         return None;
     }
     let records = page.records.as_slice();
-    for index in 0..records.len() {
-        if is_under(records[index], b) {
-            return Some(index);
+    let above = page.records.above(label);
+    let mut from = 0;
+    while let Some(i) = first_bit_from(above, from) {
+        let kept = records[i as usize];
+        if kept.least <= b.least {
+            return Some(i as usize);
         }
+        from = i + 1;
     }
     None
-}
-
-// Whether the record dominates the bound, where both are of one time-point. Of the records on a page that is looked at, most
-// are told by the label.
-fn is_over(kept: Record, b: &Bound) -> bool
-    ensures { IsTrue result ↔ IsRecordOver b.now kept }
-{
-    kept.label.is_within(b.label) && b.least <= kept.least
-}
-
-// Whether the bound dominates the record, where both are of one time-point.
-fn is_under(kept: Record, b: &Bound) -> bool
-    ensures { IsTrue result ↔ IsRecordUnder b.now kept }
-{
-    b.label.is_within(kept.label) && kept.least <= b.least
 }

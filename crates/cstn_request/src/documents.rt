@@ -83,10 +83,9 @@ pub fn open_network<F: Shelf>(
     ensures fault { IsErrOf result Unread.ReadFault → Rose (F.faults shelf.old) (F.faults shelf.new) }
 {
     if takes_labels {
-        open_lowered(alloc, asked, shelf)
-    } else {
-        open(alloc, asked, shelf)
+        return open_lowered(alloc, asked, shelf);
     }
+    open(alloc, asked, shelf)
 }
 
 /// Reads the document of a file, whose time-points may have labels. Fails where it is refused, where the file can't be read, and

@@ -195,13 +195,13 @@ fn capped_at<'a>(command: &str, asked: Asked<'a>, cap: Cap) -> Option<Request<'a
 }
 
 fn on_network<'a>(verb: NetworkVerb, asked: Asked<'a>, cap: Cap) -> Request<'a>
-    ensures request { the_request result.entry ≡ of_network verb (the_asked asked.entry) cap.entries }
+    ensures request { the_request result ≡ of_network verb (the_asked asked.entry) cap.entries }
 {
     Request::OfNetwork { verb, asked, cap }
 }
 
 fn on_labelled<'a>(verb: LabelledVerb, asked: Asked<'a>, cap: Cap) -> Request<'a>
-    ensures request { the_request result.entry ≡ of_labelled verb (the_asked asked.entry) cap.entries }
+    ensures request { the_request result ≡ of_labelled verb (the_asked asked.entry) cap.entries }
 {
     Request::OfLabelled { verb, asked, cap }
 }

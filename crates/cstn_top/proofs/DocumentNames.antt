@@ -2,12 +2,10 @@
 use Rattle.std.proofs.Common.{◌≡◌, ℕ, ◌+◌, ◌<◌, Bool, true, false, List, [], ◌∷◌, length, refl, ap, sym, ◌∙◌, subst, arith, ◌≢◌, zero, suc, ◌^◌, ◌++◌, map, Option, Some, None, Result, Ok}
 use Rattle.std.specs.Prelude.{if◌then◌else◌, Option, None, Some, Result, Ok, codes, is_some, not, nat_lt, nat_le, ◌&&◌}
 use Rattle.cstn_label.specs.Labels.{Label}
-use Rattle.cstn_element.specs.Results.{Refusal as Refused, or_refused, Refusal, ◌>>=◌, demand}
+use Rattle.cstn_element.specs.Results.{Refusal, or_refused, ◌>>=◌, demand}
 use Rattle.cstn_element.specs.Results.Refusal.{no_deadline, shape, bad_value, unknown_node, name_twice, label_text}
 use Rattle.cstn_graphml.specs.Document.{Parts, document, in_document, is_text, drawn_parts, first_of_two, or_nothing, Part, graph_child, graph_reading, in_graph, root_child, root_reading, in_root, document_child, document_reading, part_of}
 use Rattle.cstn_graphml.proofs.DrawnGraphLaws.{bind_ok, document_is_drawn}
-use Rattle.cstn_change.specs.Changes.{Refusal}
-use Rattle.cstn_reply.specs.Sessions.{last, wrong}
 use Rattle.std.specs.List.{All, AllPairs, AllByRecursion, Contains, list_any}
 use Rattle.std.specs.Str.{IsAscii, IsUtf8, is_utf8}
 use Rattle.std.proofs.lemmas.List.{get_or_default}
@@ -292,6 +290,6 @@ document_named bytes deadline parts is =
     let whole : ℕ → Parts = λ n. record { deadline = n; names = graph.0.names; observes = or_nothing graph.0.origin ∷ graph.0.observes; labels = graph.0.origin_label ∷ graph.0.labels; constraints = graph.0.constraints } in
     let timed = bind_ok (or_refused (first_of_two deadline graph.0.deadline) no_deadline) (λ n. Ok (whole n)) parts graph.2 in
     let each = (document_is_drawn _ graph.0 graph.1).each in
-    let told : ◌≡◌ {A = Result Parts Refused} (Ok (whole timed.0)) (Ok parts) = timed.2 in
+    let told : ◌≡◌ {A = Result Parts Refusal} (Ok (whole timed.0)) (Ok parts) = timed.2 in
     let same : whole timed.0 ≡ parts = cc in
     subst (λ (p : Parts). length p.names ≡ length p.observes) same (omega (arith, each))

@@ -1,5 +1,5 @@
 -- Which requests hold a session.
-use Rattle.std.proofs.Common.{ℕ, Bool, true, false, List}
+use Rattle.std.proofs.Common.{ℕ, Bool, true, false, List, length, map}
 use Rattle.std.specs.Prelude.{nat_lt, if◌then◌else◌, Option, codes}
 use Rattle.cstn_net.specs.Networks.{Network, count}
 use Rattle.cstn_lift.specs.Labelled.{Labelled}

@@ -45,9 +45,16 @@ fn one_label(alloc: Global, count: u16, node: u32, label: Label) -> Result<Vec<L
     ensures one_each { IfOk result (λ labels. length labels.items ≡ count) }
 {
     let mut labels = Vec::new(alloc);
-    labels.resize(count as usize, Label::empty())?;
-    if let Some(labelled) = labels.get_mut(node as usize) {
-        *labelled = label;
+    for x in 0..count {
+        labels.push(label_at(x, node, label))?;
     }
     Ok(labels)
+}
+
+// The label of a time-point, where this one is that of a single time-point.
+fn label_at(x: u16, node: u32, label: Label) -> Label {
+    if u32::from(x) == node {
+        return label;
+    }
+    Label::empty()
 }

@@ -6,7 +6,7 @@ ghost use Rattle.cstn_exec.specs.Sound.{IsLed};
 use crate::courses::{Course, MAX_COURSES, MAX_TURNS};
 use crate::heating::heating;
 use crate::plans::plan_of;
-use crate::printing::{print_named, print_outcome};
+use crate::printing::{print_course, print_named, print_outcome};
 use anyhow::bail;
 use cstn_exec::{ExecError, Guide};
 use cstn_text::Names;
@@ -16,17 +16,44 @@ use std::alloc::Global;
 pub fn rehearse_heating(rt: &impl Print, alloc: Global) -> anyhow::Result<()> {
     let mut course = Course::first();
     for number in 1..=MAX_COURSES {
-        let Some((mut guide, names)) = guide_of(alloc)? else {
-            println!(rt; "no plan")?;
-            return Ok(());
-        };
-        println!(rt; "course {number}")?;
-        rehearse(rt, &mut guide, &names, &mut course)?;
-        if !course.advance() {
+        if !rehearse_course(rt, alloc, number, &mut course)? {
             return Ok(());
         }
     }
     bail!("more than {MAX_COURSES} courses")
+}
+
+// Rehearses a course by a guide of its own, and turns to the next one. Says whether there is one; there is none where there is no
+// plan.
+fn rehearse_course(
+    rt: &impl Print,
+    alloc: Global,
+    number: u32,
+    course: &mut Course,
+) -> anyhow::Result<bool> {
+    match guide_of(alloc)? {
+        Some((mut guide, names)) => rehearse_by(rt, &mut guide, &names, number, course),
+        None => print_no_plan(rt),
+    }
+}
+
+// Says that there is no plan, and so no next course.
+fn print_no_plan(rt: &impl Print) -> anyhow::Result<bool> {
+    println!(rt; "no plan")?;
+    Ok(false)
+}
+
+// Rehearses a course by this guide, and turns to the next one. Says whether there is one.
+fn rehearse_by(
+    rt: &impl Print,
+    guide: &mut Guide,
+    names: &Names,
+    number: u32,
+    course: &mut Course,
+) -> anyhow::Result<bool> {
+    print_course(rt, number)?;
+    rehearse(rt, guide, names, course)?;
+    Ok(course.advance())
 }
 
 // A guide by the plan, and the names of the time-points; none where there is no plan.

@@ -6,7 +6,7 @@ ghost use Rattle.cstn_exec.specs.Right.{IsFulfilled};
 use crate::bottling::bottling;
 use crate::courses::{Course, MAX_COURSES, MAX_TURNS};
 use crate::plans::plan_of;
-use crate::printing::{print_named, print_outcome};
+use crate::printing::{print_course, print_named, print_outcome};
 use anyhow::bail;
 use cstn_exec::{ExecError, Executive};
 use cstn_plan::SoundPlan;
@@ -42,14 +42,25 @@ fn rehearse_courses(
 ) -> anyhow::Result<()> {
     let mut course = Course::first();
     for number in 1..=MAX_COURSES {
-        println!(rt; "course {number}")?;
-        executive.restart();
-        rehearse(rt, executive, names, &mut course)?;
-        if !course.advance() {
+        if !rehearse_course(rt, executive, names, number, &mut course)? {
             return Ok(());
         }
     }
     bail!("more than {MAX_COURSES} courses")
+}
+
+// Rehearses a course from the start, and turns to the next one. Says whether there is one.
+fn rehearse_course(
+    rt: &impl Print,
+    executive: &mut Executive,
+    names: &Names,
+    number: u32,
+    course: &mut Course,
+) -> anyhow::Result<bool> {
+    print_course(rt, number)?;
+    executive.restart();
+    rehearse(rt, executive, names, course)?;
+    Ok(course.advance())
 }
 
 // Carries the plan out to its end, with the outcomes of the course. In every scenario that agrees with these, each constraint

@@ -5,6 +5,11 @@ use cstn_next::NextMoment;
 use cstn_text::Names;
 use std::io;
 
+/// Prints the number of a course.
+pub fn print_course(rt: &impl Print, number: u32) -> io::Result<()> {
+    println!(rt; "course {number}")
+}
+
 /// Prints a moment, and the names of the time-points that are executed then; the number of one that has no name. Prints nothing
 /// where none are executed.
 pub fn print_named(rt: &impl Print, t: u32, named: &[NodeId], names: &Names) -> io::Result<()> {

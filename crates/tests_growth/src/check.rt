@@ -47,8 +47,8 @@ fn tries_few_rules(rt: HostRuntime) {
     let alloc = rt.alloc();
     let mut check = started(&rt, alloc, unknown_mark(&rt, alloc), 14);
     assert!(rt; check.tries() == 0 && check.run() == NO);
-    assert!(rt; check.tries() == 15);
-    assert!(rt; check.run() == NO && check.tries() == 15);
+    assert!(rt; check.tries() == 14);
+    assert!(rt; check.run() == NO && check.tries() == 14);
     drop(check);
 }
 

@@ -1,5 +1,5 @@
 -- What is proved of `edit`.
-use Rattle.std.proofs.Common.{◌≡◌, ◌∙◌, ℕ, List, [], ap, sym, subst}
+use Rattle.std.proofs.Common.{◌≡◌, ◌<◌, ◌∙◌, ℕ, List, [], ap, sym, subst}
 use Rattle.std.specs.Prelude.{Option, None, Some, IfSome, IsSomeAnd}
 use Rattle.cstn_io.specs.Contents.{IsAllOf}
 use Rattle.cstn_net.specs.Networks.{Network}

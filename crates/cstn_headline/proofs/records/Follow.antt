@@ -1,5 +1,5 @@
 -- What is proved of `follow`.
-use Rattle.std.proofs.Common.{◌≡◌, ◌∙◌, ℕ, Bool, true, false, List, refl, ap, sym, subst}
+use Rattle.std.proofs.Common.{◌≡◌, ◌<◌, ◌++◌, ◌∙◌, ℕ, Bool, true, false, List, refl, ap, sym, subst}
 use Rattle.std.specs.Prelude.{Option, Some, if◌then◌else◌, codes, decimal}
 use Rattle.cstn_io.specs.Contents.{IsAllOf}
 use Rattle.cstn_lift.specs.Labelled.{Labelled}

@@ -36,10 +36,10 @@ are_networks (bytes ∷ rest) deadline [] are = are
 are_networks (bytes ∷ rest) deadline (named ∷ all) are = (are.0, are_networks rest deadline all are.2)
 
 module _ (no_text : NoAccepted) (cap : ℕ) (capped : cap ≤ most_load) (deadline : Option ℕ) (contents : List (List ℕ)) (told : Option (List ℕ)) (live : List ℕ) (said : Said) (all : IsAllOf told live) where
-  lines : List (List ℕ)
+  abbrev pub lines : List (List ℕ)
   lines = lines_of live
 
-  telling : Telling
+  abbrev pub telling : Telling
   telling = host_telling cap deadline contents told said.text
 
   as_outcome : (o : Outcome) → said.outcome ≡ o → Tells telling o → Tells telling said.outcome
@@ -47,10 +47,10 @@ module _ (no_text : NoAccepted) (cap : ℕ) (capped : cap ≤ most_load) (deadli
 
   -- the session after each yes
   module _ (nets : List Named) (are : AreTaken contents deadline nets) (each : EachHas contents deadline (IsYes cap)) (output : IsOutput (session_of cap nets) live said) where
-    start : HostSession
+    abbrev start : HostSession
     start = begun (map the_file nets)
 
-    end : Said
+    abbrev end : Said
     end = play host_turn host_ending start 0 lines
 
     outcome_is : said.outcome ≡ end.outcome

@@ -63,13 +63,13 @@ answers_least names m bounds plan = record {
 }
 
 module _ (cap : ℕ) (told : Option (List ℕ)) (live : List ℕ) (said : Said) (all : IsAllOf told live) (names : List (List ℕ)) (m : Labelled) (of : IsOfLabelled names m) where
-  printed : List (List ℕ)
+  abbrev pub printed : List (List ℕ)
   printed = map printed_name names
 
-  lines : List (List ℕ)
+  abbrev pub lines : List (List ℕ)
   lines = lines_of live
 
-  telling : Telling
+  abbrev pub telling : Telling
   telling = run_telling cap told said.text names m
 
   as_outcome : (o : Outcome) → said.outcome ≡ o → Tells telling o → Tells telling said.outcome
@@ -80,7 +80,7 @@ module _ (cap : ℕ) (told : Option (List ℕ)) (live : List ℕ) (said : Said) 
     plan : IsPlanned m (run_bounds m)
     plan = yes_planned cap names m of yes'
 
-    end : Said
+    abbrev end : Said
     end = said_to printed m (run_bounds m) lines
 
     outcome_is : said.outcome ≡ end.outcome

@@ -1,5 +1,5 @@
 -- What is proved of `tree`.
-use Rattle.std.proofs.Common.{◌≤◌, ◌<◌, ◌≡◌, ◌∙◌, ℕ, Bool, true, false, List, refl, ap, sym, subst, inl, inr, arith, length}
+use Rattle.std.proofs.Common.{◌≤◌, ◌<◌, ◌≡◌, ◌∙◌, ℕ, Bool, true, false, List, refl, ap, sym, subst, inl, inr, arith}
 use Rattle.std.specs.Prelude.{nat_lt, if◌then◌else◌}
 use Rattle.cstn_net.specs.Limits.{most_load}
 use Rattle.cstn_net.specs.Networks.{Network}
@@ -7,20 +7,11 @@ use Rattle.cstn_reply.specs.Texts.{Said}
 use Rattle.cstn_top.specs.Plans.{IsOutput, Plan, says, branches}
 use Rattle.cstn_top.specs.Answers.{on_verdict}
 use Rattle.cstn_top.specs.commands.Tree.{unfolded}
-use Rattle.cstn_check.specs.Decisions.{verdict, IsYes}
+use Rattle.cstn_check.specs.Decisions.{verdict}
 use Rattle.cstn_top.proofs.Documents.{IsOfDocument}
 use Rattle.cstn_check.specs.Growth.{load_of, log_of, live_bounds}
 use Rattle.cstn_tree.specs.Unfolded.{observed, wide, IsTreeText}
 use Rattle.cstn_tree.specs.Limits.{most_observed}
-use Rattle.cstn_text.specs.Limits.{most_text}
-use Rattle.cstn_label.specs.Bounds.{Bound}
-use Rattle.cstn_plan.specs.Asked.{asked}
-use Rattle.cstn_plan.specs.Plans.{IsEarliest}
-use Rattle.cstn_plan.proofs.PlanLemmas.{asked_earliest}
-use Rattle.cstn_check.proofs.Decides.{log_closed, log_decides, log_sound}
-use Rattle.cstn_tree.specs.Texts.{shown as shown_tree}
-use Rattle.cstn_tree.specs.Trees.{lines_of as tree_lines}
-use Rattle.cstn_tree.proofs.TreeLengths.{made_short}
 use Rattle.cstn_reply.specs.declared.output.Outcome.{Outcome}
 use Rattle.cstn_reply.specs.declared.output.Outcome.TheVariants.{Good, Wide}
 use Rattle.cstn_headline.specs.Telling.{Tells}
@@ -30,20 +21,11 @@ use Rattle.cstn_headline.proofs.Telling.{Judged, judged}
 use Rattle.cstn_headline.proofs.Trees.{tree_proof}
 
 -- the text of a tree that was made is accepted
-made_tree : (names : List (List ℕ)) (net : Network) (said : Said) → IsOfDocument names net → IsNarrow net → load_of net ≤ most_load → IsYes (load_of net) net → IsTreeText names (load_of net) (live_bounds (log_of net)) net said → IsMadeTree names net said.text
-made_tree names net said of narrow few yes' is = record {
-  made = subst (IsTreeText names (load_of net) bounds net) (is.said_is ∙ sym (ap (λ (s : Said). record { outcome = Good; text = s.text }) is.said_is)) is;
-  accepted = tree_proof names net said is (subst (λ (text : List ℕ). length text ≤ most_text) (sym (ap (λ (s : Said). s.text) is.said_is)) short);
+made_tree : (names : List (List ℕ)) (net : Network) (said : Said) → IsTreeText names (load_of net) (live_bounds (log_of net)) net said → IsMadeTree names net said.text
+made_tree names net said is = record {
+  made = subst (IsTreeText names (load_of net) (live_bounds (log_of net)) net) (is.said_is ∙ sym (ap (λ (s : Said). record { outcome = Good; text = s.text }) is.said_is)) is;
+  accepted = tree_proof names net said is;
 }
-  where
-    bounds : List Bound
-    bounds = live_bounds (log_of net)
-
-    plan : IsEarliest net bounds (asked net bounds)
-    plan = asked_earliest net bounds of.good.network (log_closed net of.good.network of.good.letters ((log_decides net of.good.network of.good.letters).0 yes'.0)) (log_sound net of.good.network of.good.letters)
-
-    short : length (shown_tree names (load_of net) (tree_lines is.tree)) ≤ most_text
-    short = made_short names of.are net bounds (asked net bounds) of.good plan of.named (load_of net) few narrow is.tree is.made
 
 pub tree_tells : NoAccepted → (cap : ℕ) → cap ≤ most_load → (live : List ℕ) (said : Said) (names : List (List ℕ)) (net : Network) → IsOfDocument names net → IsOutput (unfolded cap names net) live said → Tells (tree_telling cap said.text names net) said.outcome
 tree_tells no_text cap capped live said names net of output = by_width (nat_lt most_observed (observed net)) refl output
@@ -62,8 +44,7 @@ tree_tells no_text cap capped live said names net of output = by_width (nat_lt m
 
     by_judged : IsNarrow net → Judged cap names net (IsOutput after_yes live said) said → Tells (tree_telling cap said.text names net) said.outcome
     by_judged narrow (inl is) =
-        let within = is.0.1 in
-        as_outcome _ (ap (λ (s : Said). s.outcome) is.1.said_is) (narrow, is.0, made_tree names net said of narrow (omega (arith, within, capped)) (is.0.0, omega arith) is.1)
+        as_outcome Good (ap (λ (s : Said). s.outcome) is.1.said_is) (narrow, is.0, made_tree names net said is.1)
     by_judged narrow (inr (inl is)) = as_outcome _ is.0 (narrow, is.1.0, is.1.1)
     by_judged narrow (inr (inr is)) = as_outcome _ is.0 (narrow, is.1)
 

@@ -1,6 +1,7 @@
 -- What `tree` tells.
-use Rattle.std.specs.Prelude.{◌≤◌, ◌<◌, ℕ, List}
+use Rattle.std.specs.Prelude.{length, ◌≤◌, ◌<◌, ℕ, List}
 use Rattle.cstn_net.specs.Networks.{Network}
+use Rattle.cstn_text.specs.Limits.{most_text}
 use Rattle.cstn_check.specs.Growth.{log_of, load_of, live_bounds}
 use Rattle.cstn_check.specs.Decisions.{IsYes, IsNo}
 use Rattle.cstn_tree.specs.Limits.{most_observed}
@@ -15,10 +16,11 @@ use Rattle.cstn_headline.specs.Telling.{Telling}
 abbrev pub IsNarrow : Network → Type 0
 IsNarrow net = observed net ≤ most_observed
 
--- the text is that of the tree by the bounds of the live entries of the log, and `treecheck` accepts it
+-- the text is that of the tree by the bounds of the live entries of the log, and `treecheck` accepts it, unless it has more bytes than that
+-- takes
 pub record IsMadeTree (names : List (List ℕ)) (net : Network) (text : List ℕ) : Type 0 where
   pub made : IsTreeText names (load_of net) (live_bounds (log_of net)) net (record { outcome = Good; text = text })
-  pub accepted : IsAccepted (by_text tree_checked text names net)
+  pub accepted : length text ≤ most_text → IsAccepted (by_text tree_checked text names net)
 
 -- more than 10 propositions are observed; or else the network has a strategy, and its tree is told; or it has none; or its log has
 -- more than `cap` entries

@@ -7,19 +7,18 @@ use Rattle.cstn_log.specs.Entries.{the_entries}
 use Rattle.cstn_check.specs.Tries.{how_many, concludes}
 use Rattle.cstn_check.proofs.TurnLemmas.{bound_had, idle_dead, idle_none, put_is_step, live_wait, dead_seen, dead_other, wait_follows_from, wait_concludes_from, wait_ends_from}
 use Rattle.cstn_check.proofs.Sequences.{open_step, put_stepped}
-use Rattle.cstn_check.proofs.FloorLemmas.{idle_covered, floor_rose, own_absent}
 use Rattle.cstn_check.proofs.waits.try_concluding.Goals as goal
 
 pub returns-then-not-live-clause-outcome : goal.returns-then-not-live-clause-outcome
 returns-then-not-live-clause-outcome c =
-    rw c.leave_out.ensures.stays (open_step _ _ _ _ (idle_dead (the_network c.args.net.now) c.args.log.now (wait_at c.args.seen.place c.args.premise.place) c.requires.ready
+    (open_step _ _ _ _ (idle_dead (the_network c.args.net.now) c.args.log.now (wait_at c.args.seen.place c.args.premise.place) c.requires.ready
     (dead_seen _ _ c.network_is_well_formed.ensures c.requires.ready c.args.seen.place c.args.premise.place
     (λ live. false≢true (c.if-not-live.ensures.live.1 live))))
     c.requires.ready)
 
 pub returns-then-not-live-2-clause-outcome : goal.returns-then-not-live-2-clause-outcome
 returns-then-not-live-2-clause-outcome c =
-    rw c.leave_out-then-not-live-2.ensures.stays (open_step _ _ _ _ (idle_dead (the_network c.args.net.now) c.args.log.now (wait_at c.args.seen.place c.args.premise.place) c.requires.ready
+    (open_step _ _ _ _ (idle_dead (the_network c.args.net.now) c.args.log.now (wait_at c.args.seen.place c.args.premise.place) c.requires.ready
     (dead_other _ _ c.network_is_well_formed.ensures c.requires.ready c.args.seen.place c.args.premise.place
     (λ live. false≢true (c.if-not-live-2.ensures.live.1 live))))
     c.requires.ready)
@@ -32,22 +31,6 @@ returns-in_default-clause-outcome c =
     c.requires.seen_bound c.requires.bound c.in_default.ensures.none))
     c.requires.ready
 
-pub returns-then-is_upto-clause-outcome : goal.returns-then-is_upto-clause-outcome
-returns-then-is_upto-clause-outcome c =
-    let w = c.in-Some.ensures.wait in
-    open_step _ _ _ _
-    (idle_covered (the_network c.args.net.now) c.args.log.now (wait_at c.args.seen.place c.args.premise.place) (the_bound c.in-Some.bound) c.requires.ready
-    (wait_concludes_from _ _ c.network_is_well_formed.ensures c.requires.ready c.args.seen.place c.args.premise.place (the_bound c.args.seen.bound) (the_bound c.args.premise.bound) w.0
-    (the_bound c.in-Some.bound) c.requires.seen_bound c.requires.bound w.1)
-    ((c.requires.floor w.0 w.1.observes).covered (the_bound c.args.seen.bound) (the_bound c.in-Some.bound) w.1 (c.is_upto.ensures c.if-is_upto.true)))
-    c.requires.ready
-
-pub returns-then-not-live-clause-floor : goal.returns-then-not-live-clause-floor
-returns-then-not-live-clause-floor c = rw c.leave_out.ensures.stays c.requires.floor
-
-pub returns-then-not-live-2-clause-floor : goal.returns-then-not-live-2-clause-floor
-returns-then-not-live-2-clause-floor c = rw c.leave_out-then-not-live-2.ensures.stays c.requires.floor
-
 pub wait-requires-clause-seen : goal.wait-requires-clause-seen
 wait-requires-clause-seen c =
     bound_had (the_network c.args.net.now) c.args.log.now c.args.seen.place (the_bound c.args.seen.bound) c.requires.ready c.requires.seen_bound
@@ -56,28 +39,24 @@ pub wait-requires-clause-bound : goal.wait-requires-clause-bound
 wait-requires-clause-bound c =
     bound_had (the_network c.args.net.now) c.args.log.now c.args.premise.place (the_bound c.args.premise.bound) c.requires.ready c.requires.bound
 
-pub put-done-requires-clause-follows : goal.put-done-requires-clause-follows
-put-done-requires-clause-follows c =
+pub put-requires-clause-follows : goal.put-requires-clause-follows
+put-requires-clause-follows c =
     let w = c.in-Some.ensures.wait in
     wait_follows_from (the_network c.args.net.now) c.args.log.now w.0 c.args.seen.place c.args.premise.place (the_bound c.args.seen.bound) (the_bound c.args.premise.bound)
     (the_bound c.in-Some.bound) c.requires.seen_bound c.requires.bound w.1
 
-pub raise-requires-clause-clean : goal.raise-requires-clause-clean
-raise-requires-clause-clean c = λ p own.
-    own_absent (the_network c.args.net.now) c.args.log.now c.args.premise.place (the_bound c.args.premise.bound) c.requires.ready c.requires.bound p own
-
 pub returns-clause-outcome : goal.returns-clause-outcome
 returns-clause-outcome c =
     let w = c.in-Some.ensures.wait in
-    rw c.remember.ensures.stays (put_stepped (the_network c.args.net.now) c.args.log.now c.put-done.new.log (wait_at c.args.seen.place c.args.premise.place) _
-    c.put-done.result c.network_is_well_formed.ensures tt c.requires.ready
+    (put_stepped (the_network c.args.net.now) c.args.log.now c.put.new.log (wait_at c.args.seen.place c.args.premise.place) _
+    c.put.result c.network_is_well_formed.ensures tt c.requires.ready
     (put_is_step (the_network c.args.net.now) c.args.log.now (wait_at c.args.seen.place c.args.premise.place)
     (the_bound c.in-Some.bound) c.requires.ready
     (live_wait _ _ c.network_is_well_formed.ensures c.requires.ready c.args.seen.place c.args.premise.place c.requires.seen c.requires.place
     (c.live.ensures.live.0 c.if-not-live.false) (c.live-2.ensures.live.0 c.if-not-live-2.false))
     (wait_concludes_from _ _ c.network_is_well_formed.ensures c.requires.ready c.args.seen.place c.args.premise.place (the_bound c.args.seen.bound) (the_bound c.args.premise.bound) w.0
     (the_bound c.in-Some.bound) c.requires.seen_bound c.requires.bound w.1))
-    c.put-done.ensures.taken c.put-done.ensures.cut)
+    c.put.ensures.taken c.put.ensures.cut)
 
 pub returns-clause-counted : goal.returns-clause-counted
 returns-clause-counted c =
@@ -86,8 +65,3 @@ returns-clause-counted c =
     ap how_many (wait_concludes_from _ _ c.network_is_well_formed.ensures c.requires.ready c.args.seen.place c.args.premise.place (the_bound c.args.seen.bound) (the_bound c.args.premise.bound) w.0
     (the_bound c.in-Some.bound) c.requires.seen_bound c.requires.bound w.1) in
     record { low = omega (arith, c.wait.ensures.counted, c.count_is_in_range.ensures); most = omega (arith, one, c.wait.ensures.counted) }
-
-pub returns-clause-floor : goal.returns-clause-floor
-returns-clause-floor c =
-    floor_rose (the_network c.args.net.now) c.args.log.now c.remember.new.self (wait_at c.args.seen.place c.args.premise.place) (the_bound c.args.premise.bound)
-    c.args.seen.bound.node.0 c.args.floor.now c.raise.new.floor c.put-done.result (returns-clause-outcome c).taken c.requires.floor c.raise.ensures.floor

@@ -4,7 +4,6 @@ use Rattle.cstn_log.specs.Entries.{the_entries}
 use Rattle.cstn_check.specs.Growth.{tried, waits_below}
 use Rattle.cstn_check.specs.Tries.{total, concludes_with}
 use Rattle.cstn_label.specs.Read.{the_bound}
-use Rattle.cstn_check.specs.Floors.{AreFloors}
 use Rattle.cstn_check.specs.Waits.{HasBound, IsAhead}
 use Rattle.cstn_check.specs.Turns.{IsOpen, IsTaken}
 use Rattle.cstn_check.specs.Steps.{IsCounted}
@@ -17,8 +16,7 @@ invariant-loop-i l = record {
   upto : l.i ≤ l.fn.j + 1;
   counted : IsCounted l.fn.tries.count l.tries.count (total (concludes_with (the_network l.fn.net) (the_entries l.fn.log.entries) l.fn.j) l.i);
   bound : HasBound l.log.entries l.fn.j (the_bound l.own.bound);
-  floors : AreFloors (the_network l.fn.net) (the_entries l.log.entries) (the_bound l.own.bound) l.floors;
-  ahead : l.i ≤ l.fn.j → IsAhead (the_network l.fn.net) l.log.entries l.fn.j (l.i + 1) l.walk.block l.walk.start l.walk.end;
+  ahead : l.i ≤ l.fn.j → IsAhead (the_network l.fn.net) l.log l.fn.j (l.i + 1);
 }
 
 abbrev pub decreases-loop-i : goal.decreases-loop-i

@@ -1,4 +1,4 @@
-use Rattle.std.proofs.Common.{arith, refl, sym}
+use Rattle.std.proofs.Common.{arith}
 use Rattle.std.proofs.lemmas.Option.{slice_get-get_or}
 use Rattle.cstn_minset.specs.Passes.{kind_of}
 use Rattle.cstn_minset.proofs.PassLemmas.{upto_more, upto_all}

@@ -1,6 +1,10 @@
+use Rattle.std.proofs.Common.{◌-◌}
 use Rattle.cstn_minset.specs.Sets.{IsRecordOver}
 use Rattle.cstn_minset.proofs.ScanLemmas.{IsNoneUpto}
 use Rattle.cstn_minset.proofs.scan.over_on_page.Given as goal
 
-abbrev pub invariant-loop-kept : goal.invariant-loop-kept
-invariant-loop-kept l = IsNoneUpto l.kept-items l.kept-index (IsRecordOver l.b)
+abbrev pub invariant-loop-i : goal.invariant-loop-i
+invariant-loop-i l = IsNoneUpto l.page.records.items l.from (IsRecordOver l.b)
+
+abbrev pub decreases-loop-i : goal.decreases-loop-i
+decreases-loop-i l = 64 - l.from

@@ -10,7 +10,7 @@ use Rattle.cstn_edit.proofs.StartLemmas.{started_log, started_session, started_s
 use Rattle.cstn_net.specs.Read.{NetworkParts}
 use Rattle.std.specs.List.{All}
 use Rattle.std.proofs.Common.{◌<◌, ◌^◌}
-use Rattle.cstn_change.proofs.IdLemmas.{constraint_ids as ids_below}
+use Rattle.cstn_change.proofs.IdLemmas.{ids_of as ids_below}
 use Rattle.cstn_edit.proofs.sessions.Session.start.Goals as goal
 
 pub invariant_of-result : goal.invariant_of-result

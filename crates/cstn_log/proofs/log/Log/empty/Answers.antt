@@ -1,7 +1,6 @@
 use Rattle.std.proofs.Common.{arith}
 use Rattle.std.proofs.lemmas.List.{length-replicate}
 use Rattle.cstn_log.proofs.KeptLemmas.{kept_empty, no_slot}
-use Rattle.cstn_log.proofs.PlaceSetLemmas.{none_marked, none_standing}
 use Rattle.cstn_log.proofs.log.Log.empty.Goals as goal
 
 pub invariant_of-result : goal.invariant_of-result
@@ -11,14 +10,8 @@ invariant_of-result c =
       room = record {
         size = omega (arith, length-replicate c.args.cap.entries no_slot);
         for_marks = omega (arith, c.in_ok-marks.ensures.capacity, length-replicate c.args.cap.entries no_slot);
+        for_slots = omega (arith, c.in_ok-found.ensures.capacity, length-replicate c.args.cap.entries no_slot);
+        for_places = omega (arith, c.in_ok-agenda.ensures, length-replicate c.args.cap.entries no_slot);
         few = omega (arith, c.args.cap.most, length-replicate c.args.cap.entries no_slot);
-      };
-      indexed = record {
-        marked = none_marked c.in_ok-marking.marking;
-        stand = none_standing c.args.watched.items c.in_ok-standing.standing;
-        room = record {
-          for_marks = rw (length-replicate c.args.cap.entries no_slot) c.in_ok-marking.ensures.room;
-          for_nodes = rw (length-replicate c.args.cap.entries no_slot) c.in_ok-standing.ensures.room;
-        };
       };
     })

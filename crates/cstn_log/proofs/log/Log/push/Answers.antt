@@ -10,7 +10,6 @@ use Rattle.cstn_log.specs.Entries.{State, the_entries, IsCoveredBy}
 use Rattle.cstn_log.proofs.KeptLemmas.{few, unplaced, uncovered_there, born_before}
 use Rattle.cstn_log.proofs.PushLemmas.{push_step, slot_empty}
 use Rattle.cstn_log.proofs.DerivedLemmas.{follows_inside, pushed_derivation}
-use Rattle.cstn_log.proofs.PlaceSetLemmas.{marked_more, standing_more}
 use Rattle.cstn_log.proofs.log.Log.push.Goals as goal
 
 pub prove-unreachable-requires : goal.prove-unreachable-requires
@@ -60,38 +59,17 @@ invariant_of-self-2 c =
     let room = c.self.invariant.room in
     let L = c.self.inside.list.entries in
     let follows = subst (λ (v : State). Follows (the_network c.args.net.now) (the_entries v.entries) (length v.entries) c.args.e.why (the_bound c.args.e.bound)) (sym c.self.view_is) c.requires.follows in
-    let index = c.self.invariant.indexed in
     let same : c.place.new.self.nodes ≡ c.self.inside.minimal.nodes = ap (λ v. v.nodes) placed.2 in
-    let long : length L ≡ c.len-place.result = omega (arith, c.len-place.ensures.len) in
     record {
       kept = push_step c.domination_is_an_order.ensures.transitive c.self.inside.list.pool.slots c.self.inside.list.pool.births c.self.inside.minimal placed.0 L c.push.new.self.entries c.self.inside.list.ids id c.args.e more.0 c.push.new.self.pool c.place.new.self c.push.new.self.ids more.1 c.self.invariant.kept c.in_ok-id.ensures.empty c.in_ok-id.ensures.birth taken placed.1 placed.2 longer pushed uncovered (omega (arith, nodes, c.requires.net, c.if-prove.false, c.count-count.ensures.count));
       room = record {
         size = ap (λ v. v.cap) more.2 ∙ room.size ∙ sym size;
         for_marks = omega (arith, size, room.for_marks);
+        for_slots = omega (arith, size, room.for_slots);
+        for_places = omega (arith, size, room.for_places);
         few = omega (arith, size, room.few);
       };
-      indexed = record {
-        marked = rw longer (marked_more L c.args.e c.self.inside.marking c.put_marked.new.self c.put_marked.ensures.kept
-            (rw (← long) at c.put_marked.ensures.here) index.marked);
-        stand = rw longer (standing_more L c.args.e c.self.inside.standing c.put_standing.new.standing c.put_standing.ensures.kept c.self.inside.watched.items
-            (rw (← long, c.deref.ensures.value) at c.put_standing.ensures.here) index.stand);
-        room = record {
-          for_marks = rw size (omega (arith, index.room.for_marks, c.put_marked.ensures.room));
-          for_nodes = rw size (omega (arith, index.room.for_nodes, c.put_standing.ensures.room));
-        };
-      };
     }
-
-pub put_marked-requires : goal.put_marked-requires
-put_marked-requires c =
-    let inside = slice_get_within c.self.inside.list.pool.slots c.in_ok-id.id.slot None c.in_ok-id.ensures.empty in
-    let room = few _ _ _ _ c.self.invariant.kept.pooled in
-    omega (arith, inside, room, c.self.invariant.kept.size, c.len-place.ensures.len, c.self.invariant.indexed.room.for_marks)
-
-pub put_standing-requires : goal.put_standing-requires
-put_standing-requires c =
-    let room = few _ _ _ _ c.self.invariant.kept.pooled in
-    omega (arith, room, c.self.invariant.kept.size, c.len-place.ensures.len, c.self.invariant.indexed.room.for_nodes)
 
 -- the id of a slot and a birth
 abbrev the_id : ℕ → ℕ → SlotId
@@ -110,7 +88,7 @@ returns-clause-pushed c = λ _.
     let cap = ap (λ v. v.cap) more.2 in
     let births = ap (λ v. v.pool.births) more.2 in
     let id_is : id ≡ record { slot = id.slot; birth = c.self.inside.list.pool.births } = ap (λ (n : ℕ). the_id id.slot n) c.in_ok-id.ensures.birth in
-    (id.slot, rw (← c.self.view_is, longer, pushed, cap, nodes, births) (ap (λ (y : SlotId). the_state (record { entries = c.self.inside.list.entries; ids = c.self.inside.list.ids; births = c.self.inside.list.pool.births; cap = c.self.inside.list.cap; nodes = c.self.inside.minimal.nodes }) (c.self.inside.list.pool.births + 1) c.args.e y) id_is))
+    (id.slot, rw (← c.self.view_is, longer, pushed, cap, nodes, births) (ap (λ (y : SlotId). the_state (record { entries = c.self.inside.list.entries; ids = c.self.inside.list.ids; births = c.self.inside.list.pool.births; cap = c.self.inside.list.cap; nodes = c.self.inside.minimal.nodes; agenda = c.self.inside.agenda }) (c.self.inside.list.pool.births + 1) c.args.e y) id_is))
 
 pub returns-clause-derivation : goal.returns-clause-derivation
 returns-clause-derivation c =

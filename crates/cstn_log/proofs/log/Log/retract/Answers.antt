@@ -1,4 +1,4 @@
-use Rattle.std.proofs.Common.{◌≡◌, ◌≤◌, ◌+◌, ◌-◌, ◌∙◌, ℕ, [], List, length, map, Some, false, arith, sym, subst, ap}
+use Rattle.std.proofs.Common.{◌≡◌, ◌+◌, ◌-◌, ◌∙◌, ℕ, [], List, length, map, Some, false, arith, sym, subst, ap}
 use Rattle.std.specs.Prelude.{slice_get}
 use Rattle.std.proofs.lemmas.List.{length-map, length-replicate}
 use Rattle.std.proofs.lemmas.Option.{slice_get_within}
@@ -8,7 +8,6 @@ use Rattle.cstn_rules.specs.Read.{the_entry}
 use Rattle.cstn_log.specs.Entries.{State, HasId, the_entries}
 use Rattle.cstn_log.specs.Kept.{AreLeft, IsPooled, renewed}
 use Rattle.cstn_log.specs.Cuts.{is_marked, rank, chosen, cut, marked_staying, dropped}
-use Rattle.cstn_log.proofs.KeptLemmas.{few}
 use Rattle.cstn_log.proofs.ChoiceLemmas.{rank_upto, length_chosen, chosen_all, all_marked}
 use Rattle.cstn_log.proofs.CutLemmas.{cut_all}
 use Rattle.cstn_log.proofs.LeftLemmas.{clash, left_pooled, none_gone, renewed_cut, length_left}
@@ -111,28 +110,6 @@ place_all-requires-clause-nodes c =
     let cut_is : the_entries c.keep.new.self.entries ≡ cut M (the_entries E) = ap the_entries kept ∙ renewed_cut M E in
     rw (ap (λ v. v.nodes) c.clear-2.ensures) (cut_inside M E c.keep.new.self.entries c.self.inside.minimal.nodes cut_is c.self.invariant.kept.inside)
 
-pub put_all-requires-clause-room : goal.put_all-requires-clause-room
-put_all-requires-clause-room c =
-    let E = c.self.inside.list.entries in
-    let I = c.self.inside.list.ids in
-    let M = c.mark_staying.new.marks.items in
-    let kept : c.keep.new.self.entries ≡ chosen M (map (renewed M) E) = ap (λ v. v.entries) (rw c.deref-2.ensures.value at c.keep.ensures.kept) in
-    let short : length c.keep.new.self.entries ≤ length c.self.inside.list.pool.slots = omega (arith, ap length kept, length_left M E, rank_upto M (length E), c.self.invariant.kept.size, few _ _ _ _ c.self.invariant.kept.pooled) in
-    let index = c.self.invariant.indexed in
-    let room = index.room.for_marks in
-    let same = c.clear-3.ensures.room in
-    (omega (arith, short, room, same), omega (arith, short, index.room.for_nodes, c.clear-4.ensures.room))
-
-pub put_all-requires-clause-few : goal.put_all-requires-clause-few
-put_all-requires-clause-few c =
-    let E = c.self.inside.list.entries in
-    let I = c.self.inside.list.ids in
-    let M = c.mark_staying.new.marks.items in
-    let kept : c.keep.new.self.entries ≡ chosen M (map (renewed M) E) = ap (λ v. v.entries) (rw c.deref-2.ensures.value at c.keep.ensures.kept) in
-    let short : length c.keep.new.self.entries ≤ length c.self.inside.list.pool.slots = omega (arith, ap length kept, length_left M E, rank_upto M (length E), c.self.invariant.kept.size, few _ _ _ _ c.self.invariant.kept.pooled) in
-    let index = c.self.invariant.indexed in
-    omega (arith, short, c.self.invariant.room.few)
-
 pub overflow_sub-result : goal.overflow_sub-result
 overflow_sub-result c =
     let E = c.self.inside.list.entries in
@@ -155,7 +132,6 @@ invariant_of-self-2 c =
     let left : AreLeft M I (length I) c.self.inside.list.pool.slots c.keep.new.self.pool.slots = rw c.deref-2.ensures.value at c.keep.ensures.left in
     let pooled : IsPooled c.keep.new.self.pool.slots c.self.inside.list.pool.births (chosen M (map (renewed M) E)) (chosen M I) = left_pooled M c.self.inside.list.pool.births E I c.self.inside.list.pool.slots c.keep.new.self.pool.slots c.self.invariant.kept.pooled c.self.invariant.kept.size left in
     let cleared : length c.clear-2.new.self.table ≡ length c.self.inside.minimal.table = ap (λ v. length v.table) c.clear-2.ensures ∙ length-replicate _ _ in
-    let index = c.self.invariant.indexed in
     let whole : the_entries c.keep.new.self.entries ≡ dropped (the_entries E) c.args.constraint = cut_is ∙ ap (λ m. cut m (the_entries E)) marks in
     let room = c.self.invariant.room in
     let size = left.size in
@@ -172,15 +148,9 @@ invariant_of-self-2 c =
       room = record {
         size = ap (λ v. v.cap) c.keep.ensures.kept ∙ room.size ∙ sym size;
         for_marks = omega (arith, size, room.for_marks, c.mark_staying.ensures.room, c.clear.ensures.capacity);
+        for_slots = omega (arith, size, room.for_slots);
+        for_places = omega (arith, size, room.for_places);
         few = omega (arith, size, room.few);
-      };
-      indexed = record {
-        marked = c.put_all.ensures.marking;
-        stand = rw c.deref-3.ensures.value at c.put_all.ensures.standing;
-        room = record {
-          for_marks = rw size (omega (arith, index.room.for_marks, c.clear-3.ensures.room, c.put_all.ensures.room.0));
-          for_nodes = rw size (omega (arith, index.room.for_nodes, c.clear-4.ensures.room, c.put_all.ensures.room.1));
-        };
       };
     }
 

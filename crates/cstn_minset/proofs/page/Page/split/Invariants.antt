@@ -5,11 +5,9 @@ use Rattle.cstn_minset.proofs.page.Page.split.Given as goal
 
 abbrev pub invariant-loop : goal.invariant-loop
 invariant-loop l = record {
-  head : l.self.head ≡ l.fn.self.head;
   upper_head : l.upper.head ≡ l.fn.self.head;
-  is : IsPage l.self;
   upper_is : IsPage l.upper;
-  size : length l.self.records.items + l.counter ≡ 32;
+  size : length l.left.items + l.counter ≡ 64;
   upper_size : length l.upper.records.items ≡ l.counter;
-  same : IsPermutation l.fn.self.records.items (l.self.records.items ++ l.upper.records.items);
+  same : IsPermutation l.fn.self.records.items (l.left.items ++ l.upper.records.items);
 }

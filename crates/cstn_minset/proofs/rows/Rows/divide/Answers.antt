@@ -9,7 +9,7 @@ use Rattle.cstn_minset.proofs.RowLemmas.{read_page, fit_half}
 use Rattle.cstn_minset.proofs.rows.Rows.divide.Goals as goal
 
 abbrev IsFull : Paged → ℕ → Type 0
-IsFull v k = (p : Page) × (slice_get v.pages k ≡ Some p) × (p.head < v.heads) × (length p.records.items ≡ 32)
+IsFull v k = (p : Page) × (slice_get v.pages k ≡ Some p) × (p.head < v.heads) × (length p.records.items ≡ 64)
 
 pub invariant_of-self : goal.invariant_of-self
 invariant_of-self c =

@@ -13,7 +13,7 @@ reuse-requires-clause-free c =
 
 pub append-requires-clause-few : goal.append-requires-clause-few
 append-requires-clause-few c =
-    let room = subst (λ (v : Paged). length (held v.pages) + 16 ≤ v.capacity) (sym c.self.view_is) c.requires.room in
+    let room = subst (λ (v : Paged). length (held v.pages) + 32 ≤ v.capacity) (sym c.self.view_is) c.requires.room in
     subst (λ (v : Paged). length v.pages < most_pages v.heads v.capacity) c.self.view_is (page_left _ _ _ c.self.inside.pages.items _ c.self.invariant (c.in-None.ensures _ c.self.invariant.linked) room)
 
 pub returns-in-Some-clause-there : goal.returns-in-Some-clause-there

@@ -56,4 +56,4 @@ returns-clause-spare c = λ q is.
     let half = c.self.invariant.half c.args.page old.0 (omega (arith, c.if-page-self.false)) there row in
     let filled = c.refill.ensures.filled old.0 old.1 in
     let same = same_Some filled.0 q (sym filled.2 ∙ is) in
-    inr (subst (λ (x : Page). 16 < length x.records.items) same (rw filled.4 (omega (arith, half, length-append old.0.records.items (filled.1 ∷ [])))))
+    inr (subst (λ (x : Page). 32 < length x.records.items) same (rw filled.4 (omega (arith, half, length-append old.0.records.items (filled.1 ∷ [])))))

@@ -13,7 +13,7 @@ invariant_of-self c =
     let back = sym c.self.view_is in
     let inv = c.self.invariant in
     let k : ℕ = c.place_for-page.result in
-    let page : (p : Page) × (slice_get c.self.inside.pages.items k ≡ Some p) × (p.head ≡ c.args.head) × (length p.records.items < 32) = subst (λ (v : Paged). (p : Page) × (slice_get v.pages k ≡ Some p) × (p.head ≡ c.args.head) × (length p.records.items < 32)) back c.place_for-page.ensures.page in
+    let page : (p : Page) × (slice_get c.self.inside.pages.items k ≡ Some p) × (p.head ≡ c.args.head) × (length p.records.items < 64) = subst (λ (v : Paged). (p : Page) × (slice_get v.pages k ≡ Some p) × (p.head ≡ c.args.head) × (length p.records.items < 64)) back c.place_for-page.ensures.page in
     let heads : c.self.inside.heads ≡ c.args.self.now.heads = subst (λ (v : Paged). v.heads ≡ c.args.self.now.heads) back c.place_for-page.ensures.size.0 in
     let read = read_page c.self.inside.pages.items c.place_for-page.result page.0 c.index_mut.result.now page.1 c.index_mut.ensures.value in
     let head = c.add.ensures.head ∙ ap (λ x. x.head) read in
@@ -25,7 +25,7 @@ pub returns-clause-put : goal.returns-clause-put
 returns-clause-put c =
     let back = sym c.self.view_is in
     let k : ℕ = c.place_for-page.result in
-    let page : (p : Page) × (slice_get c.self.inside.pages.items k ≡ Some p) × (p.head ≡ c.args.head) × (length p.records.items < 32) = subst (λ (v : Paged). (p : Page) × (slice_get v.pages k ≡ Some p) × (p.head ≡ c.args.head) × (length p.records.items < 32)) back c.place_for-page.ensures.page in
+    let page : (p : Page) × (slice_get c.self.inside.pages.items k ≡ Some p) × (p.head ≡ c.args.head) × (length p.records.items < 64) = subst (λ (v : Paged). (p : Page) × (slice_get v.pages k ≡ Some p) × (p.head ≡ c.args.head) × (length p.records.items < 64)) back c.place_for-page.ensures.page in
     let same = subst (λ (v : Paged). IsPermutation (held c.args.self.now.pages) (held v.pages)) back c.place_for-page.ensures.same in
     let read = read_page c.self.inside.pages.items c.place_for-page.result page.0 c.index_mut.result.now page.1 c.index_mut.ensures.value in
     let added = held_added c.self.inside.pages.items k page.0 c.add.new.self c.args.added page.1 (c.add.ensures.head ∙ ap (λ x. x.head) read) (rw read at c.add.ensures.added) in

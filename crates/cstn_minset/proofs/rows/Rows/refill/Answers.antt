@@ -9,7 +9,7 @@ use Rattle.cstn_minset.proofs.RowLemmas.{read_page, at_all, fit_less, fit_more}
 use Rattle.cstn_minset.proofs.rows.Rows.refill.Goals as goal
 
 abbrev IsLight : Paged → ℕ → ℕ → Type 0
-IsLight v first k = (p : Page) × (slice_get v.pages k ≡ Some p) × (p.head ≡ first) × (length p.records.items ≤ 16)
+IsLight v first k = (p : Page) × (slice_get v.pages k ≡ Some p) × (p.head ≡ first) × (length p.records.items ≤ 32)
 
 pub invariant_of-self : goal.invariant_of-self
 invariant_of-self c =

@@ -1,4 +1,4 @@
-use Rattle.std.proofs.Common.{◌≡◌, ◌∙◌, [], refl, ap, sym, subst}
+use Rattle.std.proofs.Common.{◌∙◌, [], refl, ap, sym, subst}
 use Rattle.cstn_net.specs.Read.{the_network}
 use Rattle.cstn_reply.specs.Read.{the_said}
 use Rattle.cstn_request.specs.declared.words.NetworkVerb.{NetworkVerb}
@@ -12,8 +12,6 @@ use Rattle.cstn_top.specs.commands.Conflict.{blamed}
 use Rattle.cstn_top.specs.commands.Tree.{unfolded}
 use Rattle.cstn_top.specs.commands.Edit.{edited}
 use Rattle.cstn_top.specs.Prepared.{the_plan, FitsKind}
-use Rattle.cstn_top.specs.Questions.{HasSmallIds}
-use Rattle.cstn_request.specs.Requests.{network_labels}
 use Rattle.cstn_top.specs.declared.commands.Prepared.TheVariants.{Edits}
 use Rattle.cstn_top.proofs.Comes.{comes_same, comes_to_text}
 use Rattle.cstn_top.proofs.Sayings.{check_says, tight_says, tree_says}
@@ -43,13 +41,6 @@ pub returns-in_ok-said-in-Tree-clause-comes : goal.returns-in_ok-said-in-Tree-cl
 returns-in_ok-said-in-Tree-clause-comes c =
     subst (λ (v : NetworkVerb). ComesTo (network_answer v c.args.cap.entries c.args.document.names (the_network c.args.document.network)) (says (the_said c.in_ok-said-in-Tree.said))) (sym c.in-Tree.is)
     (comes_to_text (unfolded c.args.cap.entries c.args.document.names (the_network c.args.document.network)) (the_said c.in_ok-said-in-Tree.said) (tree_says c.args.cap.entries c.args.document.names (the_network c.args.document.network) (the_said c.in_ok-said-in-Tree.said) c.in_ok-said-in-Tree.ensures.said))
-
-pub start-requires : goal.start-requires
-start-requires c = record {
-  named = c.requires.sound.named;
-  few = c.requires.sound.well_formed.few_constraints;
-  ids = subst (λ (v : NetworkVerb). HasSmallIds (network_labels v) c.args.document) c.in-Edit.is c.requires.small;
-}
 
 pub returns-in_ok-session-in-Edit-clause-comes : goal.returns-in_ok-session-in-Edit-clause-comes
 returns-in_ok-session-in-Edit-clause-comes c =
