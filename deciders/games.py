@@ -1,5 +1,6 @@
 #!/usr/bin/env -S python3 -B
-"""A second opinion on `check` and `run`, from docs/definitions.md alone: small drawn plans are played in every way.
+"""A second opinion on `check` and `run`, from the definitions of networks and strategies alone (docs/theorems.md): small drawn
+plans are played in every way.
 
     deciders/games.py [PROGRAM [FIRST [COUNT]]]        PROGRAM, which has to be there, is crates/cstn/out/cstn where none is named
 

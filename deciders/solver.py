@@ -3,7 +3,7 @@
 
     deciders/solver.py [PROGRAM [FIRST [COUNT]]]        PROGRAM, which has to be there, is crates/cstn/out/cstn where none is named
 
-z3 is called by the name in Z3, or as `z3`. Of each drawn plan it gets the definition of a strategy in docs/definitions.md, written out as
+z3 is called by the name in Z3, or as `z3`. Of each drawn plan it gets the definition of a strategy in docs/theorems.md, written out as
 SMT-LIB: a moment for each time-point that is executed, in each case, within its limit; each constraint in force is met; and where a
 case agrees with another in what is known at a moment, who has that moment in the one has it in the other. It says whether there is such
 a table, and, asked by halves, how early each moment may be in one. The program is compared as by deciders/games.py; so are the small

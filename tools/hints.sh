@@ -13,7 +13,7 @@ tell_command() {
 }
 
 tell_commands() {
-  echo "./cstn COMMAND ..: exact forms, answers and statuses are in docs/commands.md"
+  echo "./cstn COMMAND ..: exact forms, answers and statuses are in docs/commands.md, or in \`man ./cstn.1\`"
   each_command tell_command
   echo "./cstn --version says more: which program is taken, and what it was made from; ./cstn --program writes where it is"
   echo "./cstn explain FILE [PROOF] says a document, a no, a tree or what follow answers in words, what of FILE was passed over, and why it is refused"
