@@ -32,10 +32,11 @@ def draw_now(plan: Plan, session: Session, places: list[int]) -> str:
     for at in places:
         case = session.cases[at]
         limits = "this limit" if len(session.blamed + session.let_go) == 1 else "these limits"
-        without = f", without {limits}" if session.blamed and session.left else ""
+        is_let_go = bool(session.blamed and session.left)
+        without = f", without {limits}, so lengths and orders may be wrong" if is_let_go else ""
         which = f", case {at + 1} of {len(session.cases)}" if len(session.cases) > 1 else ""
         left = "What is left" if case.moments.keys() - done - {"Z"} else "What was done"
         says = f"{left}{without}{which}: {outcomes_in_words(case) or 'the plan'}"
-        title = f"{says}; done at {plan.clock.says(case.end)}"
+        title = f"{'No plan. ' if is_let_go else ''}{says}; done at {plan.clock.says(case.end)}"
         panels.append(Panel(case, title, session.chains[at], done, now, at + 1))
     return draw_panels(plan, panels, told_of(plan, session), [])

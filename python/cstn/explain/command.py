@@ -25,19 +25,21 @@ import sys
 from .asking import Asked, read_once
 from .conflicts import tell_sets
 from .documents import Reader, tell_passed_over
-from .following import is_answer, is_followed
+from .following import is_answer, is_followed, is_typed
 from .looks import looks
 from .names import harmless, harmless_data
 from .networks import Network, network_in_words, plain_copy, ticks
 from .proofs import tell_judged_tree, tell_refutation
 from .refusals import tell_refused
-from .sessions import tell_session
+from .sessions import answered, tell_session
 from .shapes import Data
 from .spoken import Clock, Spoken, read_clock
 from .steps import tell_float, tell_step
 from .stopped import Stopped
 from .trees import MOST_IN_WORDS, size
 
+IDS_OF_REST = ("If `rest` wrote FILE, the ids and lines below are its own. Never type them into the session: look a limit "
+               "up by its words in `./cstn explain` of the document that was followed, and `change` the id there.")
 ASKED = ("--plain", "--tree", "--conflict", "--tight", "--float", "--step")
 
 
@@ -52,7 +54,9 @@ def tell_proof(asked: Asked, text: str) -> tuple[int, Data, list[str]]:
             return 0, {"answer": "least", "least": 0}, lines
         asked.net.deadline = int(least[1]) - 1
         status, data, more = tell_refutation(asked, text, True)
-        return status, {"least": int(least[1]), **data}, [*lines, f"With the deadline {asked.net.deadline}:", *more]
+        return status, {"least": int(least[1]), **data}, [*lines, f"With the deadline {Spoken.moment(asked.net.deadline)}:", *more]
+    if is_typed(text):
+        text = answered(asked, text) or text
     if is_followed(text):
         return tell_session(asked, text)
     if re.match(r"yes \d+\n(at |ask |done)", text):
@@ -67,7 +71,7 @@ def tell_tight(asked: Asked) -> tuple[int, Data, list[str]]:
     if not asked.option:
         asked.net.deadline = asked.later()
         status, text = asked.answer_at("tight", cap=asked.cap(1))
-        over = f"Up to {asked.net.deadline} it is not told, since that may take long: `tight` with it tells it."
+        over = f"Up to {Spoken.moment(asked.net.deadline)} it is not told, since that may take long: `tight` with it tells it."
     if status > 1:
         asked.net.deadline = own
         status, text = asked.answer_at("tight")
@@ -76,14 +80,14 @@ def tell_tight(asked: Asked) -> tuple[int, Data, list[str]]:
     if status:
         most = asked.net.deadline
         told, data, lines = tell_refutation(asked, text, True)
-        head = f"With no deadline up to {most} can the plan be carried out."
+        head = f"With no deadline up to {Spoken.moment(most)} can the plan be carried out."
         more = [over] if over and most == own else []
         return told or status, {**data, "none_up_to": most}, [head, *more, *lines]
     told, data, lines = tell_proof(asked, text)
     if data["least"] > own:
         data["missing"] = data["least"] - own
         are = "is" if data["missing"] == 1 else "are"
-        lines.insert(1, f"{ticks(data['missing'])} {are} missing: the deadline of FILE is {own}.")
+        lines.insert(1, f"{ticks(data['missing'])} {are} missing: the deadline of FILE is {Spoken.moment(own)}.")
     return told, data, lines
 
 
@@ -108,11 +112,16 @@ def tell_tree(asked: Asked) -> tuple[int, Data, list[str]]:
 def tell_conflict(asked: Asked) -> tuple[int, Data, list[str]]:
     """What the document is answered by `conflict`: a yes, or a set that is to blame."""
     status, text = asked.answer_plain("conflict")
+    if not status:
+        lines = [f"The plan can be carried out by {Spoken.moment(asked.net.deadline)}; nothing is to blame."]
+        return 0, {"answer": text.strip(), "says": lines}, lines
     if status != 1:
         return status, {"answer": text.split("\n")[0]}, text.rstrip("\n").split("\n")
     told, data, lines = tell_proof(asked, text)
     if data.get("each_needed"):
         tell_sets(asked, data, lines)
+    if asked.net.is_canonical:
+        lines.insert(0, IDS_OF_REST)
     return told or status, data, lines
 
 

@@ -4,7 +4,8 @@ from .asking import Asked, ids_of, kept, without
 from .networks import Network, plain_copy
 from .refutations import Refutation
 from .shapes import Data
-from .tries import instead, least_values
+from .spoken import Spoken
+from .tries import instead, least_values, untried
 
 
 def tell_giving_way(asked: Asked, constraints: list[Data],
@@ -21,10 +22,12 @@ def tell_giving_way(asked: Asked, constraints: list[Data],
     with kept(text) as copy, asked.live(copy, [], 0, sum(it != 0 for it in values.values())) as live:
         for it in least_values(live, values, asked.net.deadline, asked.later_for(values)):
             found.append(it.data())
-            lines.append(f"constraint {asked.net.called(it.number)}: {instead(it, asked.net.deadline)}")
+            says = instead(it, asked.net.deadline, it.number in asked.net.from_start)
+            lines.append(f"constraint {asked.net.called(it.number)}: {says}")
             if it.said is False and not vain and not it.is_later and it.value > 0:
                 vain = it.number, without(text, {it.number})
     if lines:
+        lines += untried(values)
         mended = ", and the other set is mended" if others else ""
         lines.insert(0, f"Where one of these limits alone gives way{mended}, the nearest value with which the plan can "
                         "be carried out:")
@@ -55,7 +58,7 @@ def tell_second_set(asked: Asked, first: list[Data], none_up_to: int | None) -> 
     head = f"A second set, which shares no constraint with the first, cannot be met together either{less}"
     tries: list[tuple[str, int | None, str]] = [(without(asked.saved, ids_of(first)), None, head)]
     if none_up_to:
-        head = f"A second set, for which no deadline up to {none_up_to} would do{less}"
+        head = f"A second set, for which no deadline up to {Spoken.moment(none_up_to)} would do{less}"
         tries.insert(0, (asked.saved, none_up_to, head))
     for text, deadline, head in tries:
         refutation, untold = refuted_set(asked, text, deadline or asked.net.deadline)
@@ -91,6 +94,6 @@ def tell_sets(asked: Asked, data: Data, lines: list[str]) -> None:
     if second:
         lines[at] = lines[at].replace("refute this one", "refute the first")
     if second and second["none_up_to"]:
-        lines[0] = (f"No deadline up to {second['none_up_to']} would do: a later one may mend the first set below, "
-                    "and not the second.")
+        lines[0] = (f"No deadline up to {Spoken.moment(second['none_up_to'])} would do: a later one may mend the first "
+                    "set below, and not the second.")
     lines[at:at] = [*limits, *more, *third]

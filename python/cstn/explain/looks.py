@@ -28,6 +28,7 @@ def looks(asked: Asked, verdict: str) -> Iterator[tuple[str, Any, list[str]]]:
     yield "repeating_a_label", *tell_repeating(net)
     yield "nothing_waits", *tell_nothing_waits(net, cases_of(net, tree) if tree is not None else [])
     yield "may_come_before", *tell_may_come_before(net)
+    yield "may_be_put_off", *tell_may_be_put_off(net)
 
 
 def look_at_shortest(net: Network, is_small: bool, tree: Tree | None) -> tuple[list[Data] | None, list[str]]:
@@ -127,3 +128,37 @@ def tell_may_come_before(net: Network) -> tuple[list[Data], list[str]]:
     if lines:
         lines.insert(0, "Steps at most some ticks after others that may as well come before these:")
     return [{"constraint": number, "always": always} for number, always in found], lines
+
+
+def teller(net: Network, name: str) -> str:
+    """Whoever tells the last of the outcomes that the label of a time-point asks for; the letters of one are observed."""
+    letters = literals(net.labels[name])
+    return max((net.observers[it] for it in letters), key=lambda it: (len(net.executed[it]), net.places[it]))
+
+
+def may_be_put_off(net: Network) -> list[tuple[int, str]]:
+    """The ids of constraints that say `at most N after` of a step that only its label ties to what comes before, each
+    with who tells what the label asks for: nothing has that step come as soon as the outcome is known."""
+    is_held = {source for source, target, most, _ in net.constraints if most <= 0 and source != target}
+    limits: dict[str, set[str]] = {}
+    for source, target, most, _ in net.constraints:
+        if source != target and most >= 0:
+            limits.setdefault(target, set()).add(source)
+    loose = [name for name in net.labels if name not in is_held and None not in net.executed[name].values()]
+    return [(number, teller(net, source)) for name in loose for number in net.ties[name]
+            for source, target, most, _ in [net.constraints[number]]
+            if source == name and target not in (name, "Z") and most > 0 and number not in net.never
+            and not limits.get(name, set()) - {target}]
+
+
+def tell_may_be_put_off(net: Network) -> tuple[list[Data], list[str]]:
+    """The constraints `at most N after` a step that may be put off, as data and in words."""
+    found, lines = sorted(may_be_put_off(net)), []
+    for number, observer in found:
+        source = net.constraints[number][0]
+        lines.append(f"{net.called(number)}: {constraint(*net.constraints[number])}: from {shown(observer)} to "
+                     f"{shown(source)}, {net.reaction(observer)}")
+    if lines:
+        lines.insert(0, "Steps at most some ticks after others that the plan may put off, since these have a label and "
+                        "no limit. Where such a one stands for a result, an edge is missing:")
+    return [{"constraint": number, "observer": observer} for number, observer in found], lines

@@ -65,6 +65,12 @@ class Network:
         return found
 
     @functools.cached_property
+    def from_start(self) -> set[int]:
+        """The ids of the constraints that count from the start, so that their values are moments."""
+        return {number for number, (source, target, most, _) in enumerate(self.constraints)
+                if source != target and (target if most < 0 else source) == "Z"}
+
+    @functools.cached_property
     def ties(self) -> dict[str, list[int]]:
         """The constraints of each time-point, by their ids."""
         found: dict[str, list[int]] = {name: [] for name in self.names}

@@ -5,11 +5,12 @@ from .asking import Asked, ids_of, kept, without
 from .following import is_typed
 from .refutations import Refutation, accepted_no, rejected_no
 from .shapes import Data
+from .spoken import Spoken
 from .trees import tree_in_words, tree_of, what_breaks
 
 TYPED_FIRST = ("PROOF begins with a line that is typed. What is put into words is what `follow` wrote, from its line "
-               "`follow 1` on: leave out what stands above that. Of typed lines alone keep the answers, by `./cstn "
-               "follow FILE < PROOF > SESSION`, and call `./cstn explain FILE SESSION`.")
+               "`follow 1` on: leave out what stands above that. Lines that are typed alone are told again, where "
+               "`follow` takes each of them.")
 RETURNS = "PROOF has lines that end with CR and LF, and in each text that the program writes they end with LF alone."
 
 
@@ -40,7 +41,7 @@ def tell_refutation(asked: Asked, text: str, of_tight: bool) -> tuple[int, Data,
         return 1, *rejected_no(refutation, replay)
     data, lines = accepted_no(refutation, text, ({}, []) if of_tight else asked.missing(refutation))
     if data.get("none_up_to") and is_mended(asked, data["constraints"], data["none_up_to"]):
-        lines[0] = (f"No deadline up to {data['none_up_to']} would do, and yet one would mend what these steps use: "
+        lines[0] = (f"No deadline up to {Spoken.moment(data['none_up_to'])} would do, and yet one would mend what these steps use: "
                     "there is a second cause, which `./cstn explain --conflict FILE` names.")
     return 0, data, lines
 

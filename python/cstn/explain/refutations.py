@@ -233,11 +233,11 @@ def missing_ticks(deadline: int, tight: str, tried: int, advice: str) -> tuple[D
     if least and int(least[1]) > deadline:
         lacks = int(least[1]) - deadline
         return {"missing": lacks, "least": int(least[1])}, [
-            f"{ticks(lacks)} {'is' if lacks == 1 else 'are'} missing: with the deadline {least[1]} the plan can be "
-            "carried out, and with none before it."]
+            f"{ticks(lacks)} {'is' if lacks == 1 else 'are'} missing: with the deadline {Spoken.moment(int(least[1]))} "
+            "the plan can be carried out, and with none before it."]
     if re.match(r"no \d+\n", tight):
-        return {"missing": None, "none_up_to": tried}, [f"No deadline up to {tried} would do: {advice}."]
-    return {"missing": None}, [f"How many ticks are missing is not told: with the deadline {tried} more than "
+        return {"missing": None, "none_up_to": tried}, [f"No deadline up to {Spoken.moment(tried)} would do: {advice}."]
+    return {"missing": None}, [f"How many ticks are missing is not told: with the deadline {Spoken.moment(tried)} more than "
                                f"{full[1]} bounds are derived. `tight` tells it, and may take long."] if full else []
 
 
@@ -250,8 +250,8 @@ def accepted_no(refutation: Refutation, text: str, missing: tuple[Data, list[str
     blamed = text.startswith(f"conflict {' '.join(str(number) for number in numbers)}\n")
     head = "The steps below use these constraints:"
     if blamed:
-        head = (f"These cannot be met together by the deadline {net.deadline}; with any one of them less, so says "
-                "`conflict`, the others can:")
+        head = (f"These cannot be met together by the deadline {Spoken.moment(net.deadline)}; with any one of them "
+                "less, so says `conflict`, the others can:")
     lines = [*lines, head, *refutation.uses_in_words()]
     if blamed:
         lines.append("There may be other such sets: check again after each change. The steps that refute this one:")

@@ -4,7 +4,7 @@ import re
 
 from .asking import MOST_TRIED, Asked, kept
 from .conflicts import tell_giving_way
-from .following import Heard, awaited, rests, stuck, tell_followed
+from .following import EITHER, TYPED, Heard, awaited, rests, stuck, tell_followed
 from .networks import Network, ticks
 from .refutations import Refutation, accepted_no
 from .shapes import Data
@@ -15,7 +15,7 @@ NO_REST = ("The steps after `{}` are of what was left then. Ask `rest` right aft
            "is told, and give the session with what it writes; or keep that document, from `<?xml` on, in a file "
            "REST, these steps from `{}` on in a file STEPS, and call ./cstn explain REST STEPS.")
 TOO_MUCH = ("By how much is not tried, since that is much in so large a plan or session: ask `./cstn explain "
-            "--conflict` of what `rest` writes.")
+            "--conflict` of what `rest` writes. Its ids are not those of this session: look limits up by their words.")
 ANOTHER = ("This session is not of FILE with the deadline {}: it begins with `{}`, and `check` says {}. Its ids and "
            "moments are of the document that was followed: name that one, not what `rest` wrote, and the "
            "`--deadline N` that it had.")
@@ -37,6 +37,8 @@ def tell_stuck(own: Network, steps: str, rest: str, done: set[str]) -> tuple[Dat
         asked.net.awaited = awaited(asked.net, own, done)
         refutation = Refutation(asked.net, steps)
         data, lines = accepted_no(refutation, steps, asked.missing(refutation))
+    if any(it["from"] == it["to"] and it["at_most"] < 0 for it in data["constraints"]):
+        lines.append("What was done breaks a limit by itself: `blame` names it.")
     return data, [f"{head}: what is left cannot be carried out. These ids are of the document that `rest` wrote "
                   "behind it, and not of FILE.", *lines]
 
@@ -52,7 +54,7 @@ def tell_told_again(asked: Asked, heard: Heard, numbers: list[int]) -> tuple[Dat
             return {}, [TOO_MUCH]
         if said:
             return {}, []
-        limits, lines = giving_way(live, values, deadline, asked.later_for(values))
+        limits, lines = giving_way(live, values, deadline, asked.later_for(values), asked.net.from_start)
         waits, more = awaiting(live, heard)
     return {"limits": limits, "waits": waits}, lines + more
 
@@ -87,7 +89,8 @@ def documents_by_line(text: str) -> dict[int, str]:
 
 
 class HowFar:
-    """By how much what is to blame was missed, of the last answers, as long as that is not much for all of them."""
+    """By how much what is to blame was missed, of the last answers, as long as that is not much for all of them; each
+    but the last leaves as much for that one."""
 
     def __init__(self, asked: Asked, text: str) -> None:
         self.asked, self.spent, self.documents = asked, 0, documents_by_line(text)
@@ -104,10 +107,23 @@ class HowFar:
         if self.early >= 0:
             return {}, [f"By how much is told of the last {MOST_TOLD} answers of `blame` alone."]
         checks = CHECKS_OF_A_LIMIT * min(len(numbers), MOST_LIMITS) + len(heard.journal)
-        self.spent += checks * len(self.asked.net.constraints)
-        if self.spent > MOST_TRIED:
+        costs, is_last = checks * len(self.asked.net.constraints), self.early == -MOST_TOLD
+        if self.spent + costs * (1 if is_last else 2) > MOST_TRIED:
             return {}, [TOO_MUCH]
+        self.spent += costs
         return tell_left(rest) if rest else tell_told_again(self.asked, heard, numbers)
+
+
+def answered(asked: Asked, text: str) -> str:
+    """Typed lines alone with the answers that `follow` gives to them, where they ask for none with what is next and
+    what is to blame; or nothing where they are not such lines. `check` and `rest` are left out."""
+    lines = [line for line in text.removesuffix("\n").split("\n") if line not in ("check", "rest")]
+    if not all(TYPED.fullmatch(line) or EITHER.fullmatch(line) for line in lines) or lines[0].startswith("> "):
+        return ""
+    lines += [] if any(re.match("(next|by|blame)", line) for line in lines) else ["next", "blame"]
+    said = asked.answer_at("follow", live="".join(f"{line}\n" for line in lines))[1].split("\n")
+    turns = [f"> {line}\n{answer}\n" for line, answer in zip(lines, said[2:])]
+    return "".join([*(f"{line}\n" for line in said[:2]), *turns]) if len(said) > len(lines) + 2 else ""
 
 
 def tell_session(asked: Asked, text: str) -> tuple[int, Data, list[str]]:

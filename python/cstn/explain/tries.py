@@ -7,6 +7,7 @@ from typing import NamedTuple, Self
 
 from .following import Heard
 from .shapes import Data
+from .spoken import Spoken
 
 MOST_LIMITS = 12
 CHECKS_OF_A_LIMIT = 23
@@ -76,16 +77,33 @@ class Least(NamedTuple):
     is_later: bool = False
     is_sure: bool = True
 
+    def words(self, is_moment: bool) -> tuple[str, str]:
+        """The least value and the one it has, without signs: as moments where the limit counts from the start."""
+        least, own = abs(self.least or 0), abs(self.value)
+        return (Spoken.moment(least), Spoken.moment(own)) if is_moment else (str(least), str(own))
+
     def data(self) -> Data:
         """The limit as data."""
         return {"constraint": self.number, "at_most": self.value, "least": self.least, "sure": self.is_sure}
+
+
+def in_turn(values: dict[int, int]) -> list[int]:
+    """The limits of a value other than 0, those above 0 first."""
+    return sorted((number for number, value in values.items() if value), key=lambda it: values[it] < 0)
+
+
+def untried(values: dict[int, int]) -> list[str]:
+    """The limits behind the twelve that are tried, in words."""
+    left = sorted(in_turn(values)[MOST_LIMITS:])
+    return [f"{len(left)} more not tried: {', '.join(map(str, left))}"] if left else []
 
 
 def least_values(live: Live, values: dict[int, int], deadline: int, later: int | None) -> Iterator[Least]:
     """For each limit of a value other than 0, those above 0 first and twelve at most, the least value with which a
     yes stands if all else stays. Where there is none up to the deadline, and a later one is named, it is tried with
     that."""
-    for number, value in sorted((it for it in values.items() if it[1]), key=lambda it: it[1] < 0)[:MOST_LIMITS]:
+    for number in in_turn(values)[:MOST_LIMITS]:
+        value = values[number]
         found = least_value(live, number, value, deadline if value > 0 else 0)
         if later is not None and found.least is None and found.said is False and value > 0:
             live.say(f"deadline {later}")
@@ -106,39 +124,44 @@ def least_value(live: Live, number: int, value: int, greatest: int) -> Least:
     return Least(number, value, least, said, is_sure=is_sure)
 
 
-def instead(found: Least, deadline: int) -> str:
-    """The least value of a limit that would do, in words."""
+def instead(found: Least, deadline: int, is_moment: bool) -> str:
+    """The least value of a limit that would do, in words; a moment where the limit counts from the start."""
     if found.value < 0:
-        return instead_at_least(found)
+        return instead_at_least(found, is_moment)
+    least, own = found.words(is_moment)
     if found.least is not None:
-        says = f"{found.least} in place of {found.value}{', with a later deadline' if found.is_later else ''}"
+        says = f"{least} in place of {own}{', with a later deadline' if found.is_later else ''}"
         return says if found.is_sure else f"{says}; whether a little less would do is not known"
     if found.value >= deadline:
-        return f"not tried, since the deadline, {deadline}, limits as much: say a later one by `--deadline N`"
+        return f"not tried, since the deadline, {Spoken.moment(deadline)}, limits as much: say a later one by " \
+            "`--deadline N`"
     if found.said is False:
-        return f"none up to the deadline, {deadline}: without this limit there is still a no, for another reason"
+        return f"none up to the deadline, {Spoken.moment(deadline)}: without this limit there is still a no, for " \
+            "another reason"
     return "not known, since a check could not be ended"
 
 
-def instead_at_least(found: Least) -> str:
+def instead_at_least(found: Least, is_moment: bool) -> str:
     """How much of an "at least" would do, in words."""
+    least, own = found.words(is_moment)
     if found.least is not None:
-        says = f"at least {-found.least} in place of {-found.value}"
+        says = f"at least {least} in place of {own}"
         return says if found.is_sure else f"{says}; whether a little more would do is not known"
     if found.said is False:
-        return f"at least {-found.value}, and none down to 0 would do"
+        return "no lower value would do"
     return "not known, since a check could not be ended"
 
 
-def giving_way(live: Live, values: dict[int, int], deadline: int,
-               later: int | None) -> tuple[list[Data], list[str]]:
-    """How far each limit would have to give way, as data and in words."""
+def giving_way(live: Live, values: dict[int, int], deadline: int, later: int | None,
+               moments: set[int]) -> tuple[list[Data], list[str]]:
+    """How far each limit would have to give way, as data and in words; `moments` are those that count from the
+    start."""
     found, lines = [], []
     for it in least_values(live, values, deadline, later):
         found.append(it.data())
         stays = ", if all else stays" if it.least is not None else ""
-        lines.append(f"{it.number}: {instead(it, deadline)}{stays}")
-    return found, lines
+        lines.append(f"{it.number}: {instead(it, deadline, it.number in moments)}{stays}")
+    return found, lines + untried(values)
 
 
 def awaiting(live: Live, heard: Heard) -> tuple[list[Data], list[str]]:
