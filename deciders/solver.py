@@ -67,7 +67,10 @@ class Solver:
     """A session with z3 over a formula."""
 
     def __init__(self, lines):
-        self.child = subprocess.Popen([SOLVER, "-in"], stdin=subprocess.PIPE, stdout=subprocess.PIPE, text=True)
+        try:
+            self.child = subprocess.Popen([SOLVER, "-in"], stdin=subprocess.PIPE, stdout=subprocess.PIPE, text=True)
+        except OSError as error:
+            sys.exit(f"solver.py: {SOLVER} cannot be started, so nothing was asked: {error}")
         self.child.stdin.write("\n".join([*lines, ""]))
 
     def may(self, more="true"):

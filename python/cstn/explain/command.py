@@ -38,8 +38,8 @@ from .steps import tell_float, tell_step
 from .stopped import Stopped
 from .trees import MOST_IN_WORDS, size
 
-IDS_OF_REST = ("If `rest` wrote FILE, the ids and lines below are its own. Never type them into the session: look a limit "
-               "up by its words in `./cstn explain` of the document that was followed, and `change` the id there.")
+IDS_OF_REST = ("If `rest` wrote FILE, the ids and lines below are its own. Never type them into the session: look a "
+               "limit up by its words in `./cstn explain` of the document that was followed, and `change` the id there.")
 ASKED = ("--plain", "--tree", "--conflict", "--tight", "--float", "--step")
 
 
@@ -54,7 +54,8 @@ def tell_proof(asked: Asked, text: str) -> tuple[int, Data, list[str]]:
             return 0, {"answer": "least", "least": 0}, lines
         asked.net.deadline = int(least[1]) - 1
         status, data, more = tell_refutation(asked, text, True)
-        return status, {"least": int(least[1]), **data}, [*lines, f"With the deadline {Spoken.moment(asked.net.deadline)}:", *more]
+        lines.append(f"With the deadline {Spoken.moment(asked.net.deadline)}:")
+        return status, {"least": int(least[1]), **data}, [*lines, *more]
     if is_typed(text):
         text = answered(asked, text) or text
     if is_followed(text):
@@ -71,7 +72,8 @@ def tell_tight(asked: Asked) -> tuple[int, Data, list[str]]:
     if not asked.option:
         asked.net.deadline = asked.later()
         status, text = asked.answer_at("tight", cap=asked.cap(1))
-        over = f"Up to {Spoken.moment(asked.net.deadline)} it is not told, since that may take long: `tight` with it tells it."
+        over = (f"Up to {Spoken.moment(asked.net.deadline)} it is not told, since that may take long: `tight` with it "
+                "tells it.")
     if status > 1:
         asked.net.deadline = own
         status, text = asked.answer_at("tight")

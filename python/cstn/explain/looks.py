@@ -131,7 +131,7 @@ def tell_may_come_before(net: Network) -> tuple[list[Data], list[str]]:
 
 
 def teller(net: Network, name: str) -> str:
-    """Whoever tells the last of the outcomes that the label of a time-point asks for; the letters of one are observed."""
+    """Whoever tells the last of the outcomes that the label of a time-point asks for."""
     letters = literals(net.labels[name])
     return max((net.observers[it] for it in letters), key=lambda it: (len(net.executed[it]), net.places[it]))
 

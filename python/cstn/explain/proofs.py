@@ -41,7 +41,8 @@ def tell_refutation(asked: Asked, text: str, of_tight: bool) -> tuple[int, Data,
         return 1, *rejected_no(refutation, replay)
     data, lines = accepted_no(refutation, text, ({}, []) if of_tight else asked.missing(refutation))
     if data.get("none_up_to") and is_mended(asked, data["constraints"], data["none_up_to"]):
-        lines[0] = (f"No deadline up to {Spoken.moment(data['none_up_to'])} would do, and yet one would mend what these steps use: "
+        most = Spoken.moment(data["none_up_to"])
+        lines[0] = (f"No deadline up to {most} would do, and yet one would mend what these steps use: "
                     "there is a second cause, which `./cstn explain --conflict FILE` names.")
     return 0, data, lines
 

@@ -39,6 +39,8 @@ FORMS = {
     ("X6", "Label"): LABEL,
 }
 MOST_LINES = 20
+SENTENCES = re.compile(rb"^(deadline|step|task) ", re.M)
+IN_SENTENCES = "this is a plan in sentences, not a document, and no command takes one yet: docs/guide.md says how to write it"
 ATTRIBUTE = re.compile(rb"""\s*+([\w:.-]++)\s*+=\s*+(?:"([^"]*+)"|'([^']*+)')""")
 
 
@@ -121,6 +123,8 @@ def tell_place(code: str, place: int, reader: Reader) -> list[str]:
     rest = reader.text[place:]
     token = re.findall(rb"\A(?:<[^>]*>?|[^<]*)", rest)[0]
     lines = []
+    if code == "X2" and SENTENCES.search(reader.text) and not reader.text.lstrip().startswith(b"<"):
+        return [IN_SENTENCES]
     if code == "X4":
         lines = tell_ends(reader, place, token)
     elif code == "X2":
