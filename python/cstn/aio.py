@@ -120,7 +120,7 @@ class AsyncHost:
     async def follower(self, name: str) -> AsyncFollower:
         return AsyncFollower(await self.threads.run(self.host.follower, name), self.threads.executor)
 
-    async def due(self, at: int | None = None) -> list[tuple[str, Next]]:
+    async def due(self, at: int | None = None) -> list[tuple[str, Next | Verdict]]:
         return await self.threads.run(self.host.due, at)
 
     async def close(self) -> None:

@@ -89,12 +89,13 @@ class TooMany(Refused):
 
 @dataclass(eq=False)
 class Moved(CstnError):
-    """The journal has an entry of this version already: another client was first."""
+    """The journal has an entry of this version already: another client was first. `says` is what a person may read."""
 
     version: int
+    says: str = ""
 
     def __str__(self) -> str:
-        return f"another client has written version {self.version}"
+        return self.says or f"another client has written version {self.version}"
 
 
 class NotKept(CstnError):

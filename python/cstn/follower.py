@@ -424,6 +424,8 @@ class Follower:
             if self.clock is None:
                 raise TypeError("a moment of the wall clock needs a Clock")
             at = self.clock.tick_of(at)
+        if isinstance(at, float):
+            raise Refused("line", f"a moment is a whole tick: {at}")
         if at < 0:
             raise OutOfRange("clock", f"{at} is before the plan's start")
         return at
@@ -440,8 +442,8 @@ class Follower:
             raise Refused("line", f"no sentence: {event.says!r}")
         if event.key is None:
             return with_key(event, f"#{max(self.version, 1) + 1}")
-        if event.key.startswith("#") or not is_text(event.key):
-            raise Refused("key", f"a key is a text that does not begin with #: {event.key!r}")
+        if not event.key or event.key.startswith("#") or not is_text(event.key):
+            raise Refused("key", f"a key is a text that is not empty and does not begin with #: {event.key!r}")
         return event
 
     def tell_once(self, event: Event, wait: bool, expect: int | None) -> Receipt:

@@ -5,9 +5,9 @@ import threading
 from collections import OrderedDict
 
 from cstn import program as programs
-from cstn.answers import Next
+from cstn.answers import Next, Verdict
 from cstn.clock import Clock
-from cstn.errors import CstnError, NotKept
+from cstn.errors import CstnError, Moved, NotKept
 from cstn.follower import MOST_GROWN, Follower
 from cstn.journal import Head, Store, holding, parsed
 from cstn.plan import Plan
@@ -39,6 +39,8 @@ class Host:
             self.store.keep_document(plan.document)
             with holding(journal):
                 journal.append(1, head.text())
+        except Moved as error:
+            raise Moved(error.version, f"the plan {name!r} was begun already") from error
         except CstnError:
             raise
         except Exception as error:
@@ -79,12 +81,13 @@ class Host:
                                             program=self.program)
         return self.documents[key]
 
-    def due(self, at: int | None = None) -> list[tuple[str, Next]]:
-        """The plans with something to do, or an outcome to await, by now: by each plan's clock, or at a tick.
+    def due(self, at: int | None = None) -> list[tuple[str, Next | Verdict]]:
+        """The plans with something to do, or an outcome to await, by now: by each plan's clock, or at a tick; and those
+        that stand at "no", or of which the verdict is unknown, with that verdict.
 
         Plans without a clock are asked only at a tick. Where one cannot be asked now it is passed over.
         """
-        found = []
+        found = list[tuple[str, Next | Verdict]]()
         for name in self.plans():
             try:
                 follower = self.follower(name)
@@ -92,7 +95,8 @@ class Host:
                 following = follower.next() if now is not None else None
             except CstnError:
                 continue
-            if isinstance(following, Next) and now is not None and following.at <= now:
+            is_due = isinstance(following, Next) and now is not None and following.at <= now
+            if isinstance(following, Next | Verdict) and (is_due or isinstance(following, Verdict)):
                 found.append((name, following))
         return found
 

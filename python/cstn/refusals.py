@@ -1,6 +1,8 @@
 """Why the program refuses a line, as the error that its event raises."""
 from __future__ import annotations
 
+import re
+
 from cstn.answers import Refusal
 from cstn.errors import Contradicts, NotYet, OutOfRange, Refused, TooMany, Unknown, WaitsFor
 from cstn.events import Did, Event, Expect, Now, Saw
@@ -39,7 +41,14 @@ def why(refusal: Refusal, event: Event, state: State) -> Refused | None:
             return OutOfRange("S3", f"{refusal.words[0]} is no value of a limit")
         case "S5", _:
             return Unknown("S5", f"nothing observes {refusal.words[0]}", refusal.words[0])
-    return Refused(refusal.code, f"no line can say this: {event!r}")
+    return Refused(refusal.code, unsayable(event))
+
+
+def unsayable(event: Event) -> str:
+    """Why no line can say an event, as far as that is known."""
+    if isinstance(event, Saw | Expect) and not re.fullmatch("[A-Za-z]", event.letter):
+        return f"a letter is one of A to Z, a to z: {event.letter!r}"
+    return f"no line can say this: {event!r}"
 
 
 def moment(event: Event, state: State) -> Refused:

@@ -8,11 +8,11 @@ from enum import Enum
 from cstn import program as programs
 from cstn.answers import Answer, Next, Refusal, Verdict, is_taken
 from cstn.child import Child
-from cstn.errors import Changed, NotYet, Refused, WaitsFor
-from cstn.events import Add, Event, Now, line_of, with_key
+from cstn.errors import Changed, Contradicts, NotYet, Refused, WaitsFor
+from cstn.events import Add, Did, Event, Now, Saw, line_of, with_key
 from cstn.journal import Forgotten, Told
 from cstn.plan import Plan
-from cstn.refusals import why
+from cstn.refusals import unsayable, why
 from cstn.state import State
 
 
@@ -98,9 +98,11 @@ class Session:
         try:
             text, answer = self.child.ask_text(line)
         except ValueError as error:
-            raise Refused("line", f"no line can say this: {event!r}") from error
+            raise Refused("line", unsayable(event)) from error
         if isinstance(answer, Refusal):
             refused = why(answer, event, self.state)
+            if isinstance(refused, Contradicts):
+                refused.with_key = self.recorded_by(event, refused.code)
             if refused is not None:
                 raise refused
             return Telling(event, Standing.KNOWN, text)
@@ -108,6 +110,20 @@ class Session:
         self.state.take(event, line, answer)
         self.verdict = answer if isinstance(answer, Verdict) else None
         return Telling(event, Standing.TAKEN, text)
+
+    def recorded_by(self, event: Event, code: str) -> str | None:
+        """The key of the event that told what a refused one contradicts, if one did."""
+        step, letter = None, None
+        match code, event:
+            case "F4", Did(name):
+                step = name
+            case "F7", Saw(name):
+                letter = name
+            case "F2", Saw(name):
+                step = self.plan.observers[name].name
+        taken = (it.event for it in self.tellings.values() if it.standing is Standing.TAKEN)
+        return next((it.key for it in taken if isinstance(it, Did) and it.step == step
+                     or isinstance(it, Saw) and it.letter == letter), None)
 
     def settle(self) -> None:
         """Tells again what waits, until nothing more is taken."""

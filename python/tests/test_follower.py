@@ -35,6 +35,9 @@ REFUSED: list[tuple[Event, type[Refused], str]] = [
     (Change(-1, 5), Refused, "line"),
     (Deadline(1000001), Refused, "line"),
     (Did("Review", 90, "#9"), Refused, "key"),
+    (Did("Review", 90, ""), Refused, "key"),
+    (Did("Review", 90.5), Refused, "line"),  # type: ignore[arg-type]
+    (Saw("infection", True, 5), Refused, "line"),
     (Did("Review", 90, "\udc80"), Refused, "key"),
     (Add("Z", "Sample", 9, {}, "\udc80"), Refused, "line"),
     (Did("Review", 90, "sample"), Contradicts, "key"),
@@ -115,12 +118,31 @@ class Followers(unittest.TestCase):
 
     def test_what_stands_against_it_is_told(self) -> None:
         follower = self.follower()
-        follower.did("Sample", 5)
-        facts: list[tuple[Event, int]] = [(Did("Sample", 6), 5), (Saw("i", True, 4), 5)]
-        for event, recorded in facts:
+        follower.did("Sample", 5, "ward 3")
+        facts: list[tuple[Event, int | bool | None, str | None]] = [
+            (Did("Sample", 6), 5, "ward 3"), (Saw("i", True, 4), 5, "ward 3"), (Did("Z", 1), 0, None)]
+        self.check_contradictions(follower, facts)
+        follower.saw("i", True, 45)
+        self.check_contradictions(follower, [(Saw("i", False, 45), True, "#3")])
+
+    def check_contradictions(self, follower: Follower,
+                             facts: list[tuple[Event, int | bool | None, str | None]]) -> None:
+        for event, recorded, key in facts:
             with self.assertRaises(Contradicts) as caught:
                 follower.tell(event)
-            self.assertEqual(caught.exception.recorded, recorded)
+            self.assertEqual((caught.exception.recorded, caught.exception.with_key), (recorded, key))
+
+    def test_what_no_line_can_say_is_told(self) -> None:
+        follower = self.follower()
+        events: list[tuple[Event, str]] = [
+            (Saw("infection", True, 5), "a letter is one of A to Z, a to z: 'infection'"),
+            (Expect("ä", 5), "a letter is one of A to Z, a to z: 'ä'"),
+            (Now(1.5), "a moment is a whole tick: 1.5"),  # type: ignore[arg-type]
+            (Did("Sample", 5, ""), "a key is a text that is not empty and does not begin with #: ''")]
+        for event, says in events:
+            with self.assertRaises(Refused) as caught:
+                follower.tell(event)
+            self.assertEqual(str(caught.exception), says)
 
     def test_there_is_no_room(self) -> None:
         plan = Plan.read(CLINIC.saved([]).replace(b"{(15, ", b"{" + b"(15, \xe2\x8a\xa1)," * 16375 + b"(15, "))
@@ -252,7 +274,8 @@ class Corrections(unittest.TestCase):
 
     def test_what_is_no_correction(self) -> None:
         before = self.follower.outlook()
-        for key, instead, error in (("x", None, Unknown), ("l", None, Refused), ("a", Add("Z", "Review", 9), Refused),
+        for key, instead, error in (("x", None, Unknown), ("", None, Unknown), ("l", None, Refused),
+                                    ("a", Add("Z", "Review", 9), Refused),
                                     ("a", Did("Nobody", 9), Refused), ("a", Did("Sample", 70), Refused)):
             with self.subTest(key=key, instead=instead):
                 self.assertRaises(error, self.follower.correct, key, instead)

@@ -10,7 +10,7 @@ from datetime import datetime, timedelta, timezone
 from pathlib import Path
 
 from cstn import (Busy, Clock, Contradicts, Did, Event, Follower, Host, Moved, Next, NotKept, Now, Saw, SqliteStore,
-                  Add)
+                  Add, Verdict)
 from cstn.aio import AsyncFollower, AsyncHost
 from tests.support import CLINIC, PLANS, STROKE, TOP, Folder, answers, as_json, drawn
 
@@ -220,7 +220,8 @@ class Hosts(Folder):
         self.assertEqual(again.follower("one").clock, clock)
         self.assertEqual(again.due(), [("one", Next(65, (), ("i",)))])
         self.assertRaises(KeyError, again.follower, "other")
-        self.assertRaises(Moved, again.create, "one", STROKE)
+        with self.assertRaisesRegex(Moved, "the plan 'one' was begun already"):
+            again.create("one", STROKE)
 
     def test_what_is_due(self) -> None:
         host = self.host()
@@ -229,6 +230,8 @@ class Hosts(Folder):
         self.assertEqual(host.due(10), [("b", Next(0, ("Sample",)))])
         self.assertEqual([name for name, _ in host.due(65)], ["a", "b"])
         self.assertEqual(host.due(), [])
+        host.follower("b").did("Sample", 20)
+        self.assertEqual([(name, type(it)) for name, it in host.due(10)], [("b", Verdict)])
 
     def test_asyncio(self) -> None:
         async def run() -> list[Next]:

@@ -39,7 +39,8 @@ from .stopped import Stopped
 from .trees import MOST_IN_WORDS, size
 
 IDS_OF_REST = ("If `rest` wrote FILE, the ids and lines below are its own. Never type them into the session: look a "
-               "limit up by its words in `./cstn explain` of the document that was followed, and `change` the id there.")
+               "limit up by its words in `./cstn explain` of the document that was followed, and `change` the id "
+               "there.")
 ASKED = ("--plain", "--tree", "--conflict", "--tight", "--float", "--step")
 
 

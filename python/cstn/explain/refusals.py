@@ -40,7 +40,8 @@ FORMS = {
 }
 MOST_LINES = 20
 SENTENCES = re.compile(rb"^(deadline|step|task) ", re.M)
-IN_SENTENCES = "this is a plan in sentences, not a document, and no command takes one yet: docs/guide.md says how to write it"
+IN_SENTENCES = ("this is a plan in sentences, not a document, and no command takes one yet: docs/guide.md says how to "
+                "write it")
 ATTRIBUTE = re.compile(rb"""\s*+([\w:.-]++)\s*+=\s*+(?:"([^"]*+)"|'([^']*+)')""")
 
 

@@ -237,8 +237,9 @@ def missing_ticks(deadline: int, tight: str, tried: int, advice: str) -> tuple[D
             "the plan can be carried out, and with none before it."]
     if re.match(r"no \d+\n", tight):
         return {"missing": None, "none_up_to": tried}, [f"No deadline up to {Spoken.moment(tried)} would do: {advice}."]
-    return {"missing": None}, [f"How many ticks are missing is not told: with the deadline {Spoken.moment(tried)} more than "
-                               f"{full[1]} bounds are derived. `tight` tells it, and may take long."] if full else []
+    return {"missing": None}, [
+        f"How many ticks are missing is not told: with the deadline {Spoken.moment(tried)} more than {full[1]} bounds "
+        "are derived. `tight` tells it, and may take long."] if full else []
 
 
 def accepted_no(refutation: Refutation, text: str, missing: tuple[Data, list[str]]) -> tuple[Data, list[str]]:
