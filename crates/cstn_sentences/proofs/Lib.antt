@@ -1,0 +1,2 @@
+-- Plans by computing.
+mod Examples

@@ -1,0 +1,16 @@
+-- The limits, and steps that may be refused.
+pub mod Limits
+pub mod Results
+pub mod Refusals
+-- Lines and words, and how names and numbers are written.
+pub mod Words
+pub mod Spelling
+pub mod Spans
+-- What a line says.
+pub mod Lines
+pub mod Grammar
+pub mod Judged
+-- What the lines declare, and the network that they mean.
+pub mod Declarations
+pub mod Meaning
+pub mod Plans
