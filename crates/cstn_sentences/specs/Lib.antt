@@ -14,3 +14,7 @@ pub mod Judged
 pub mod Declarations
 pub mod Meaning
 pub mod Plans
+-- The way back: a network in sentences, and what they say of moments.
+pub mod Printed
+pub mod Sentences
+pub mod Moments

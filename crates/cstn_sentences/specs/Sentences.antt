@@ -1,0 +1,131 @@
+-- A labelled network in sentences.
+use Rattle.std.specs.Prelude.{ℕ, zero, suc, Bool, true, false, ◌&&◌, ◌==◌, List, [], ◌∷◌, ◌++◌, map, flat_map, slice_index_or, Option, Some, None, is_some, option_map, option_to_list, if◌then◌else◌, codes, ℤ, pos, neg_ℤ, int_le}
+use Rattle.cstn_label.specs.declared.marks.Mark.{Mark}
+use Rattle.cstn_label.specs.declared.marks.Mark.TheVariants.{Absent, Yes, No, Unknown}
+use Rattle.cstn_label.specs.Labels.{Label}
+use Rattle.cstn_label.specs.Letters.{letter_of}
+use Rattle.cstn_label.specs.Tests.{is_within}
+use Rattle.cstn_net.specs.Networks.{Network, Constraint, count}
+use Rattle.cstn_lift.specs.Labelled.{Labelled, label_in}
+use Rattle.cstn_sentences.specs.declared.lines.Span.{Span}
+use Rattle.cstn_sentences.specs.declared.lines.Side.TheVariants.{Alone}
+use Rattle.cstn_sentences.specs.declared.lines.Point.{Point}
+use Rattle.cstn_sentences.specs.declared.lines.Reference.{Reference}
+use Rattle.cstn_sentences.specs.declared.lines.Reference.TheVariants.{Moment}
+use Rattle.cstn_sentences.specs.declared.lines.Literal.{Literal}
+use Rattle.cstn_sentences.specs.declared.lines.Observed.{Observed}
+use Rattle.cstn_sentences.specs.declared.lines.Says.{Says}
+use Rattle.cstn_sentences.specs.declared.lines.Says.TheVariants.{At, By, Between, ByAfter, Within, NotBefore, Together}
+use Rattle.cstn_sentences.specs.Lines.{Step, Rule}
+use Rattle.cstn_sentences.specs.Printed.{deadline_words, step_words, rule_words, line_text}
+
+abbrev pub ticks : ℤ → Span
+ticks n = record { ticks = n; clock = false }
+
+-- ---- labels and steps
+
+-- the literal of a proposition by its mark
+abbrev pub literal : ℕ → Mark → List Literal
+literal letter Absent = []
+literal letter Yes = record { prop = letter ∷ []; holds = true } ∷ []
+literal letter No = record { prop = letter ∷ []; holds = false } ∷ []
+literal letter Unknown = []
+
+-- the literals of the propositions below n, in ascending order
+unfoldable pub literals_below : Label → ℕ → List Literal
+literals_below a zero = []
+literals_below a (suc n) = literals_below a n ++ literal (letter_of n) (a n)
+
+abbrev pub literals : Label → List Literal
+literals a = literals_below a 52
+
+-- what is observed of a proposition, by its letter
+abbrev pub observed_of : (ℕ → ℕ) → ℕ → Observed
+observed_of reaction p = record { word = None; letter = letter_of p; reaction = ticks (pos (reaction p)) }
+
+-- the step of a time-point
+abbrev pub step_of : Labelled → List (List ℕ) → ℕ → Step
+step_of m names x = record {
+  name = slice_index_or names x [];
+  observed = option_map (observed_of m.base.reaction) (slice_index_or m.base.observes x None);
+  label = literals (label_in m.labels x);
+}
+
+-- the steps of the first n time-points, of which the origin has one only where it observes something
+abbrev pub has_step : Network → ℕ → Bool
+has_step net zero = is_some (slice_index_or net.observes zero None)
+has_step net (suc x) = true
+
+unfoldable pub steps_below : Labelled → List (List ℕ) → ℕ → List Step
+steps_below m names zero = []
+steps_below m names (suc n) = steps_below m names n ++ (if has_step m.base n then step_of m names n ∷ [] else [])
+
+-- ---- constraints
+
+-- the two labels have the same marks on the 52 letters
+abbrev pub is_same_label : Label → Label → Bool
+is_same_label a b = is_within a b && is_within b a
+
+-- (X, Y, -A, L) and (Y, X, B, L), with A at least 0 and at most B
+abbrev pub is_pair : Constraint → Constraint → Bool
+is_pair c d = c.from == d.to && c.to == d.from && is_same_label c.label d.label && int_le c.most (pos 0) && int_le (neg_ℤ c.most) d.most
+
+-- the next constraint is the other one of a pair
+abbrev pub is_paired : Constraint → List Constraint → Bool
+is_paired c [] = false
+is_paired c (d ∷ later) = is_pair c d
+
+-- a rule of the time-point x, by the time-point y that it counts from, or by none
+abbrev pub rule_of : List (List ℕ) → ℕ → Says → Option ℕ → Label → Rule
+rule_of names x says y label = record {
+  point = record { name = slice_index_or names x []; side = Alone };
+  says = says;
+  since = option_to_list (option_map (λ k. Moment (record { name = slice_index_or names k []; side = Alone })) y);
+  label = literals label;
+}
+
+-- x is at least a and, where b is given, at most b after y
+abbrev pub since_says : ℤ → ℤ → Says
+since_says a b =
+    if int_le b a then (if int_le a (pos 0) then Together else Between (record { least = ticks a; most = Some (ticks b) }))
+    else if int_le a (pos 0) then Within (ticks b) else Between (record { least = ticks a; most = Some (ticks b) })
+
+abbrev pub range_rule : List (List ℕ) → ℕ → ℕ → ℤ → ℤ → Label → Rule
+range_rule names x zero a b label = rule_of names x (At (record { least = ticks a; most = Some (ticks b) })) None label
+range_rule names x (suc y) a b label = rule_of names x (since_says a b) (Some (suc y)) label
+
+-- x is at least a after y
+abbrev pub least_says : ℤ → Says
+least_says a = if int_le a (pos 0) then NotBefore else Between (record { least = ticks a; most = None })
+
+abbrev pub least_rule : List (List ℕ) → ℕ → ℕ → ℤ → Label → Rule
+least_rule names x zero a label = rule_of names x (At (record { least = ticks a; most = None })) None label
+least_rule names x (suc y) a label = rule_of names x (least_says a) (Some (suc y)) label
+
+-- a constraint alone: x is by b, where it counts from the origin and b isn't below 0; else at least -b after y, where b isn't above 0;
+-- else by b after y
+abbrev pub alone_rule : List (List ℕ) → Constraint → Rule
+alone_rule names c =
+    if c.from == 0 && int_le (pos 0) c.most then rule_of names c.to (By (ticks c.most)) None c.label
+    else if int_le c.most (pos 0) then least_rule names c.from c.to (neg_ℤ c.most) c.label
+    else rule_of names c.to (ByAfter (ticks c.most)) (Some c.from) c.label
+
+-- the rule of a constraint, or of a pair of two
+abbrev pub next_rule : List (List ℕ) → Constraint → List Constraint → Rule
+next_rule names c [] = alone_rule names c
+next_rule names c (d ∷ later) = if is_pair c d then range_rule names c.from c.to (neg_ℤ c.most) d.most c.label else alone_rule names c
+
+-- the rules of constraints, of which the first `skip` stand in the rule before them
+unfoldable pub rules_after : List (List ℕ) → ℕ → List Constraint → List Rule
+rules_after names skip [] = []
+rules_after names zero (c ∷ cs) = next_rule names c cs ∷ rules_after names (if is_paired c cs then 1 else 0) cs
+rules_after names (suc skip) (c ∷ cs) = rules_after names skip cs
+
+-- ---- the text
+
+-- The sentences of a labelled network with these names: its deadline, its steps by number, and its constraints by id.
+abbrev pub sentences : Labelled → List (List ℕ) → List ℕ
+sentences m names =
+    line_text (deadline_words (ticks (pos m.base.deadline)))
+    ++ flat_map (λ s. line_text (step_words s)) (steps_below m names (count m.base))
+    ++ flat_map (λ r. line_text (rule_words r)) (rules_after names 0 m.base.constraints)
