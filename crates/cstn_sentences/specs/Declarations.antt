@@ -11,13 +11,9 @@ use Rattle.cstn_sentences.specs.declared.lines.Span.{Span}
 use Rattle.cstn_sentences.specs.declared.lines.Range.{Range}
 use Rattle.cstn_sentences.specs.declared.lines.Literal.{Literal}
 use Rattle.cstn_sentences.specs.declared.lines.Observed.{Observed}
+use Rattle.cstn_sentences.specs.declared.declarations.Meant.{Meant}
 use Rattle.cstn_sentences.specs.Lines.{Step, Line, nothing, deadline, start, step, task, rule}
 use Rattle.cstn_sentences.specs.Judged.{line_of}
-
--- a word, and the letter that it stands for
-pub record Meant : Type 0 where
-  pub word : List ℕ
-  pub letter : ℕ
 
 -- `origin` is None until a step `Z` was declared. `names` begins with the origin; `begins_task` says of each time-point whether it is
 -- the start of a task, whose end then has the next number; `observes` has what the time-points after the origin observe.

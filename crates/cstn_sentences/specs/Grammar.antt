@@ -123,11 +123,13 @@ abbrev pub word_read : List ℕ → Words → Read (Option (List ℕ) × ℕ)
 word_read word words = past (codes "as") words >>= one letter_of >>= λ r. Ok ((Some word, r.0), r.1)
 
 -- a letter, or a word with its letter
+abbrev pub letter_or_word : List ℕ → Words → Option ℕ → Read (Option (List ℕ) × ℕ)
+letter_or_word word words (Some letter) = Ok ((None, letter), words)
+letter_or_word word words None = if is_word word then word_read word words else Err (length (word ∷ words))
+
 abbrev pub observed_prop : Words → Read (Option (List ℕ) × ℕ)
 observed_prop [] = Err 0
-observed_prop (word ∷ words) =
-    if is_letter word then Ok ((None, slice_index word 0), words)
-    else if is_word word then word_read word words else Err (length (word ∷ words))
+observed_prop (word ∷ words) = letter_or_word word words (letter_of word)
 
 -- what is observed, with the reaction behind it
 abbrev pub with_reaction : (Option (List ℕ) × ℕ) × Words → Read (Option Observed)
@@ -163,16 +165,32 @@ by_read point words =
     if begins_by (codes "after") r.1 then past (codes "after") r.1 >>= rule_by point (ByAfter r.0) Since
     else demand (int_le (pos 0) r.0.ticks) (length r.1) >>= λ timely. rule_by point (By r.0) If r.1
 
+-- `at` and a range; `within` and a time; a range: and then what they count from
+abbrev pub at_read : Point → Words → Result Line ℕ
+at_read point words = one range_read words >>= λ r. rule_by point (At r.0) If r.1
+
+abbrev pub within_read : Point → Words → Result Line ℕ
+within_read point words = one time_read words >>= λ r. past (codes "after") r.1 >>= rule_by point (Within r.0) Since
+
+abbrev pub between_read : Point → Words → Result Line ℕ
+between_read point words = one range_read words >>= λ r. past (codes "after") r.1 >>= rule_by point (Between r.0) Since
+
 -- a rule of a time-point, by the words behind that
 abbrev pub rule_read : Point → Words → Result Line ℕ
 rule_read point [] = Err 0
 rule_read point (word ∷ words) =
-    if is (codes "at") word then one range_read words >>= (λ r. rule_by point (At r.0) If r.1) else
+    if is (codes "at") word then at_read point words else
     if is (codes "by") word then by_read point words else
-    if is (codes "within") word then one time_read words >>= (λ r. past (codes "after") r.1 >>= rule_by point (Within r.0) Since) else
+    if is (codes "within") word then within_read point words else
     if is (codes "after") word then rule_by point NotBefore Since words else
-    if is (codes "with") word then rule_by point Together Since words else
-    (one range_read (word ∷ words) >>= λ r. past (codes "after") r.1 >>= rule_by point (Between r.0) Since)
+    if is (codes "with") word then rule_by point Together Since words else between_read point (word ∷ words)
+
+-- a rule of one end of a task, and a rule that begins with a name
+abbrev pub sided_read : Side → Words → Result Line ℕ
+sided_read side words = side_read side words >>= λ r. rule_read r.0 r.1
+
+abbrev pub named_rule : Words → Result Line ℕ
+named_rule words = one name_of words >>= λ r. rule_read (record { name = r.0; side = Alone }) r.1
 
 -- ---- lines
 
@@ -180,23 +198,27 @@ rule_read point (word ∷ words) =
 abbrev pub clock_read : List ℕ → Option Span
 clock_read word = option_and_then (λ t. when t.clock t) (time_read word)
 
+abbrev pub deadline_read : Words → Result Line ℕ
+deadline_read words = one time_read words >>= λ r. ended (deadline r.0) r.1
+
 -- `start of` and a rule, or `start` and a time of the clock
 abbrev pub start_read : Words → Result Line ℕ
 start_read words =
-    if begins_by (codes "of") words then side_read First words >>= (λ r. rule_read r.0 r.1)
-    else one clock_read words >>= (λ r. ended (start r.0) r.1)
+    if begins_by (codes "of") words then sided_read First words else (one clock_read words >>= λ r. ended (start r.0) r.1)
 
--- a task with this name: its length, and then as for a step
-abbrev pub task_read : List ℕ → Words → Result Line ℕ
-task_read name words = one range_read words >>= λ r. step_read name r.1 >>= λ s. Ok (task s r.0)
+abbrev pub named_step : Words → Result Line ℕ
+named_step words = one name_of words >>= λ r. step_read r.0 r.1 >>= λ s. Ok (step s)
+
+-- a task: its name, its length, and then as for a step
+abbrev pub task_read : Words → Result Line ℕ
+task_read words = one name_of words >>= λ r. one range_read r.1 >>= λ l. step_read r.0 l.1 >>= λ s. Ok (task s l.0)
 
 -- the line of these words
 abbrev pub line_read : Words → Result Line ℕ
 line_read [] = Ok nothing
 line_read (word ∷ words) =
-    if is (codes "deadline") word then one time_read words >>= (λ r. ended (deadline r.0) r.1) else
+    if is (codes "deadline") word then deadline_read words else
     if is (codes "start") word then start_read words else
-    if is (codes "step") word then one name_of words >>= (λ r. step_read r.0 r.1 >>= λ s. Ok (step s)) else
-    if is (codes "task") word then one name_of words >>= (λ r. task_read r.0 r.1) else
-    if is (codes "end") word then side_read Last words >>= (λ r. rule_read r.0 r.1) else
-    (one name_of (word ∷ words) >>= λ r. rule_read (record { name = r.0; side = Alone }) r.1)
+    if is (codes "step") word then named_step words else
+    if is (codes "task") word then task_read words else
+    if is (codes "end") word then sided_read Last words else named_rule (word ∷ words)

@@ -10,10 +10,13 @@ pub mod Spans
 pub mod Lines
 pub mod Grammar
 pub mod Judged
+pub mod Seen
 -- What the lines declare, and the network that they mean.
 pub mod Declarations
+pub mod SeenDeclared
 pub mod Meaning
 pub mod Plans
+pub mod Answers
 -- The way back: a network in sentences, and what they say of moments.
 pub mod Printed
 pub mod Sentences

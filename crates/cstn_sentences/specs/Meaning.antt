@@ -24,10 +24,12 @@ use Rattle.cstn_sentences.specs.declared.lines.Reference.TheVariants.{Moment, Ou
 use Rattle.cstn_sentences.specs.declared.lines.Literal.{Literal}
 use Rattle.cstn_sentences.specs.declared.lines.Says.{Says}
 use Rattle.cstn_sentences.specs.declared.lines.Says.TheVariants.{At, By, Between, ByAfter, Within, NotBefore, Together}
+use Rattle.cstn_sentences.specs.declared.bounds.Bounds.{Bounds}
+use Rattle.cstn_sentences.specs.declared.declarations.Meant.{Meant}
 use Rattle.cstn_sentences.specs.Lines.{Step, Rule, Line, nothing, deadline, start, step, task, rule}
 use Rattle.cstn_sentences.specs.Spelling.{is_letter}
 use Rattle.cstn_sentences.specs.Judged.{is_sized, line_of}
-use Rattle.cstn_sentences.specs.Declarations.{Declared, Meant, letter_for, is_origin}
+use Rattle.cstn_sentences.specs.Declarations.{Declared, letter_for, is_origin}
 
 -- the labels of the origin and of the time-points after it, and the constraints
 pub record Meaning : Type 0 where
@@ -111,11 +113,6 @@ moments_in n d (r ∷ later) = moment_in n d r >>= λ m. moments_in n d later >>
 
 -- ---- what is said
 
--- at least and at most so many ticks after a moment, where they are said
-pub record Bounds : Type 0 where
-  pub least : Option ℤ
-  pub most : Option ℤ
-
 -- the ticks of a time of the clock below 24:00: of the first such time after the clock at tick 0, or at it
 abbrev pub from_start : ℤ → Option ℤ → ℤ
 from_start ticks None = ticks
@@ -193,7 +190,7 @@ mean_rule n d r m =
     demand (are_in_order (bounds_of d.start r.says).least (bounds_of d.start r.says).most) (out_of_range n) >>= λ ordered.
     moments_in n d r.since >>= λ moments.
     label_of n d r.label >>= λ label.
-    demand (list_all (are_sized_from (bounds_of d.start r.says)) moments) (out_of_range n) >>= λ sized.
+    demand (list_all (are_sized_from (bounds_of d.start r.says)) (since_origin r.says moments)) (out_of_range n) >>= λ sized.
     Ok (with_rule x (bounds_of d.start r.says) label (since_origin r.says moments) m)
 
 -- the meaning with the label of a step

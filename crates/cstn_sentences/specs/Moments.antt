@@ -9,7 +9,7 @@ use Rattle.cstn_graphml.specs.Networks.{constraint_drawn}
 use Rattle.cstn_sentences.specs.declared.lines.Says.{Says}
 use Rattle.cstn_sentences.specs.declared.lines.Says.TheVariants.{At, By, Between, ByAfter, Within, NotBefore, Together}
 use Rattle.cstn_sentences.specs.declared.lines.Span.{Span}
-use Rattle.cstn_sentences.specs.Meaning.{Moment_after, on_clock, Bounds, bounds_of, constraints_of, since_origin}
+use Rattle.cstn_sentences.specs.Meaning.{Moment_after, on_clock}
 use Rattle.cstn_label.specs.Labels.{Label}
 
 -- the tick of a moment in a schedule: so many ticks after its time-point

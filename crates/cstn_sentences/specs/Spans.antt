@@ -24,13 +24,10 @@ abbrev pub minutes_read : List ℕ → List ℕ → Option ℕ
 minutes_read hours minutes =
     when (nat_le (length hours) 4) hours >>= digits_read >>= λ h.
     when (length minutes == 2) minutes >>= digits_read >>= λ m.
-    when (nat_le m 59) (60 * h + m)
+    when (nat_le h 9999 && nat_le m 59) (60 * h + m)
 
 abbrev pub after : Bool → ℕ → Span
 after clock n = record { ticks = pos n; clock = clock }
-
-abbrev pub before : ℕ → Span
-before n = record { ticks = neg_ℤ (pos n); clock = false }
 
 -- a time: a number of ticks, or `H:MM`
 abbrev pub time_by : List ℕ → Option (List ℕ × List ℕ) → Option Span
@@ -42,7 +39,7 @@ time_read word = time_by word (cut_at 58 word)
 
 -- what stands before a time above 0
 abbrev pub negated : Span → Option Span
-negated span = when (int_lt (pos 0) span.ticks) (before (nat_abs span.ticks))
+negated span = when (int_lt (pos 0) span.ticks) (record { ticks = neg_ℤ span.ticks; clock = false })
 
 -- a span: a time, or `-` and a time above 0
 abbrev pub span_read : List ℕ → Option Span

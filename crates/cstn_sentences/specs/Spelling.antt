@@ -7,22 +7,36 @@ use Rattle.cstn_markup.specs.Bytes.{when}
 use Rattle.cstn_text.specs.Names.{is_name}
 use Rattle.cstn_text.specs.PrintedNames.{printed_byte, printed_name, unprinted, name_read}
 
-abbrev pub keywords : List (List ℕ)
-keywords =
-    codes "deadline" ∷ codes "start" ∷ codes "step" ∷ codes "task" ∷ codes "observes" ∷ codes "as" ∷ codes "after" ∷ codes "if"
-    ∷ codes "and" ∷ codes "not" ∷ codes "at" ∷ codes "by" ∷ codes "within" ∷ codes "with" ∷ codes "result" ∷ codes "end" ∷ codes "of" ∷ []
+-- the words of the language, which are no names: those that a line begins with, those of rules, and those between
+abbrev pub begins_line : List ℕ → Bool
+begins_line word =
+    bytes_eq word (codes "deadline") || bytes_eq word (codes "start") || bytes_eq word (codes "step") || bytes_eq word (codes "task")
+    || bytes_eq word (codes "end")
+
+abbrev pub is_of_rule : List ℕ → Bool
+is_of_rule word =
+    bytes_eq word (codes "at") || bytes_eq word (codes "by") || bytes_eq word (codes "within") || bytes_eq word (codes "with")
+    || bytes_eq word (codes "after")
+
+abbrev pub is_between : List ℕ → Bool
+is_between word =
+    bytes_eq word (codes "observes") || bytes_eq word (codes "as") || bytes_eq word (codes "if") || bytes_eq word (codes "and")
+    || bytes_eq word (codes "not") || bytes_eq word (codes "result") || bytes_eq word (codes "of")
 
 abbrev pub is_keyword : List ℕ → Bool
-is_keyword word = list_any (bytes_eq word) keywords
+is_keyword word = begins_line word || is_of_rule word || is_between word
 
 -- the text begins with this byte
 abbrev pub begins_with : ℕ → List ℕ → Bool
 begins_with b [] = false
 begins_with b (first ∷ bytes) = first == b
 
+abbrev pub has_space_or_quote : List ℕ → Bool
+has_space_or_quote name = list_any (λ b. b == 32 || b == 34) name
+
 -- a name that has a space or `"`, begins with `#`, or is a keyword, stands in quotes
 abbrev pub needs_quotes : List ℕ → Bool
-needs_quotes name = list_any (λ b. b == 32 || b == 34) name || begins_with 35 name || is_keyword name
+needs_quotes name = has_space_or_quote name || begins_with 35 name || is_keyword name
 
 -- in quotes a space stands for itself, and `"` is `%22`
 abbrev pub quoted_byte : ℕ → List ℕ
@@ -40,11 +54,16 @@ abbrev pub between_quotes : List ℕ → List ℕ
 between_quotes [] = []
 between_quotes (b ∷ bytes) = take (length bytes - 1) bytes
 
+-- the word is the spelling of the name in quotes, which the name needs
+abbrev pub is_quoted_as : List ℕ → List ℕ → Bool
+is_quoted_as name word = is_name name && needs_quotes name && bytes_eq (quoted name) word
+
+abbrev pub quoted_as : List ℕ → List ℕ → Option (List ℕ)
+quoted_as name word = when (is_quoted_as name word) name
+
 -- the name that a quoted word spells, and that a bare one does
 abbrev pub quoted_name : List ℕ → Option (List ℕ)
-quoted_name word =
-    let name = unprinted (between_quotes word) in
-    when (is_name name && needs_quotes name && bytes_eq (quoted name) word) name
+quoted_name word = quoted_as (unprinted (between_quotes word)) word
 
 abbrev pub bare_name : List ℕ → Option (List ℕ)
 bare_name word = option_and_then (λ name. when (not (needs_quotes name)) name) (name_read word)

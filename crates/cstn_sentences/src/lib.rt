@@ -1,6 +1,21 @@
 //! Plans in sentences: lines that a person reads aloud, and the labelled network that they say.
 #![tactic(auto)]
 
+mod bounds;
+mod declarations;
+mod errors;
+mod faults;
+mod forms;
+mod judged;
 mod lines;
+mod meaning;
+mod observers;
+mod reading;
+mod rests;
+mod spans;
+mod spelling;
+mod words;
 
-pub use lines::{Line, Literal, Observed, Point, Range, Reference, Rule, Says, Side, Span, Step, Text};
+pub use errors::PlanError;
+pub use lines::{Name, Word};
+pub use reading::read;

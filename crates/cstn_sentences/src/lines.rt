@@ -1,19 +1,85 @@
 //! What a line of a plan in sentences says.
 
+ghost use Rattle.std.specs.Prelude.{◌≡◌, IfOk, string_bytes};
+ghost use Rattle.cstn_text.specs.Names.{IsName};
+
+use std::alloc::{AllocError, Global};
 use std::marker::Model;
 
-/// A text that a line has: a name, or the word or the letter of a proposition.
+/// A name.
 #[derive(Debug, Drop)]
-pub struct Text {
+pub struct Name {
     text: String,
 }
 
-impl Model for Text {
+impl Model for Name {
     ghost use Rattle.std.specs.Prelude.{ℕ, List, string_bytes};
+    ghost use Rattle.cstn_text.specs.Names.{IsName};
 
     ghost Value = { List ℕ };
 
-    ghost view = { λ t. string_bytes t.text };
+    ghost view = { λ n. string_bytes n.text };
+
+    ghost invariant = { λ n. IsName (string_bytes n.text) };
+}
+
+impl Name {
+    /// The name of a text.
+    pub(crate) fn new(text: String) -> Name
+        requires { IsName (string_bytes text) }
+        ensures text { result ≡ string_bytes text }
+    {
+        Name { text }
+    }
+
+    /// Another one of the name.
+    pub(crate) fn copy(&self, alloc: Global) -> Result<Name, AllocError>
+        ensures text { IfOk result (λ n. n ≡ self.now) }
+    {
+        Ok(Name {
+            text: String::from_str(alloc, self.text.as_str())?,
+        })
+    }
+
+    /// The text of the name.
+    pub fn as_str(&self) -> &str
+        ensures text { result.now ≡ self.now }
+        ensures named { IsName result.now }
+    {
+        self.text.as_str()
+    }
+}
+
+/// A word of a plan: one that stands for a letter, a letter, or one that stands twice.
+#[derive(Debug, Drop)]
+pub struct Word {
+    bytes: Vec<u8>,
+}
+
+impl Model for Word {
+    ghost use Rattle.std.specs.Prelude.{ℕ, List};
+
+    ghost Value = { List ℕ };
+
+    ghost view = { λ w. w.bytes.items };
+}
+
+impl Word {
+    /// The word of these bytes.
+    pub(crate) fn new(alloc: Global, bytes: &[u8]) -> Result<Word, AllocError>
+        ensures word { IfOk result (λ w. w ≡ bytes.now) }
+    {
+        Ok(Word {
+            bytes: Vec::from_slice(alloc, bytes)?,
+        })
+    }
+
+    /// The bytes of the word.
+    pub fn as_bytes(&self) -> &[u8]
+        ensures bytes { result.now ≡ self.now }
+    {
+        self.bytes.as_slice()
+    }
 }
 
 /// A number of ticks, perhaps below 0, and whether it is written as a time of the clock, `H:MM`.
@@ -41,7 +107,7 @@ pub enum Side {
 /// A time-point as it is written.
 #[derive(Debug, Drop)]
 pub struct Point {
-    pub name: Text,
+    pub name: Name,
     pub side: Side,
 }
 
@@ -49,20 +115,20 @@ pub struct Point {
 #[derive(Debug, Drop)]
 pub enum Reference {
     Moment(Point),
-    Outcome(Text),
+    Outcome(Word),
 }
 
 /// A proposition of a label, and whether it is true or not.
 #[derive(Debug, Drop)]
 pub struct Literal {
-    pub prop: Text,
+    pub prop: Word,
     pub holds: bool,
 }
 
 /// What a step observes: a letter, perhaps with a word for it, and the reaction.
 #[derive(Debug, Drop)]
 pub struct Observed {
-    pub word: Option<Text>,
+    pub word: Option<Word>,
     pub letter: u8,
     pub reaction: Span,
 }
@@ -70,7 +136,7 @@ pub struct Observed {
 /// A step, or a task but for its length: a name, what is observed, and a label.
 #[derive(Debug, Drop)]
 pub struct Step {
-    pub name: Text,
+    pub name: Name,
     pub observed: Option<Observed>,
     pub label: Vec<Literal>,
 }
