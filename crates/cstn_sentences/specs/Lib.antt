@@ -19,5 +19,6 @@ pub mod Plans
 pub mod Answers
 -- The way back: a network in sentences, and what they say of moments.
 pub mod Printed
+pub mod NumbersSeen
 pub mod Sentences
 pub mod Moments

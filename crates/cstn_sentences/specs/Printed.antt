@@ -19,14 +19,13 @@ use Rattle.cstn_sentences.specs.Grammar.{Words}
 abbrev pub span_word : Span → List ℕ
 span_word t = printed_value t.ticks
 
--- a range, of which a single span is written alone
-abbrev pub range_to_word : Span → Option Span → List ℕ
-range_to_word least None = span_word least ++ codes ".."
-range_to_word least (Some most) =
-    if int_le most.ticks least.ticks then span_word least else span_word least ++ codes ".." ++ span_word most
+-- what stands behind the least of a range: nothing where the range is a single span
+abbrev pub most_word : Span → Option Span → List ℕ
+most_word least None = codes ".."
+most_word least (Some most) = if int_le most.ticks least.ticks then [] else codes ".." ++ span_word most
 
 abbrev pub range_word : Range → List ℕ
-range_word r = range_to_word r.least r.most
+range_word r = span_word r.least ++ most_word r.least r.most
 
 abbrev pub point_words : Point → Words
 point_words p = sided p.side (spelling p.name)
@@ -88,7 +87,11 @@ rule_words r = point_words r.point ++ says_words r.says ++ joined_words referenc
 abbrev pub deadline_words : Span → Words
 deadline_words t = codes "deadline" ∷ span_word t ∷ []
 
+-- words, each behind a space
+abbrev pub spaced : Words → List ℕ
+spaced words = flat_map (λ w. 32 ∷ w) words
+
 -- the text of a line, with its LF
 abbrev pub line_text : Words → List ℕ
 line_text [] = 10 ∷ []
-line_text (word ∷ words) = word ++ flat_map (λ w. 32 ∷ w) words ++ (10 ∷ [])
+line_text (word ∷ words) = word ++ spaced words ++ (10 ∷ [])

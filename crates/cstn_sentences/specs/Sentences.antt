@@ -8,6 +8,7 @@ use Rattle.cstn_label.specs.Tests.{is_within}
 use Rattle.cstn_net.specs.Networks.{Network, Constraint, count}
 use Rattle.cstn_lift.specs.Labelled.{Labelled, label_in}
 use Rattle.cstn_sentences.specs.declared.lines.Span.{Span}
+use Rattle.cstn_sentences.specs.declared.lines.Range.{Range}
 use Rattle.cstn_sentences.specs.declared.lines.Side.TheVariants.{Alone}
 use Rattle.cstn_sentences.specs.declared.lines.Point.{Point}
 use Rattle.cstn_sentences.specs.declared.lines.Reference.{Reference}
@@ -22,14 +23,25 @@ use Rattle.cstn_sentences.specs.Printed.{deadline_words, step_words, rule_words,
 abbrev pub ticks : ℤ → Span
 ticks n = record { ticks = n; clock = false }
 
+-- from a on up to b, and from a on
+abbrev pub from_to : ℤ → ℤ → Range
+from_to a b = record { least = ticks a; most = Some (ticks b) }
+
+abbrev pub from_on : ℤ → Range
+from_on a = record { least = ticks a; most = None }
+
 -- ---- labels and steps
 
--- the literal of a proposition by its mark
+-- whether a mark says that the proposition is true or that it isn't, if it says either
+abbrev pub asserted : Mark → Option Bool
+asserted Absent = None
+asserted Yes = Some true
+asserted No = Some false
+asserted Unknown = None
+
+-- the literal of a proposition by its mark, if there is one
 abbrev pub literal : ℕ → Mark → List Literal
-literal letter Absent = []
-literal letter Yes = record { prop = letter ∷ []; holds = true } ∷ []
-literal letter No = record { prop = letter ∷ []; holds = false } ∷ []
-literal letter Unknown = []
+literal letter mark = option_to_list (option_map (λ holds. record { prop = letter ∷ []; holds = holds }) (asserted mark))
 
 -- the literals of the propositions below n, in ascending order
 unfoldable pub literals_below : Label → ℕ → List Literal
@@ -39,9 +51,12 @@ literals_below a (suc n) = literals_below a n ++ literal (letter_of n) (a n)
 abbrev pub literals : Label → List Literal
 literals a = literals_below a 52
 
--- what is observed of a proposition, by its letter
+-- what is observed of a proposition with a reaction of n ticks, by its letter
+abbrev pub observed_after : ℕ → ℕ → Observed
+observed_after n p = record { word = None; letter = letter_of p; reaction = ticks (pos n) }
+
 abbrev pub observed_of : (ℕ → ℕ) → ℕ → Observed
-observed_of reaction p = record { word = None; letter = letter_of p; reaction = ticks (pos (reaction p)) }
+observed_of reaction p = observed_after (reaction p) p
 
 -- the step of a time-point
 abbrev pub step_of : Labelled → List (List ℕ) → ℕ → Step
@@ -84,36 +99,43 @@ rule_of names x says y label = record {
   label = literals label;
 }
 
--- x is at least a and, where b is given, at most b after y
+-- the time-point that a rule counts from; none is written for the origin
+abbrev pub counted_from : ℕ → Option ℕ
+counted_from zero = None
+counted_from (suc y) = Some (suc y)
+
+-- at least a and at most b after some time-point
 abbrev pub since_says : ℤ → ℤ → Says
 since_says a b =
-    if int_le b a then (if int_le a (pos 0) then Together else Between (record { least = ticks a; most = Some (ticks b) }))
-    else if int_le a (pos 0) then Within (ticks b) else Between (record { least = ticks a; most = Some (ticks b) })
+    if int_le b a then (if int_le a (pos 0) then Together else Between (from_to a b))
+    else if int_le a (pos 0) then Within (ticks b) else Between (from_to a b)
 
-abbrev pub range_rule : List (List ℕ) → ℕ → ℕ → ℤ → ℤ → Label → Rule
-range_rule names x zero a b label = rule_of names x (At (record { least = ticks a; most = Some (ticks b) })) None label
-range_rule names x (suc y) a b label = rule_of names x (since_says a b) (Some (suc y)) label
+-- at least a and at most b after a time-point, or after the origin
+abbrev pub range_says : Option ℕ → ℤ → ℤ → Says
+range_says None a b = At (from_to a b)
+range_says (Some y) a b = since_says a b
 
--- x is at least a after y
-abbrev pub least_says : ℤ → Says
-least_says a = if int_le a (pos 0) then NotBefore else Between (record { least = ticks a; most = None })
+-- at least a after a time-point, or after the origin
+abbrev pub least_says : Option ℕ → ℤ → Says
+least_says None a = At (from_on a)
+least_says (Some y) a = if int_le a (pos 0) then NotBefore else Between (from_on a)
 
-abbrev pub least_rule : List (List ℕ) → ℕ → ℕ → ℤ → Label → Rule
-least_rule names x zero a label = rule_of names x (At (record { least = ticks a; most = None })) None label
-least_rule names x (suc y) a label = rule_of names x (least_says a) (Some (suc y)) label
+-- the rule of a pair
+abbrev pub pair_rule : List (List ℕ) → Constraint → Constraint → Rule
+pair_rule names c d = rule_of names c.from (range_says (counted_from c.to) (neg_ℤ c.most) d.most) (counted_from c.to) c.label
 
 -- a constraint alone: x is by b, where it counts from the origin and b isn't below 0; else at least -b after y, where b isn't above 0;
 -- else by b after y
 abbrev pub alone_rule : List (List ℕ) → Constraint → Rule
 alone_rule names c =
     if c.from == 0 && int_le (pos 0) c.most then rule_of names c.to (By (ticks c.most)) None c.label
-    else if int_le c.most (pos 0) then least_rule names c.from c.to (neg_ℤ c.most) c.label
+    else if int_le c.most (pos 0) then rule_of names c.from (least_says (counted_from c.to) (neg_ℤ c.most)) (counted_from c.to) c.label
     else rule_of names c.to (ByAfter (ticks c.most)) (Some c.from) c.label
 
 -- the rule of a constraint, or of a pair of two
 abbrev pub next_rule : List (List ℕ) → Constraint → List Constraint → Rule
 next_rule names c [] = alone_rule names c
-next_rule names c (d ∷ later) = if is_pair c d then range_rule names c.from c.to (neg_ℤ c.most) d.most c.label else alone_rule names c
+next_rule names c (d ∷ later) = if is_pair c d then pair_rule names c d else alone_rule names c
 
 -- the rules of constraints, of which the first `skip` stand in the rule before them
 unfoldable pub rules_after : List (List ℕ) → ℕ → List Constraint → List Rule
@@ -123,9 +145,15 @@ rules_after names (suc skip) (c ∷ cs) = rules_after names skip cs
 
 -- ---- the text
 
+-- the lines of the steps of the first n time-points
+abbrev pub steps_text : Labelled → List (List ℕ) → ℕ → List ℕ
+steps_text m names n = flat_map (λ s. line_text (step_words s)) (steps_below m names n)
+
+-- the lines of constraints
+abbrev pub rules_text : List (List ℕ) → List Constraint → List ℕ
+rules_text names cs = flat_map (λ r. line_text (rule_words r)) (rules_after names 0 cs)
+
 -- The sentences of a labelled network with these names: its deadline, its steps by number, and its constraints by id.
 abbrev pub sentences : Labelled → List (List ℕ) → List ℕ
 sentences m names =
-    line_text (deadline_words (ticks (pos m.base.deadline)))
-    ++ flat_map (λ s. line_text (step_words s)) (steps_below m names (count m.base))
-    ++ flat_map (λ r. line_text (rule_words r)) (rules_after names 0 m.base.constraints)
+    line_text (deadline_words (ticks (pos m.base.deadline))) ++ steps_text m names (count m.base) ++ rules_text names m.base.constraints

@@ -9,13 +9,17 @@ mod forms;
 mod judged;
 mod lines;
 mod meaning;
+mod names;
 mod observers;
+mod printed;
 mod reading;
 mod rests;
 mod spans;
 mod spelling;
 mod words;
+mod writing;
 
 pub use errors::PlanError;
 pub use lines::{Name, Word};
 pub use reading::read;
+pub use writing::sentences;

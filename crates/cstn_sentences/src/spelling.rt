@@ -65,8 +65,8 @@ fn has_space_or_quote(name: &[u8]) -> bool
     name.iter().any(|b| *b == b' ' || *b == b'"')
 }
 
-/// Whether a name stands in quotes: it has a space or `"`, begins with `#`, or is a keyword.
-fn needs_quotes(name: &[u8]) -> bool
+// Whether a name stands in quotes: it has a space or `"`, begins with `#`, or is a keyword.
+pub(crate) fn needs_quotes(name: &[u8]) -> bool
     ensures { result ≡ needs_quotes name.now }
 {
     has_space_or_quote(name) || begins_with(b'#', name) || is_keyword(name)
@@ -152,7 +152,7 @@ fn is_plain_byte(b: u8) -> bool
     b >= 0x21 && b <= 0x7E && b != b'%' || b >= 0x80
 }
 
-fn push_printed_byte(text: &mut Vec<u8>, b: u8) -> Result<(), AllocError>
+pub(crate) fn push_printed_byte(text: &mut Vec<u8>, b: u8) -> Result<(), AllocError>
     ensures { OnOk result (text.new.items ≡ text.old.items ++ printed_byte b) }
 {
     if is_plain_byte(b) {
@@ -163,7 +163,7 @@ fn push_printed_byte(text: &mut Vec<u8>, b: u8) -> Result<(), AllocError>
     text.extend_from_slice(&escape)
 }
 
-fn push_quoted_byte(text: &mut Vec<u8>, b: u8) -> Result<(), AllocError>
+pub(crate) fn push_quoted_byte(text: &mut Vec<u8>, b: u8) -> Result<(), AllocError>
     ensures { OnOk result (text.new.items ≡ text.old.items ++ quoted_byte b) }
 {
     if b == b' ' {
