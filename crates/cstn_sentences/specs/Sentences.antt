@@ -18,7 +18,8 @@ use Rattle.cstn_sentences.specs.declared.lines.Observed.{Observed}
 use Rattle.cstn_sentences.specs.declared.lines.Says.{Says}
 use Rattle.cstn_sentences.specs.declared.lines.Says.TheVariants.{At, By, Between, ByAfter, Within, NotBefore, Together}
 use Rattle.cstn_sentences.specs.Lines.{Step, Rule}
-use Rattle.cstn_sentences.specs.Printed.{deadline_words, step_words, rule_words, line_text}
+use Rattle.cstn_sentences.specs.Grammar.{Words}
+use Rattle.cstn_sentences.specs.Printed.{joined_words, reference_words, deadline_words, step_words, rule_words, line_text}
 
 abbrev pub ticks : ℤ → Span
 ticks n = record { ticks = n; clock = false }
@@ -58,11 +59,15 @@ observed_after n p = record { word = None; letter = letter_of p; reaction = tick
 abbrev pub observed_of : (ℕ → ℕ) → ℕ → Observed
 observed_of reaction p = observed_after (reaction p) p
 
+-- what the time-point observes, if it observes anything
+abbrev pub observed_at : Network → ℕ → Option Observed
+observed_at net x = option_map (observed_of net.reaction) (slice_index_or net.observes x None)
+
 -- the step of a time-point
 abbrev pub step_of : Labelled → List (List ℕ) → ℕ → Step
 step_of m names x = record {
   name = slice_index_or names x [];
-  observed = option_map (observed_of m.base.reaction) (slice_index_or m.base.observes x None);
+  observed = observed_at m.base x;
   label = literals (label_in m.labels x);
 }
 
@@ -90,12 +95,19 @@ abbrev pub is_paired : Constraint → List Constraint → Bool
 is_paired c [] = false
 is_paired c (d ∷ later) = is_pair c d
 
+-- the time-points that a rule counts from: one, or none
+abbrev pub since_of : List (List ℕ) → Option ℕ → List Reference
+since_of names y = option_to_list (option_map (λ k. Moment (record { name = slice_index_or names k []; side = Alone })) y)
+
+abbrev pub since_words : List (List ℕ) → Option ℕ → Words
+since_words names y = joined_words reference_words (since_of names y)
+
 -- a rule of the time-point x, by the time-point y that it counts from, or by none
 abbrev pub rule_of : List (List ℕ) → ℕ → Says → Option ℕ → Label → Rule
 rule_of names x says y label = record {
   point = record { name = slice_index_or names x []; side = Alone };
   says = says;
-  since = option_to_list (option_map (λ k. Moment (record { name = slice_index_or names k []; side = Alone })) y);
+  since = since_of names y;
   label = literals label;
 }
 

@@ -3,12 +3,10 @@
 ghost use Rattle.std.specs.Prelude.{◌≡◌, ◌++◌, ◌∷◌, [], OnOk, Some, pos};
 ghost use Rattle.cstn_label.specs.Read.{marks};
 ghost use Rattle.cstn_label.specs.Letters.{letter_of};
-ghost use Rattle.cstn_sentences.specs.Spelling.{spelling};
 ghost use Rattle.cstn_sentences.specs.Printed.{spaced, span_word, range_word, most_word, says_words, label_words, said_words, observed_words};
 ghost use Rattle.cstn_sentences.specs.Sentences.{ticks, asserted, literals, observed_after};
 
 use crate::lines::{Range, Says, Span};
-use crate::names::push_name;
 use cstn_label::{Label, Mark, Prop};
 use itoa::Buffer;
 use std::alloc::AllocError;
@@ -18,13 +16,6 @@ pub(crate) fn push_word(text: &mut Vec<u8>, word: &[u8]) -> Result<(), AllocErro
 {
     text.push(b' ')?;
     text.extend_from_slice(word)
-}
-
-pub(crate) fn push_name_word(text: &mut Vec<u8>, name: &str) -> Result<(), AllocError>
-    ensures { OnOk result (text.new.items ≡ text.old.items ++ spaced (spelling name.now ∷ [])) }
-{
-    text.push(b' ')?;
-    push_name(text, name)
 }
 
 pub(crate) fn push_span(text: &mut Vec<u8>, span: Span) -> Result<(), AllocError>

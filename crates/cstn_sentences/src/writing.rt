@@ -1,16 +1,18 @@
 //! A labelled network in sentences.
 
-ghost use Rattle.std.specs.Prelude.{◌≡◌, ◌<◌, ◌≤◌, ◌++◌, ◌∷◌, All, IfOk, OnOk, IfSome, length, map, pos};
+ghost use Rattle.std.specs.Prelude.{◌≡◌, ◌<◌, ◌≤◌, ◌++◌, ◌∷◌, [], neg_ℤ, slice_index_or, All, IfOk, OnOk, IfSome, length, map, pos};
 ghost use Rattle.cstn_label.specs.Read.{marks};
+ghost use Rattle.cstn_label.specs.Tests.{is_within};
 ghost use Rattle.cstn_net.specs.Networks.{count, IsValue};
 ghost use Rattle.cstn_net.specs.Read.{the_network, the_constraint, IsInRange};
 ghost use Rattle.cstn_lift.specs.Read.{the_labelled};
-ghost use Rattle.cstn_sentences.specs.Printed.{deadline_words, step_words, rule_words, line_text};
-ghost use Rattle.cstn_sentences.specs.Sentences.{ticks, from_to, from_on, step_of, steps_text, rules_text, is_same_label, is_pair, rule_of, since_says, range_says, least_says, counted_from, pair_rule, alone_rule, sentences};
+ghost use Rattle.cstn_sentences.specs.Spelling.{spelling};
+ghost use Rattle.cstn_sentences.specs.Printed.{spaced, observed_words, deadline_words, step_words, rule_words, line_text};
+ghost use Rattle.cstn_sentences.specs.Sentences.{since_words, observed_at, ticks, from_to, from_on, step_of, steps_text, rules_text, is_same_label, is_pair, rule_of, since_says, range_says, least_says, counted_from, pair_rule, alone_rule, sentences};
 ghost use Rattle.cstn_sentences.specs.NumbersSeen.{number_seen};
 
 use crate::lines::{Range, Says, Span};
-use crate::printed::{push_label, push_name_word, push_number, push_observed, push_says};
+use crate::printed::{push_label, push_number, push_observed, push_says};
 use crate::names::push_name;
 use cstn_label::{Label, NodeId, labels_are_their_marks};
 use cstn_lift::Labelled;
@@ -68,15 +70,23 @@ fn push_step(
     requires node { x.0 < count (the_network net.now.base) }
     ensures { OnOk result (text.new.items ≡ text.old.items ++ line_text (step_words (step_of (the_labelled net.now) names.now x.0))) }
 {
-    text.extend_from_slice(b"step")?;
-    push_name_word(text, names.name(x))?;
-    let base = net.base();
-    if let Some(p) = base.observes(x) {
-        push_observed(text, p, base.reaction(p))?;
-    }
+    text.extend_from_slice(b"step ")?;
+    push_name_of(text, names, x)?;
+    push_observation(text, net.base(), x)?;
     push_label(text, net.label(x))?;
     text.push(b'\n')?;
     Ok(())
+}
+
+// Writes what a time-point observes, if it observes anything.
+fn push_observation(text: &mut Vec<u8>, net: &Network, x: NodeId) -> Result<(), AllocError>
+    requires { x.0 < count (the_network net.now) }
+    ensures { OnOk result (text.new.items ≡ text.old.items ++ spaced (observed_words (observed_at (the_network net.now) x.0))) }
+{
+    match net.observes(x) {
+        None => Ok(()),
+        Some(p) => push_observed(text, p, net.reaction(p)),
+    }
 }
 
 fn push_rules(text: &mut Vec<u8>, net: &Network, names: &Names) -> Result<(), AllocError>
@@ -125,14 +135,27 @@ fn is_pair(c: &Constraint, d: &Constraint) -> bool
         && c.to == d.from
         && is_same(c.label, d.label)
         && c.most <= 0
-        && -c.most <= d.most
+        && negated(c.most) <= d.most
 }
 
 fn is_same(a: Label, b: Label) -> bool
     ensures { result ≡ is_same_label (marks a) (marks b) }
 {
+    is_within(a, b) && is_within(b, a)
+}
+
+fn is_within(a: Label, b: Label) -> bool
+    ensures { result ≡ is_within (marks a) (marks b) }
+{
     labels_are_their_marks();
-    a.is_within(b) && b.is_within(a)
+    a.is_within(b)
+}
+
+fn negated(value: i32) -> i32
+    requires { IsValue value }
+    ensures { result ≡ neg_ℤ value }
+{
+    -value
 }
 
 fn push_pair(
@@ -145,7 +168,7 @@ fn push_pair(
     ensures { OnOk result (text.new.items ≡ text.old.items ++ line_text (rule_words (pair_rule names.now (the_constraint c.now) (the_constraint d.now)))) }
 {
     let y = counted_from(c.to);
-    push_rule(text, names, c.from, range_says(y, -c.most, d.most), y, c.label)
+    push_rule(text, names, c.from, range_says(y, negated(c.most), d.most), y, c.label)
 }
 
 fn push_alone(text: &mut Vec<u8>, names: &Names, c: &Constraint) -> Result<(), AllocError>
@@ -157,7 +180,7 @@ fn push_alone(text: &mut Vec<u8>, names: &Names, c: &Constraint) -> Result<(), A
     }
     if c.most <= 0 {
         let y = counted_from(c.to);
-        return push_rule(text, names, c.from, least_says(y, -c.most), y, c.label);
+        return push_rule(text, names, c.from, least_says(y, negated(c.most)), y, c.label);
     }
     push_rule(text, names, c.to, Says::ByAfter(ticks(c.most)), Some(c.from), c.label)
 }
@@ -174,14 +197,31 @@ fn push_rule(
     requires since { IfSome y (λ y. y.0 < length names.now) }
     ensures { OnOk result (text.new.items ≡ text.old.items ++ line_text (rule_words (rule_of names.now x.0 says (number_seen y) (marks label)))) }
 {
-    push_name(text, names.name(x))?;
+    push_name_of(text, names, x)?;
     push_says(text, says)?;
-    if let Some(y) = y {
-        push_name_word(text, names.name(y))?;
-    }
+    push_since(text, names, y)?;
     push_label(text, label)?;
     text.push(b'\n')?;
     Ok(())
+}
+
+fn push_name_of(text: &mut Vec<u8>, names: &Names, x: NodeId) -> Result<(), AllocError>
+    requires { x.0 < length names.now }
+    ensures { OnOk result (text.new.items ≡ text.old.items ++ spelling (slice_index_or names.now x.0 [])) }
+{
+    push_name(text, names.name(x))
+}
+
+// Writes what a rule counts from, if that is written.
+fn push_since(text: &mut Vec<u8>, names: &Names, y: Option<NodeId>) -> Result<(), AllocError>
+    requires { IfSome y (λ y. y.0 < length names.now) }
+    ensures { OnOk result (text.new.items ≡ text.old.items ++ spaced (since_words names.now (number_seen y))) }
+{
+    let Some(y) = y else {
+        return Ok(());
+    };
+    text.push(b' ')?;
+    push_name_of(text, names, y)
 }
 
 // What a rule counts from; nothing is written for the origin.
