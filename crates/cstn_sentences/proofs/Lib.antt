@@ -3,3 +3,7 @@ mod Examples
 -- Words, and how names are spelled.
 pub mod WordLemmas
 pub mod SpellingLemmas
+-- Names in lists.
+pub mod NamesLemmas
+-- What is told of steps.
+pub mod TellsLemmas
