@@ -3,6 +3,10 @@ mod Examples
 -- Words, and how names are spelled.
 pub mod WordLemmas
 pub mod SpellingLemmas
+-- Names in lists.
+pub mod NamesLemmas
+-- What is told of steps.
+pub mod TellsLemmas
 -- What is written of labels and of constraints.
 mod LabelTests
 mod WrittenLabels

@@ -125,7 +125,11 @@ declare n d (step s) = declare_step n s d
 declare n d (task s r) = declare_task n s d
 declare n d (rule r) = are_new n [] r.label >>= λ new. Ok d
 
+-- what is declared once the line of a text was read, which is number n
+abbrev pub declared_line : ℕ → Declared → List ℕ → Result Declared Refusal
+declared_line n d text = line_of n text >>= declare n d
+
 -- what the lines from number n on declare, after those before them
 unfoldable pub declared_after : ℕ → Declared → List (List ℕ) → Result Declared Refusal
 declared_after n d [] = Ok d
-declared_after n d (line ∷ lines) = line_of n line >>= declare n d >>= λ more. declared_after (n + 1) more lines
+declared_after n d (line ∷ lines) = declared_line n d line >>= λ more. declared_after (n + 1) more lines

@@ -15,8 +15,10 @@ pub mod Seen
 pub mod Declarations
 pub mod SeenDeclared
 pub mod Meaning
+pub mod SeenMeaning
 pub mod Plans
 pub mod Answers
+pub mod Planned
 -- The way back: a network in sentences, and what they say of moments.
 pub mod Printed
 pub mod NumbersSeen

@@ -1,5 +1,5 @@
 -- What the lines mean: the labels of time-points, and the constraints.
-use Rattle.std.specs.Prelude.{ℕ, ◌+◌, ◌-◌, Bool, true, false, ◌&&◌, not, ◌==◌, List, [], ◌∷◌, ◌++◌, length, map, flat_map, slice_index_or, Option, Some, None, option_map, option_to_list, position, Result, Ok, Err, if◌then◌else◌, ℤ, pos, ◌+ℤ◌, ◌-ℤ◌, neg_ℤ, nat_abs, int_le, int_lt, nat_lt}
+use Rattle.std.specs.Prelude.{ℕ, ◌+◌, ◌-◌, Bool, true, false, ◌&&◌, not, ◌==◌, List, [], ◌∷◌, ◌++◌, length, map, flat_map, slice_index_or, Option, Some, None, option_map, option_to_list, Result, Ok, Err, if◌then◌else◌, ℤ, pos, ◌+ℤ◌, ◌-ℤ◌, neg_ℤ, nat_abs, int_le, int_lt, nat_lt}
 use Rattle.std.specs.List.{list_all}
 use Rattle.cstn_label.specs.declared.marks.Mark.{Mark}
 use Rattle.cstn_label.specs.declared.marks.Mark.TheVariants.{Yes, No}
@@ -83,24 +83,25 @@ point_in n d is_end p =
 abbrev pub observations : Declared → List (Option Observation)
 observations d = or_nothing d.origin ∷ d.observes
 
--- the first time-point that observes the proposition
-abbrev pub observer_of : ℕ → List (Option Observation) → Option ℕ
-observer_of p observes = position (λ o. is_prop p (observed_prop o)) observes
+-- the reaction of what is observed
+abbrev pub reaction_of : Option Observation → ℕ
+reaction_of None = 0
+reaction_of (Some o) = o.reaction
 
-abbrev pub reaction_of : Option Observation → ℤ
-reaction_of None = pos 0
-reaction_of (Some o) = pos o.reaction
+-- the first of these time-points, numbered from k on, that observes the proposition, with its reaction
+abbrev pub first_observer : ℕ → ℕ → List (Option Observation) → Option (ℕ × ℕ)
+first_observer p k [] = None
+first_observer p k (o ∷ later) = if is_prop p (observed_prop o) then Some (k, reaction_of o) else first_observer p (k + 1) later
 
 -- a moment: so many ticks after a time-point
 abbrev pub Moment_after : Type 0
 Moment_after = ℕ × ℤ
 
--- when the outcome of the proposition is known: its reaction after its observer
+-- when the outcome of the proposition is known: its reaction after its first observer
 abbrev pub outcome_in : ℕ → Declared → List ℕ → Result Moment_after Refusal
 outcome_in n d prop =
     prop_in n d.words prop >>= λ p.
-    or_refused (observer_of p (observations d)) (no_letter n prop) >>= λ x.
-    Ok (x, reaction_of (slice_index_or (observations d) x None))
+    or_refused (first_observer p 0 (observations d)) (no_letter n prop) >>= λ x. Ok (x.0, pos x.1)
 
 abbrev pub moment_in : ℕ → Declared → Reference → Result Moment_after Refusal
 moment_in n d (Moment p) = point_in n d true p >>= λ x. Ok (x, pos 0)
@@ -197,22 +198,34 @@ mean_rule n d r m =
 abbrev pub with_label : List ℕ → Label → Meaning → Meaning
 with_label name label m = if is_origin name then record m { origin_label = label } else record m { labels = m.labels ++ (label ∷ []) }
 
+abbrev pub mean_step : ℕ → Declared → Step → Meaning → Result Meaning Refusal
+mean_step n d s m = label_of n d s.label >>= λ label. Ok (with_label s.name label m)
+
+-- the meaning with the labels of a task's start and end
+abbrev pub with_labels : Label → Meaning → Meaning
+with_labels label m = record m { labels = (m.labels ++ (label ∷ [])) ++ (label ∷ []) }
+
 -- a task's end is in the range after its start, whatever the label
 abbrev pub mean_task : ℕ → Declared → Step → Range → Meaning → Result Meaning Refusal
 mean_task n d s r m =
     label_of n d s.label >>= λ label.
     or_refused (number_of d.names s.name) (no_name n s.name) >>= λ x.
-    Ok (with_rule (x + 1) (bounds_of None (Between r)) empty ((x, pos 0) ∷ []) (record m { labels = m.labels ++ (label ∷ label ∷ []) }))
+    demand (list_all (are_sized_from (bounds_of None (Between r))) ((x, pos 0) ∷ [])) (out_of_range n) >>= λ sized.
+    Ok (with_rule (x + 1) (bounds_of None (Between r)) empty ((x, pos 0) ∷ []) (with_labels label m))
 
 abbrev pub mean : ℕ → Declared → Meaning → Line → Result Meaning Refusal
 mean n d m nothing = Ok m
 mean n d m (deadline t) = Ok m
 mean n d m (start t) = Ok m
-mean n d m (step s) = label_of n d s.label >>= λ label. Ok (with_label s.name label m)
+mean n d m (step s) = mean_step n d s m
 mean n d m (task s r) = mean_task n d s r m
 mean n d m (rule r) = mean_rule n d r m
+
+-- what is meant once the line of a text was read, which is number n
+abbrev pub meant_line : ℕ → Declared → Meaning → List ℕ → Result Meaning Refusal
+meant_line n d m text = line_of n text >>= mean n d m
 
 -- what the lines from number n on mean, after those before them
 unfoldable pub meant_after : ℕ → Declared → Meaning → List (List ℕ) → Result Meaning Refusal
 meant_after n d m [] = Ok m
-meant_after n d m (line ∷ lines) = line_of n line >>= mean n d m >>= λ more. meant_after (n + 1) d more lines
+meant_after n d m (line ∷ lines) = meant_line n d m line >>= λ more. meant_after (n + 1) d more lines

@@ -1,15 +1,12 @@
 //! What the lines declare.
 
-ghost use Rattle.std.specs.Prelude.{◌≡◌, ◌≤◌, ◌∷◌, [], None, Err, false, IfOk, length, string_bytes, bytes_eq};
+ghost use Rattle.std.specs.Prelude.{◌≡◌, ◌≤◌, [], None, false, IfOk, length, string_bytes, bytes_eq};
 ghost use Rattle.std.specs.List.{list_any};
 ghost use Rattle.cstn_graphml.specs.DrawnGraphSeen.{observed_seen};
 ghost use Rattle.cstn_text.specs.Names.{IsName, number_of};
-ghost use Rattle.cstn_sentences.specs.Answers.{Fails, Tells};
-ghost use Rattle.cstn_sentences.specs.Refusals.{stands_twice};
-ghost use Rattle.cstn_sentences.specs.Judged.{line_of};
-ghost use Rattle.cstn_sentences.specs.Results.{◌>>=◌};
+ghost use Rattle.cstn_sentences.specs.Answers.{Tells};
 ghost use Rattle.cstn_sentences.specs.Declarations.{with_point, with_step, nothing_declared, is_declared, end_of, observation_of, letter_for, has_word, with_word_for, with_word, with_observed};
-ghost use Rattle.cstn_sentences.specs.Declarations.{are_new, words_with, declare_step, is_task, declare_task, declare, declared_after};
+ghost use Rattle.cstn_sentences.specs.Declarations.{are_new, words_with, declare_step, is_task, declare_task, declare, declared_line, declared_after};
 ghost use Rattle.cstn_sentences.specs.Lines.{deadline, start, the_step, the_line};
 ghost use Rattle.cstn_sentences.specs.SeenDeclared.{the_declared};
 ghost use Rattle.cstn_sentences.specs.Words.{lines_of};
@@ -104,10 +101,12 @@ fn observation_of(observed: &Option<Observed>) -> Option<Observation>
 pub fn letter_for(word: &[u8], words: &[Meant]) -> Option<u8>
     ensures { result ≡ letter_for word.now words.now }
 {
-    for m in words {
+    let mut left = words;
+    while let Some((m, rest)) = left.split_first() {
         if m.word.as_bytes() == word {
             return Some(m.letter);
         }
+        left = rest;
     }
     None
 }
@@ -117,15 +116,6 @@ fn has_word(letter: u8, words: &[Meant]) -> bool
     ensures { result ≡ has_word letter words.now }
 {
     words.iter().any(|m| m.letter == letter)
-}
-
-fn twice(alloc: Global, n: u32, text: &[u8]) -> PlanError
-    ensures { (λ e. Fails e (Err (stands_twice n text.now))) result }
-{
-    match Word::new(alloc, text) {
-        Ok(text) => PlanError::Twice { line: n, text },
-        Err(e) => PlanError::Memory(e),
-    }
 }
 
 /// The words with this one for the letter.
@@ -140,12 +130,18 @@ fn with_word(
 {
     if let Some(other) = letter_for(word, words.as_slice()) {
         if other != letter {
-            return Err(twice(alloc, n, word));
+            return Err(PlanError::Twice {
+                line: n,
+                text: Word::new(alloc, word)?,
+            });
         }
         return Ok(words);
     }
     if has_word(letter, words.as_slice()) {
-        return Err(twice(alloc, n, &[letter]));
+        return Err(PlanError::Twice {
+            line: n,
+            text: Word::new(alloc, &[letter])?,
+        });
     }
     let word = Word::new(alloc, word)?;
     let mut words = words;
@@ -185,7 +181,10 @@ fn are_new(alloc: Global, n: u32, label: &[Literal]) -> Result<(), PlanError>
     let mut left = label;
     while let Some((literal, rest)) = left.split_first() {
         if stands_in(literal.prop.as_bytes(), &label[..seen]) {
-            return Err(twice(alloc, n, literal.prop.as_bytes()));
+            return Err(PlanError::Twice {
+                line: n,
+                text: Word::new(alloc, literal.prop.as_bytes())?,
+            });
         }
         seen += 1;
         left = rest;
@@ -243,11 +242,7 @@ fn with_words(words: Vec<Meant>, d: Declared) -> Declared
 }
 
 /// Puts in a step whose name wasn't declared.
-fn with_step(
-    name: &str,
-    observed: Option<Observation>,
-    d: Declared,
-) -> Result<Declared, AllocError>
+fn with_step(name: &str, observed: Option<Observation>, d: Declared) -> Result<Declared, AllocError>
     requires new { is_declared name.now (the_declared d) ≡ false }
     requires named { IsName name.now }
     ensures { IfOk result (λ r. the_declared r ≡ with_step name.now (observed_seen observed) (the_declared d)) }
@@ -265,7 +260,10 @@ fn declare_step(alloc: Global, n: u32, step: &Step, d: Declared) -> Result<Decla
 {
     let name = step.name.as_str();
     if is_declared(name, &d) {
-        return Err(twice(alloc, n, name.as_bytes()));
+        return Err(PlanError::Twice {
+            line: n,
+            text: Word::new(alloc, name.as_bytes())?,
+        });
     }
     let mut d = d;
     let words = words_with(alloc, n, step, d.words)?;
@@ -274,22 +272,22 @@ fn declare_step(alloc: Global, n: u32, step: &Step, d: Declared) -> Result<Decla
 }
 
 /// Whether neither the task nor its end was declared, it isn't the origin, and its name has at most 60 bytes.
-fn is_task(
-    alloc: Global,
-    n: u32,
-    name: &Name,
-    end: &str,
-    d: &Declared,
-) -> Result<(), PlanError>
+fn is_task(alloc: Global, n: u32, name: &Name, end: &str, d: &Declared) -> Result<(), PlanError>
     requires { end.now ≡ end_of name.now }
     ensures { Tells (λ u. u) result (is_task n name.now (the_declared d.now)) }
 {
     let text = name.as_str();
     if is_declared(text, d) {
-        return Err(twice(alloc, n, text.as_bytes()));
+        return Err(PlanError::Twice {
+            line: n,
+            text: Word::new(alloc, text.as_bytes())?,
+        });
     }
     if is_declared(end, d) {
-        return Err(twice(alloc, n, end.as_bytes()));
+        return Err(PlanError::Twice {
+            line: n,
+            text: Word::new(alloc, end.as_bytes())?,
+        });
     }
     if text == "Z" || text.len() > MAX_TASK {
         return Err(PlanError::NoName {
@@ -318,7 +316,10 @@ fn declare_deadline(alloc: Global, n: u32, span: Span, d: Declared) -> Result<De
     ensures { Tells the_declared result (declare n (the_declared d) (deadline span)) }
 {
     let None = d.deadline else {
-        return Err(twice(alloc, n, b"deadline"));
+        return Err(PlanError::Twice {
+            line: n,
+            text: Word::new(alloc, b"deadline")?,
+        });
     };
     let mut d = d;
     d.deadline = Some(span);
@@ -329,7 +330,10 @@ fn declare_start(alloc: Global, n: u32, span: Span, d: Declared) -> Result<Decla
     ensures { Tells the_declared result (declare n (the_declared d) (start span)) }
 {
     let None = d.start else {
-        return Err(twice(alloc, n, b"start"));
+        return Err(PlanError::Twice {
+            line: n,
+            text: Word::new(alloc, b"start")?,
+        });
     };
     let mut d = d;
     d.start = Some(span.ticks);
@@ -354,7 +358,7 @@ fn declare(alloc: Global, n: u32, d: Declared, line: &Line) -> Result<Declared, 
 }
 
 fn declare_text(alloc: Global, n: u32, d: Declared, text: &[u8]) -> Result<Declared, PlanError>
-    ensures { Tells the_declared result (line_of n text.now >>= declare n (the_declared d)) }
+    ensures { Tells the_declared result (declared_line n (the_declared d) text.now) }
 {
     let line = line_of(alloc, n, text)?;
     declare(alloc, n, d, &line)

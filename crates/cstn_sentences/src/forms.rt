@@ -12,7 +12,9 @@ ghost use Rattle.cstn_sentences.specs.Grammar.{named_step, named_rule};
 ghost use Rattle.cstn_sentences.specs.Seen.{Gives};
 
 use crate::faults::LineFault;
-use crate::lines::{Expects, Line, Name, Observed, Point, Range, Rule, Says, Side, Span, Step, Word};
+use crate::lines::{
+    Expects, Line, Name, Observed, Point, Range, Rule, Says, Side, Span, Step, Word,
+};
 use crate::rests::{nothing_yet, read_rest};
 use crate::spans::{read_range, read_span, read_time};
 use crate::spelling::{is_letter, is_word, read_name_word};

@@ -1,25 +1,25 @@
 //! What the lines mean.
 
-ghost use Rattle.std.specs.Prelude.{ℕ, ◌≡◌, ◌<◌, ◌≤◌, ◌+◌, ◌^◌, ◌++◌, ◌∷◌, [], Bool, false, None, Err, IfOk, IfSome, length, map, flat_map, option_map, slice_index_or, pos, ◌+ℤ◌, ◌≤ℤ◌};
+ghost use Rattle.std.specs.Prelude.{◌≡◌, ◌<◌, ◌≤◌, ◌-◌, ◌^◌, ◌++◌, ◌∷◌, [], false, true, IfOk, OnOk, length, map, flat_map, option_map, option_to_list, slice_index_or, pos, ◌+ℤ◌};
 ghost use Rattle.std.specs.List.{list_all};
 ghost use Rattle.cstn_label.specs.Labels.{empty};
 ghost use Rattle.cstn_label.specs.Read.{marks};
-ghost use Rattle.cstn_sentences.specs.Answers.{Fails, Tells};
-ghost use Rattle.cstn_sentences.specs.Judged.{line_of};
+ghost use Rattle.cstn_graphml.specs.DrawnGraphSeen.{drawn_seen};
+ghost use Rattle.cstn_sentences.specs.Answers.{Tells};
+ghost use Rattle.cstn_sentences.specs.Judged.{is_sized};
 ghost use Rattle.cstn_sentences.specs.Lines.{the_step, the_rule, the_line};
 ghost use Rattle.cstn_sentences.specs.Meaning.{nothing_meant, letter_in, prop_in, said, label_with, side_of, point_in, outcome_in, moment_in, moments_in};
-ghost use Rattle.cstn_sentences.specs.Meaning.{since_origin, are_sized_from, constraints_of, mean_rule, mean_task, mean, meant_after, with_label, sized_constraints};
-ghost use Rattle.cstn_sentences.specs.Refusals.{stands_twice, no_name, no_letter};
-ghost use Rattle.cstn_sentences.specs.Results.{◌>>=◌};
+ghost use Rattle.cstn_sentences.specs.Meaning.{since_origin, is_sized_from, are_sized_from, at_least, at_most, constraints_of, with_rule, mean_rule};
+ghost use Rattle.cstn_sentences.specs.Meaning.{with_label, mean_step, with_labels, mean_task, mean, meant_line, meant_after};
 ghost use Rattle.cstn_sentences.specs.SeenDeclared.{the_declared};
-ghost use Rattle.cstn_sentences.specs.SeenMeaning.{the_meaning, the_drawn};
+ghost use Rattle.cstn_sentences.specs.SeenMeaning.{the_meaning, Knows};
 ghost use Rattle.cstn_sentences.specs.Words.{lines_of};
 
 use crate::bounds::{Bounds, are_in_order, bounds_of, is_of_end};
 use crate::declarations::{Declared, Meant, letter_for};
 use crate::errors::PlanError;
-use crate::judged::{is_sized, line_of};
-use crate::lines::{Line, Literal, Name, Point, Range, Reference, Rule, Says, Side, Step, Word};
+use crate::judged::line_of;
+use crate::lines::{Line, Literal, Point, Range, Reference, Rule, Says, Side, Step, Word};
 use crate::observers::Observers;
 use crate::spelling::is_letter;
 use crate::words::without_mark;
@@ -34,33 +34,6 @@ pub struct Meaning {
     pub origin_label: Label,
     pub labels: Vec<Label>,
     pub constraints: Vec<DrawnConstraint>,
-}
-
-fn no_name(alloc: Global, n: u32, name: &Name) -> PlanError
-    ensures { (λ e. Fails e (Err (no_name n name.now))) result }
-{
-    match name.copy(alloc) {
-        Ok(name) => PlanError::NoName { line: n, name },
-        Err(e) => PlanError::Memory(e),
-    }
-}
-
-fn no_letter(alloc: Global, n: u32, word: &Word) -> PlanError
-    ensures { (λ e. Fails e (Err (no_letter n word.now))) result }
-{
-    match Word::new(alloc, word.as_bytes()) {
-        Ok(word) => PlanError::NoLetter { line: n, word },
-        Err(e) => PlanError::Memory(e),
-    }
-}
-
-fn twice(alloc: Global, n: u32, word: &Word) -> PlanError
-    ensures { (λ e. Fails e (Err (stands_twice n word.now))) result }
-{
-    match Word::new(alloc, word.as_bytes()) {
-        Ok(text) => PlanError::Twice { line: n, text },
-        Err(e) => PlanError::Memory(e),
-    }
 }
 
 /// The letter of a proposition: itself, or that of the word.
@@ -82,10 +55,16 @@ fn prop_in(alloc: Global, n: u32, words: &[Meant], prop: &Word) -> Result<Prop, 
     ensures { Tells (λ p. p.index) result (prop_in n words.now prop.now) }
 {
     let Some(letter) = letter_in(words, prop.as_bytes()) else {
-        return Err(no_letter(alloc, n, prop));
+        return Err(PlanError::NoLetter {
+            line: n,
+            word: Word::new(alloc, prop.as_bytes())?,
+        });
     };
     let Some(found) = Prop::from_letter(letter) else {
-        return Err(no_letter(alloc, n, prop));
+        return Err(PlanError::NoLetter {
+            line: n,
+            word: Word::new(alloc, prop.as_bytes())?,
+        });
     };
     Ok(found)
 }
@@ -110,7 +89,10 @@ fn label_of(
     while let Some((literal, rest)) = left.split_first() {
         let p = prop_in(alloc, n, words, &literal.prop)?;
         let Mark::Absent = label.mark(p) else {
-            return Err(twice(alloc, n, &literal.prop));
+            return Err(PlanError::Twice {
+                line: n,
+                text: Word::new(alloc, literal.prop.as_bytes())?,
+            });
         };
         label = label.with(p, said(literal.holds));
         left = rest;
@@ -160,10 +142,16 @@ fn point_in(
     ensures { Tells (λ x. x) result (point_in n (the_declared d.now) is_end point.now) }
 {
     let Some(k) = d.names.find(point.name.as_str()) else {
-        return Err(no_name(alloc, n, &point.name));
+        return Err(PlanError::NoName {
+            line: n,
+            name: point.name.copy(alloc)?,
+        });
     };
     let Some(x) = side_of(point.side, is_end, k, begins_task(d, k)) else {
-        return Err(no_name(alloc, n, &point.name));
+        return Err(PlanError::NoName {
+            line: n,
+            name: point.name.copy(alloc)?,
+        });
     };
     Ok(x)
 }
@@ -175,10 +163,16 @@ fn outcome_in(
     d: &Declared,
     observers: &Observers,
     prop: &Word,
-) -> Result<(u32, i64), PlanError> {
+) -> Result<(u32, i64), PlanError>
+    requires { Knows (the_declared d.now) observers.now }
+    ensures { Tells (λ m. m) result (outcome_in n (the_declared d.now) prop.now) }
+{
     let p = prop_in(alloc, n, d.words.as_slice(), prop)?;
-    let Some((x, reaction)) = observers.of(p) else {
-        return Err(no_letter(alloc, n, prop));
+    let Some((x, reaction)) = observers.first(p) else {
+        return Err(PlanError::NoLetter {
+            line: n,
+            word: Word::new(alloc, prop.as_bytes())?,
+        });
     };
     Ok((x, reaction as i64))
 }
@@ -189,7 +183,10 @@ fn moment_in(
     d: &Declared,
     observers: &Observers,
     reference: &Reference,
-) -> Result<(u32, i64), PlanError> {
+) -> Result<(u32, i64), PlanError>
+    requires { Knows (the_declared d.now) observers.now }
+    ensures { Tells (λ m. m) result (moment_in n (the_declared d.now) reference.now) }
+{
     match reference {
         Reference::Moment(point) => {
             let x = point_in(alloc, n, d, true, point)?;
@@ -206,7 +203,10 @@ fn moments_in(
     d: &Declared,
     observers: &Observers,
     since: &[Reference],
-) -> Result<Vec<(u32, i64)>, PlanError> {
+) -> Result<Vec<(u32, i64)>, PlanError>
+    requires { Knows (the_declared d.now) observers.now }
+    ensures { Tells (λ ms. ms.items) result (moments_in n (the_declared d.now) since.now) }
+{
     let mut moments = Vec::with_capacity(alloc, since.len())?;
     let mut left = since;
     while let Some((reference, rest)) = left.split_first() {
@@ -217,12 +217,22 @@ fn moments_in(
     Ok(moments)
 }
 
+fn origin_alone(alloc: Global) -> Result<Vec<(u32, i64)>, AllocError>
+    ensures { IfOk result (λ ms. ms.items ≡ (0, pos 0) ∷ []) }
+{
+    let mut moments = Vec::new(alloc);
+    moments.push((0, 0))?;
+    Ok(moments)
+}
+
 /// `at`, and `by` without `after`, count from the origin.
 fn since_origin(
     alloc: Global,
     says: Says,
     moments: Vec<(u32, i64)>,
-) -> Result<Vec<(u32, i64)>, AllocError> {
+) -> Result<Vec<(u32, i64)>, AllocError>
+    ensures { IfOk result (λ ms. ms.items ≡ since_origin says moments.items) }
+{
     match says {
         Says::At(_) => origin_alone(alloc),
         Says::By(_) => origin_alone(alloc),
@@ -234,68 +244,133 @@ fn since_origin(
     }
 }
 
-fn origin_alone(alloc: Global) -> Result<Vec<(u32, i64)>, AllocError> {
-    let mut moments = Vec::new(alloc);
-    moments.push((0, 0))?;
-    Ok(moments)
-}
-
-/// The ticks, counted from a time-point, as a number of at most 1,000,000,000 either way.
-fn sized(ticks: i64, shift: i64) -> Option<i32> {
-    let sum = ticks + shift;
-    if sum < -1_000_000_000 || sum > 1_000_000_000 {
-        return None;
+/// Whether ticks are at most 1,000,000,000 either way, counted from a time-point.
+fn is_sized_sum(ticks: i64, shift: i64) -> bool
+    ensures { result ≡ is_sized (ticks +ℤ shift) }
+{
+    match ticks.checked_add(shift) {
+        Some(sum) => -1_000_000_000 <= sum && sum <= 1_000_000_000,
+        None => false,
     }
-    Some(sum as i32)
 }
 
-/// Puts in the constraints that x is in these bounds, counted from a moment. Refused where a number is out of range.
+fn is_sized_from(shift: i64, ticks: Option<i64>) -> bool
+    ensures { result ≡ is_sized_from shift ticks }
+{
+    match ticks {
+        Some(ticks) => is_sized_sum(ticks, shift),
+        None => true,
+    }
+}
+
+fn are_sized_from(bounds: Bounds, moment: (u32, i64)) -> bool
+    ensures { result ≡ are_sized_from bounds moment }
+{
+    is_sized_from(moment.1, bounds.least) && is_sized_from(moment.1, bounds.most)
+}
+
+fn are_all_sized(bounds: Bounds, moments: &[(u32, i64)]) -> bool
+    ensures { result ≡ list_all (are_sized_from bounds) moments.now }
+{
+    moments.iter().all(|m| are_sized_from(bounds, *m))
+}
+
+/// Puts in that x is at least so many ticks after a moment, where that is said.
+fn put_least(
+    x: u32,
+    least: Option<i64>,
+    label: Label,
+    moment: (u32, i64),
+    constraints: &mut Vec<DrawnConstraint>,
+) -> Result<(), AllocError>
+    requires { is_sized_from moment.1 least ≡ true }
+    ensures { OnOk result (map drawn_seen constraints.new.items ≡ map drawn_seen constraints.old.items ++ option_to_list (option_map (λ a. at_least x moment.0 (a +ℤ moment.1) (marks label)) least)) }
+{
+    let Some(ticks) = least else {
+        return Ok(());
+    };
+    let sum = (ticks + moment.1) as i32;
+    constraints.push(DrawnConstraint {
+        from: x,
+        to: moment.0,
+        most: -sum,
+        label,
+    })?;
+    Ok(())
+}
+
+/// Puts in that x is at most so many ticks after a moment, where that is said.
+fn put_most(
+    x: u32,
+    most: Option<i64>,
+    label: Label,
+    moment: (u32, i64),
+    constraints: &mut Vec<DrawnConstraint>,
+) -> Result<(), AllocError>
+    requires { is_sized_from moment.1 most ≡ true }
+    ensures { OnOk result (map drawn_seen constraints.new.items ≡ map drawn_seen constraints.old.items ++ option_to_list (option_map (λ a. at_most x moment.0 (a +ℤ moment.1) (marks label)) most)) }
+{
+    let Some(ticks) = most else {
+        return Ok(());
+    };
+    let sum = (ticks + moment.1) as i32;
+    constraints.push(DrawnConstraint {
+        from: moment.0,
+        to: x,
+        most: sum,
+        label,
+    })?;
+    Ok(())
+}
+
+/// Puts in the constraints that x is in these bounds, counted from a moment.
 fn put_constraints(
-    n: u32,
     x: u32,
     bounds: Bounds,
     label: Label,
     moment: (u32, i64),
     constraints: &mut Vec<DrawnConstraint>,
-) -> Result<(), PlanError> {
-    let (y, shift) = moment;
-    if let Some(least) = bounds.least {
-        let Some(ticks) = sized(least, shift) else {
-            return Err(PlanError::Range { line: n });
-        };
-        constraints.push(DrawnConstraint {
-            from: x,
-            to: y,
-            most: -ticks,
-            label,
-        })?;
-    }
-    if let Some(most) = bounds.most {
-        let Some(ticks) = sized(most, shift) else {
-            return Err(PlanError::Range { line: n });
-        };
-        constraints.push(DrawnConstraint {
-            from: y,
-            to: x,
-            most: ticks,
-            label,
-        })?;
-    }
-    Ok(())
+) -> Result<(), AllocError>
+    requires { are_sized_from bounds moment ≡ true }
+    ensures { OnOk result (map drawn_seen constraints.new.items ≡ map drawn_seen constraints.old.items ++ constraints_of x bounds (marks label) moment) }
+{
+    put_least(x, bounds.least, label, moment, constraints)?;
+    put_most(x, bounds.most, label, moment, constraints)
 }
 
+/// Puts in the constraints that x is in these bounds, counted from each moment.
 fn put_rule(
-    n: u32,
     x: u32,
     bounds: Bounds,
     label: Label,
     moments: &[(u32, i64)],
     constraints: &mut Vec<DrawnConstraint>,
-) -> Result<(), PlanError> {
-    for moment in moments {
-        put_constraints(n, x, bounds, label, *moment, constraints)?;
+) -> Result<(), AllocError>
+    requires { list_all (are_sized_from bounds) moments.now ≡ true }
+    ensures { OnOk result (map drawn_seen constraints.new.items ≡ map drawn_seen constraints.old.items ++ flat_map (constraints_of x bounds (marks label)) moments.now) }
+{
+    let mut left = moments;
+    while let Some((moment, rest)) = left.split_first() {
+        put_constraints(x, bounds, label, *moment, constraints)?;
+        left = rest;
     }
     Ok(())
+}
+
+/// The meaning with a rule more: x is in these bounds, counted from each moment.
+fn with_rule(
+    x: u32,
+    bounds: Bounds,
+    label: Label,
+    moments: &[(u32, i64)],
+    m: Meaning,
+) -> Result<Meaning, AllocError>
+    requires { list_all (are_sized_from bounds) moments.now ≡ true }
+    ensures { IfOk result (λ r. the_meaning r ≡ with_rule x bounds (marks label) moments.now (the_meaning m)) }
+{
+    let mut m = m;
+    put_rule(x, bounds, label, moments, &mut m.constraints)?;
+    Ok(m)
 }
 
 fn mean_rule(
@@ -304,8 +379,11 @@ fn mean_rule(
     d: &Declared,
     observers: &Observers,
     rule: &Rule,
-    m: &mut Meaning,
-) -> Result<(), PlanError> {
+    m: Meaning,
+) -> Result<Meaning, PlanError>
+    requires { Knows (the_declared d.now) observers.now }
+    ensures { Tells the_meaning result (mean_rule n (the_declared d.now) (the_rule rule.now) (the_meaning m)) }
+{
     let x = point_in(alloc, n, d, is_of_end(rule.says), &rule.point)?;
     let bounds = bounds_of(d.start, rule.says);
     if !are_in_order(bounds) {
@@ -314,7 +392,23 @@ fn mean_rule(
     let moments = moments_in(alloc, n, d, observers, rule.since.as_slice())?;
     let label = label_of(alloc, n, d.words.as_slice(), rule.label.as_slice())?;
     let moments = since_origin(alloc, rule.says, moments)?;
-    put_rule(n, x, bounds, label, moments.as_slice(), &mut m.constraints)
+    if !are_all_sized(bounds, moments.as_slice()) {
+        return Err(PlanError::Range { line: n });
+    }
+    Ok(with_rule(x, bounds, label, moments.as_slice(), m)?)
+}
+
+/// The meaning with the label of a step more.
+fn with_label(name: &str, label: Label, m: Meaning) -> Result<Meaning, AllocError>
+    ensures { IfOk result (λ r. the_meaning r ≡ with_label name.now (marks label) (the_meaning m)) }
+{
+    let mut m = m;
+    if name == "Z" {
+        m.origin_label = label;
+        return Ok(m);
+    }
+    m.labels.push(label)?;
+    Ok(m)
 }
 
 fn mean_step(
@@ -322,15 +416,22 @@ fn mean_step(
     n: u32,
     d: &Declared,
     step: &Step,
-    m: &mut Meaning,
-) -> Result<(), PlanError> {
+    m: Meaning,
+) -> Result<Meaning, PlanError>
+    ensures { Tells the_meaning result (mean_step n (the_declared d.now) (the_step step.now) (the_meaning m)) }
+{
     let label = label_of(alloc, n, d.words.as_slice(), step.label.as_slice())?;
-    if step.name.as_str() == "Z" {
-        m.origin_label = label;
-        return Ok(());
-    }
+    Ok(with_label(step.name.as_str(), label, m)?)
+}
+
+/// The meaning with the labels of a task's start and end more.
+fn with_labels(label: Label, m: Meaning) -> Result<Meaning, AllocError>
+    ensures { IfOk result (λ r. the_meaning r ≡ with_labels (marks label) (the_meaning m)) }
+{
+    let mut m = m;
     m.labels.push(label)?;
-    Ok(())
+    m.labels.push(label)?;
+    Ok(m)
 }
 
 fn mean_task(
@@ -339,62 +440,92 @@ fn mean_task(
     d: &Declared,
     step: &Step,
     range: Range,
-    m: &mut Meaning,
-) -> Result<(), PlanError> {
+    m: Meaning,
+) -> Result<Meaning, PlanError>
+    ensures { Tells the_meaning result (mean_task n (the_declared d.now) (the_step step.now) range (the_meaning m)) }
+{
     let label = label_of(alloc, n, d.words.as_slice(), step.label.as_slice())?;
     let Some(x) = d.names.find(step.name.as_str()) else {
-        return Err(no_name(alloc, n, &step.name));
+        return Err(PlanError::NoName {
+            line: n,
+            name: step.name.copy(alloc)?,
+        });
     };
-    m.labels.push(label)?;
-    m.labels.push(label)?;
     let bounds = bounds_of(None, Says::Between(range));
-    put_constraints(
-        n,
-        x + 1,
-        bounds,
-        Label::empty(),
-        (x, 0),
-        &mut m.constraints,
-    )
+    let start = [(x, 0)];
+    if !are_all_sized(bounds, start.as_slice()) {
+        return Err(PlanError::Range { line: n });
+    }
+    let m = with_labels(label, m)?;
+    Ok(with_rule(x + 1, bounds, Label::empty(), start.as_slice(), m)?)
 }
 
+/// What is meant once a line was read.
 fn mean(
     alloc: Global,
     n: u32,
     d: &Declared,
     observers: &Observers,
-    text: &[u8],
-    m: &mut Meaning,
-) -> Result<(), PlanError> {
-    match line_of(alloc, n, text)? {
-        Line::Nothing => Ok(()),
-        Line::Deadline(_) => Ok(()),
-        Line::Start(_) => Ok(()),
-        Line::Step(step) => mean_step(alloc, n, d, &step, m),
-        Line::Task(step, range) => mean_task(alloc, n, d, &step, range, m),
-        Line::Rule(rule) => mean_rule(alloc, n, d, observers, &rule, m),
+    line: &Line,
+    m: Meaning,
+) -> Result<Meaning, PlanError>
+    requires { Knows (the_declared d.now) observers.now }
+    ensures { Tells the_meaning result (mean n (the_declared d.now) (the_meaning m) (the_line line.now)) }
+{
+    match line {
+        Line::Nothing => Ok(m),
+        Line::Deadline(_) => Ok(m),
+        Line::Start(_) => Ok(m),
+        Line::Step(step) => mean_step(alloc, n, d, step, m),
+        Line::Task(step, range) => mean_task(alloc, n, d, step, *range, m),
+        Line::Rule(rule) => mean_rule(alloc, n, d, observers, rule, m),
     }
 }
 
-/// What the lines of a text mean, which declare this.
+fn mean_text(
+    alloc: Global,
+    n: u32,
+    d: &Declared,
+    observers: &Observers,
+    text: &[u8],
+    m: Meaning,
+) -> Result<Meaning, PlanError>
+    requires { Knows (the_declared d.now) observers.now }
+    ensures { Tells the_meaning result (meant_line n (the_declared d.now) (the_meaning m) text.now) }
+{
+    let line = line_of(alloc, n, text)?;
+    mean(alloc, n, d, observers, &line, m)
+}
+
+fn nothing_meant(alloc: Global) -> Meaning
+    ensures { the_meaning result ≡ nothing_meant }
+{
+    Meaning {
+        origin_label: Label::empty(),
+        labels: Vec::new(alloc),
+        constraints: Vec::new(alloc),
+    }
+}
+
+/// What the lines of a text mean, which declare this. The text has at most 8,388,608 bytes.
+#[tactic(auto, unfolding(crate::specs::Meaning::meant_after))]
 pub fn mean_lines(
     alloc: Global,
     d: &Declared,
     observers: &Observers,
     text: &[u8],
-) -> Result<Meaning, PlanError> {
-    let mut m = Meaning {
-        origin_label: Label::empty(),
-        labels: Vec::new(alloc),
-        constraints: Vec::new(alloc),
-    };
+) -> Result<Meaning, PlanError>
+    requires short { length text.now ≤ 8388608 }
+    requires knows { Knows (the_declared d.now) observers.now }
+    ensures { Tells the_meaning result (meant_after 1 (the_declared d.now) nothing_meant (lines_of text.now)) }
+{
+    let mut m = nothing_meant(alloc);
     let mut left = without_mark(text);
     let mut n = 1;
     while let Some((line, rest)) = cut_at(left, b'\n') {
-        mean(alloc, n, d, observers, line, &mut m)?;
+        m = mean_text(alloc, n, d, observers, line, m)?;
         n += 1;
         left = rest;
     }
-    mean(alloc, n, d, observers, left, &mut m)?;
-    Ok(m)
+    mean_text(alloc, n, d, observers, left, m)
 }

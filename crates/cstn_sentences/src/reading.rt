@@ -1,5 +1,10 @@
 //! Reading a plan: from its text to its labelled network, or to its refusal.
 
+ghost use Rattle.std.specs.Prelude.{IfOk, IfErr};
+ghost use Rattle.cstn_lift.specs.Read.{the_labelled};
+ghost use Rattle.cstn_sentences.specs.Planned.{IsPlan, RefusesPlan};
+ghost use Rattle.cstn_sentences.specs.Plans.{plan};
+
 use crate::bounds::on_clock;
 use crate::declarations::{Declared, declare_lines};
 use crate::errors::PlanError;
@@ -85,7 +90,10 @@ pub fn read(
     alloc: Global,
     text: &[u8],
     deadline: Option<u32>,
-) -> Result<(Labelled, Names), PlanError> {
+) -> Result<(Labelled, Names), PlanError>
+    ensures accepted { IfOk result (λ r. IsPlan (plan text.now deadline) (the_labelled r.0) r.1) }
+    ensures refused { IfErr result (RefusesPlan (plan text.now deadline)) }
+{
     if text.len() > MAX_PLAN {
         return Err(PlanError::Long);
     }

@@ -94,7 +94,10 @@ pub fn read_time(word: &[u8]) -> Option<Span>
     match cut_at(word, b':') {
         None => {
             let ticks = read_ticks(word)? as i32;
-            Some(Span { ticks, clock: false })
+            Some(Span {
+                ticks,
+                clock: false,
+            })
         }
         Some((hours, minutes)) => {
             let ticks = read_minutes(hours, minutes)? as i32;

@@ -272,7 +272,8 @@ fn begins_with_letter(word: &[u8]) -> bool
 fn are_of_word(word: &[u8]) -> bool
     ensures { result ≡ list_all (λ b. is_ascii_alphanumeric b || b == 95 || b == 45) word.now }
 {
-    word.iter().all(|b| b.is_ascii_alphanumeric() || *b == b'_' || *b == b'-')
+    word.iter()
+        .all(|b| b.is_ascii_alphanumeric() || *b == b'_' || *b == b'-')
 }
 
 /// Whether a word may stand for a letter.
