@@ -11,3 +11,7 @@ pub mod TellsLemmas
 mod LabelTests
 mod WrittenLabels
 mod WrittenRules
+-- What is written is read back.
+pub mod SpelledNames
+pub mod OneWord
+pub mod WrittenNumbers

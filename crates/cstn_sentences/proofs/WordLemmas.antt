@@ -47,7 +47,7 @@ first_is_black (a ∷ bytes) b rest e = at (is_white a) refl (first_is_black byt
     at true w later = later (sym (past_one a bytes w) ∙ e)
     at false w later = ap is_white (sym (same_first a b bytes rest (sym (past_none a bytes w) ∙ e))) ∙ w
 
-nothing : words_of [] ≡ []
+pub nothing : words_of [] ≡ []
 unfolding words_after
 nothing = refl
 
@@ -103,7 +103,7 @@ told b rest n word skip =
     ∙ ap (λ k. (take (suc n) (b ∷ rest) ∷ []) ++ words_after k rest) skip
     ∙ ap (λ ws. take (suc n) (b ∷ rest) ∷ ws) (words_skip n rest)
 
-first_of : (b : ℕ) (rest : List ℕ) → is_white b ≡ false → (b == 35) ≡ false
+pub first_of : (b : ℕ) (rest : List ℕ) → is_white b ≡ false → (b == 35) ≡ false
     → words_of (b ∷ rest) ≡ take (word_len (b ∷ rest)) (b ∷ rest) ∷ words_of (drop (word_len (b ∷ rest)) (b ∷ rest))
 first_of b rest w hash = at (word_len (b ∷ rest)) (word_some b rest w) (here b rest w hash) (behind b rest w hash)
   where

@@ -27,21 +27,75 @@ alone_text names c (d ∷ cs) e = rw e refl
 next : (old a b t new : List ℕ) → t ≡ old ++ a → new ≡ t ++ b → new ≡ old ++ (a ++ b)
 next old a b t new so_far put = put ∙ ap (λ (x : List ℕ). x ++ b) so_far ∙ append_assoc old a b
 
--- the words of a line behind its first one, in three parts
-three_parts : (a b c : Words) → spaced (a ++ b ++ c) ≡ spaced a ++ (spaced b ++ spaced c)
-three_parts a b c = ap spaced (append_assoc a b c) ∙ spaced_append a (b ++ c) ∙ ap (λ (x : List ℕ). spaced a ++ x) (spaced_append b c)
+-- more words behind those of a line that were put
+words_put : (word : List ℕ) (words more : Words) (old t new : List ℕ) → t ≡ old ++ (word ++ spaced words) → new ≡ t ++ spaced more
+    → new ≡ old ++ (word ++ spaced (words ++ more))
+words_put word words more old t new so_far put =
+    next old (word ++ spaced words) (spaced more) t new so_far put
+    ∙ ap (λ (x : List ℕ). old ++ x) (append_assoc word (spaced words) (spaced more) ∙ ap (λ (x : List ℕ). word ++ x) (sym (spaced_append words more)))
 
 pub rule_put : (names : List (List ℕ)) (x : ℕ) (says : Says) (y : Option ℕ) (a : Label) (old t1 t2 t3 t4 new : List ℕ)
     → t1 ≡ old ++ spelling (slice_index_or names x []) → t2 ≡ t1 ++ spaced (says_words says) → t3 ≡ t2 ++ spaced (since_words names y)
     → t4 ≡ t3 ++ spaced (label_words (literals a)) → new ≡ t4 ++ (10 ∷ []) → new ≡ old ++ line_text (rule_words (rule_of names x says y a))
 rule_put names x says y a old t1 t2 t3 t4 new e1 e2 e3 e4 e5 =
     let name : List ℕ = spelling (slice_index_or names x []) in
-    let s : List ℕ = spaced (says_words says) in
-    let w : List ℕ = spaced (since_words names y) in
-    let l : List ℕ = spaced (label_words (literals a)) in
-    let all : new ≡ old ++ (name ++ s ++ w ++ l ++ (10 ∷ [])) =
-    next old (name ++ s ++ w ++ l) (10 ∷ []) t4 new (next old (name ++ s ++ w) l t3 t4 (next old (name ++ s) w t2 t3 (next old name s t1 t2 e1 e2) e3) e4) e5 in
-    let parts : spaced (says_words says ++ since_words names y ++ label_words (literals a)) ≡ s ++ (w ++ l) = three_parts (says_words says) (since_words names y) (label_words (literals a)) in
-    all ∙ ap (λ (t : List ℕ). old ++ t)
-    (append_assoc (name ++ s ++ w) l (10 ∷ []) ∙ append_assoc (name ++ s) w (l ++ (10 ∷ [])) ∙ append_assoc name s (w ++ (l ++ (10 ∷ [])))
-    ∙ ap (λ (t : List ℕ). name ++ t) (ap (λ (t : List ℕ). s ++ t) (sym (append_assoc w l (10 ∷ []))) ∙ sym (append_assoc s (w ++ l) (10 ∷ [])) ∙ ap (λ (t : List ℕ). t ++ (10 ∷ [])) (sym parts)))
+    let s : Words = says_words says in
+    let w : Words = since_words names y in
+    let l : Words = label_words (literals a) in
+    next old (name ++ spaced (s ++ w ++ l)) (10 ∷ []) t4 new
+    (words_put name (s ++ w) l old t3 t4 (words_put name s w old t2 t3 (next old name (spaced s) t1 t2 e1 e2) e3) e4) e5
+
+pub step_put : (m : Labelled) (names : List (List ℕ)) (x : ℕ) (a : Label) (old t1 t2 t3 t4 new : List ℕ) → a ≡ label_in m.labels x
+    → t1 ≡ old ++ codes "step " → t2 ≡ t1 ++ spelling (slice_index_or names x []) → t3 ≡ t2 ++ spaced (observed_words (observed_at m.base x))
+    → t4 ≡ t3 ++ spaced (label_words (literals a)) → new ≡ t4 ++ (10 ∷ []) → new ≡ old ++ line_text (step_words (step_of m names x))
+step_put m names x a old t1 t2 t3 t4 new is e1 e2 e3 e4 e5 =
+    let name : List ℕ = spelling (slice_index_or names x []) in
+    let o : Words = observed_words (observed_at m.base x) in
+    let l : Words = label_words (literals (label_in m.labels x)) in
+    let named : t2 ≡ old ++ (codes "step" ++ spaced (name ∷ [])) =
+    next old (codes "step ") name t1 t2 e1 e2 ∙ ap (λ (t : List ℕ). old ++ (codes "step" ++ t)) (sym (append-nil (32 ∷ name))) in
+    let labelled : t4 ≡ t3 ++ spaced l = e4 ∙ ap (λ (b : Label). t3 ++ spaced (label_words (literals b))) is in
+    next old (codes "step" ++ spaced (name ∷ o ++ l)) (10 ∷ []) t4 new
+    (words_put (codes "step") (name ∷ o) l old t3 t4 (words_put (codes "step") (name ∷ []) o old t2 t3 named e3) labelled) e5
+
+pub steps_none : (m : Labelled) (names : List (List ℕ)) (old : List ℕ) → old ≡ old ++ steps_text m names 0
+unfolding steps_below
+steps_none m names old = sym (append-nil old)
+
+-- the line of one more time-point
+pub steps_more : (m : Labelled) (names : List (List ℕ)) (n : ℕ) (old t new : List ℕ) → has_step m.base n ≡ true → t ≡ old ++ steps_text m names n
+    → new ≡ t ++ line_text (step_words (step_of m names n)) → new ≡ old ++ steps_text m names (n + 1)
+unfolding steps_below
+steps_more m names n old t new has so_far put =
+    let line : List ℕ = line_text (step_words (step_of m names n)) in
+    let more : steps_text m names (suc n) ≡ steps_text m names n ++ line =
+    rw has (flat_map-append (λ s. line_text (step_words s)) (steps_below m names n) (step_of m names n ∷ [])
+    ∙ ap (λ (x : List ℕ). steps_text m names n ++ x) (append-nil line)) in
+    rw add-one (next old (steps_text m names n) line t new so_far put ∙ ap (λ (x : List ℕ). old ++ x) (sym more))
+
+-- a time-point that has no line
+pub steps_same : (m : Labelled) (names : List (List ℕ)) (n : ℕ) (old t : List ℕ) → has_step m.base n ≡ false → t ≡ old ++ steps_text m names n
+    → t ≡ old ++ steps_text m names (n + 1)
+unfolding steps_below
+steps_same m names n old t has so_far =
+    let same : steps_text m names (suc n) ≡ steps_text m names n = rw has (ap (flat_map (λ s. line_text (step_words s))) (append-nil (steps_below m names n))) in
+    rw add-one (so_far ∙ ap (λ (x : List ℕ). old ++ x) (sym same))
+
+-- a rule that was put, and what is left
+put_and_left : (old line left new all : List ℕ) → new ≡ old ++ line → all ≡ line ++ left → new ++ left ≡ old ++ all
+put_and_left old line left new all put is = ap (λ (x : List ℕ). x ++ left) put ∙ append_assoc old line left ∙ ap (λ (x : List ℕ). old ++ x) (sym is)
+
+pub pair_put : (names : List (List ℕ)) (c d : Constraint) (cs : List Constraint) (old new : List ℕ) → is_pair c d ≡ true
+    → new ≡ old ++ line_text (rule_words (pair_rule names c d)) → new ++ rules_text names cs ≡ old ++ rules_text names (c ∷ d ∷ cs)
+pair_put names c d cs old new e put =
+    put_and_left old (line_text (rule_words (pair_rule names c d))) (rules_text names cs) new (rules_text names (c ∷ d ∷ cs)) put (pair_text names c d cs e)
+
+pub alone_put : (names : List (List ℕ)) (c : Constraint) (cs : List Constraint) (old new : List ℕ) → is_paired c cs ≡ false
+    → new ≡ old ++ line_text (rule_words (alone_rule names c)) → new ++ rules_text names cs ≡ old ++ rules_text names (c ∷ cs)
+alone_put names c cs old new e put =
+    put_and_left old (line_text (rule_words (alone_rule names c))) (rules_text names cs) new (rules_text names (c ∷ cs)) put (alone_text names c cs e)
+
+-- no rule is left
+pub rules_put : (names : List (List ℕ)) (all text : List ℕ) → text ++ rules_text names [] ≡ all → text ≡ all
+unfolding rules_after
+rules_put names all text e = sym (append-nil text) ∙ e

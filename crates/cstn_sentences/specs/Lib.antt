@@ -23,4 +23,5 @@ pub mod Planned
 pub mod Printed
 pub mod NumbersSeen
 pub mod Sentences
+pub mod WrittenWords
 pub mod Moments

@@ -1,5 +1,5 @@
 -- A labelled network in sentences.
-use Rattle.std.specs.Prelude.{ℕ, zero, suc, Bool, true, false, ◌&&◌, ◌==◌, List, [], ◌∷◌, ◌++◌, map, flat_map, slice_index_or, Option, Some, None, is_some, option_map, option_to_list, if◌then◌else◌, codes, ℤ, pos, neg_ℤ, int_le}
+use Rattle.std.specs.Prelude.{ℕ, zero, suc, Bool, true, false, ◌&&◌, ◌||◌, not, ◌==◌, List, [], ◌∷◌, ◌++◌, map, flat_map, slice_index_or, Option, Some, None, is_some, option_map, option_to_list, if◌then◌else◌, codes, ℤ, pos, neg_ℤ, int_le}
 use Rattle.cstn_label.specs.declared.marks.Mark.{Mark}
 use Rattle.cstn_label.specs.declared.marks.Mark.TheVariants.{Absent, Yes, No, Unknown}
 use Rattle.cstn_label.specs.Labels.{Label}
@@ -71,11 +71,11 @@ step_of m names x = record {
   label = literals (label_in m.labels x);
 }
 
--- the steps of the first n time-points, of which the origin has one only where it observes something
+-- each time-point but the origin has a step, and the origin where it observes something
 abbrev pub has_step : Network → ℕ → Bool
-has_step net zero = is_some (slice_index_or net.observes zero None)
-has_step net (suc x) = true
+has_step net x = not (x == 0) || is_some (slice_index_or net.observes x None)
 
+-- the steps of the first n time-points
 unfoldable pub steps_below : Labelled → List (List ℕ) → ℕ → List Step
 steps_below m names zero = []
 steps_below m names (suc n) = steps_below m names n ++ (if has_step m.base n then step_of m names n ∷ [] else [])

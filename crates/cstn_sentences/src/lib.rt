@@ -7,6 +7,7 @@ mod errors;
 mod faults;
 mod forms;
 mod judged;
+mod laws;
 mod lines;
 mod meaning;
 mod names;
@@ -20,6 +21,7 @@ mod words;
 mod writing;
 
 pub use errors::PlanError;
+pub use laws::{names_are_read_back, ticks_are_read_back, words_are_read_back};
 pub use lines::{Name, Word};
 pub use reading::read;
 pub use writing::sentences;

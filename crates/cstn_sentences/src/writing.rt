@@ -8,7 +8,7 @@ ghost use Rattle.cstn_net.specs.Read.{the_network, the_constraint, IsInRange};
 ghost use Rattle.cstn_lift.specs.Read.{the_labelled};
 ghost use Rattle.cstn_sentences.specs.Spelling.{spelling};
 ghost use Rattle.cstn_sentences.specs.Printed.{spaced, observed_words, deadline_words, step_words, rule_words, line_text};
-ghost use Rattle.cstn_sentences.specs.Sentences.{since_words, observed_at, ticks, from_to, from_on, step_of, steps_text, rules_text, is_same_label, is_pair, rule_of, since_says, range_says, least_says, counted_from, pair_rule, alone_rule, sentences};
+ghost use Rattle.cstn_sentences.specs.Sentences.{since_words, observed_at, ticks, from_to, from_on, step_of, steps_text, rules_text, is_same_label, is_pair, rule_of, since_says, range_says, least_says, counted_from, pair_rule, has_step, alone_rule, sentences};
 ghost use Rattle.cstn_sentences.specs.NumbersSeen.{number_seen};
 
 use crate::lines::{Range, Says, Span};
@@ -52,12 +52,19 @@ fn push_steps(text: &mut Vec<u8>, net: &Labelled, names: &Names) -> Result<(), A
 {
     let base = net.base();
     for x in 0..base.count() {
-        let x = NodeId(x);
-        if x != NodeId(0) || base.observes(x).is_some() {
-            push_step(text, net, names, x)?;
+        if has_step(base, NodeId(x)) {
+            push_step(text, net, names, NodeId(x))?;
         }
     }
     Ok(())
+}
+
+// Whether a time-point has a step: the origin has one only where it observes something.
+fn has_step(net: &Network, x: NodeId) -> bool
+    requires { x.0 < count (the_network net.now) }
+    ensures { result ≡ has_step (the_network net.now) x.0 }
+{
+    x.0 != 0 || net.observes(x).is_some()
 }
 
 fn push_step(

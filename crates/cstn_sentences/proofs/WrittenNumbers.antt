@@ -1,0 +1,102 @@
+-- Numbers of ticks and ranges are read from what is written of them.
+use Rattle.std.proofs.Common.{◌≡◌, ◌≢◌, ℕ, zero, suc, ◌+◌, ◌<◌, ◌≤◌, ◌^◌, Bool, true, false, not, List, [], ◌∷◌, ◌++◌, length, refl, ap, sym, ◌∙◌, arith, append-nil, Option, Some, None}
+use Rattle.std.specs.Prelude.{◌==◌, ◌||◌, ◌&&◌, nat_lt, nat_le, min, All, decimal, ℤ, pos, negsuc, neg_ℤ, nat_abs, int_le, int_lt, ◌<ℤ◌, codes, if◌then◌else◌}
+use Rattle.std.specs.List.{list_all}
+use Rattle.std.specs.Option.{option_map}
+use Rattle.std.specs.Char.{is_ascii_digit}
+use Rattle.std.specs.Str.Parse.{digits_value}
+use Rattle.std.proofs.lemmas.Bool.{true≢false}
+use Rattle.std.proofs.lemmas.List.Elements.{All-nil, All-cons}
+use Rattle.std.proofs.lemmas.List.Folds.{list_all-append}
+use Rattle.std.proofs.lemmas.Fmt.{digits_decimal, decimal_nonempty}
+use Rattle.cstn_markup.specs.Bytes.{◌>>=◌, when}
+use Rattle.cstn_text.specs.Cuts.{cut_at}
+use Rattle.cstn_text.specs.Numbers.{is_numeral, number_read, printed_number, printed_value}
+use Rattle.cstn_text.proofs.CutLemmas.{cut_back, cut_joined}
+use Rattle.cstn_text.proofs.NumberLemmas.{digits, number_back}
+use Rattle.cstn_sentences.specs.Limits.{most_ticks}
+use Rattle.cstn_sentences.specs.Judged.{is_sized}
+use Rattle.cstn_sentences.specs.declared.lines.Span.{Span}
+use Rattle.cstn_sentences.specs.declared.lines.Range.{Range}
+use Rattle.cstn_sentences.specs.Spans.{digits_read, ticks_read, after, time_by, time_read, negated, span_read, range_to, past_point, range_by, range_read}
+use Rattle.cstn_sentences.specs.Printed.{span_word, most_word, range_word}
+use Rattle.cstn_sentences.specs.Sentences.{ticks, from_to, from_on}
+
+-- ---- texts that aren't cut
+
+and_false : (a : Bool) → (a && false) ≡ false
+and_false a = grind arith
+
+-- a text isn't cut at a byte that none of its bytes is
+pub uncut : (p : ℕ → Bool) (byte : ℕ) (text : List ℕ) → list_all p text ≡ true → p byte ≡ false → cut_at byte text ≡ None
+uncut p byte text all other = at (cut_at byte text) refl
+  where
+    at : (cut : Option (List ℕ × List ℕ)) → cut_at byte text ≡ cut → cut_at byte text ≡ None
+    at None e = e
+    at (Some parts) e =
+        let joined : text ≡ parts.0 ++ byte ∷ parts.1 = cut_joined byte text parts.0 parts.1 e in
+        let none : list_all p text ≡ false =
+        ap (list_all p) joined ∙ list_all-append p parts.0 (byte ∷ parts.1)
+        ∙ ap (λ (b : Bool). list_all p parts.0 && (b && list_all p parts.1)) other ∙ and_false (list_all p parts.0) in
+        absurd (true≢false (sym all ∙ none))
+
+and_both : (a b : Bool) → (a && b) ≡ true → (a ≡ true) × (b ≡ true)
+and_both a b e = grind arith
+
+free_of : (p : ℕ → Bool) (byte : ℕ) (text : List ℕ) → list_all p text ≡ true → p byte ≡ false → All (λ b. b ≢ byte) text
+free_of p byte [] all other = All-nil (λ b. b ≢ byte)
+free_of p byte (b ∷ text) all other =
+    let parts = and_both (p b) (list_all p text) all in
+    All-cons (λ b. b ≢ byte) b text (λ same. absurd (true≢false (sym parts.0 ∙ ap p same ∙ other))) (free_of p byte text parts.1 other)
+
+-- ---- digits
+
+small_enough : (n : ℕ) → n ≤ most_ticks → n < 2 ^ 64
+small_enough n h = omega (arith, h)
+
+decimal_digits : (n : ℕ) → n ≤ most_ticks → list_all is_ascii_digit (decimal n) ≡ true
+decimal_digits n h = digits_decimal digits n (small_enough n h)
+
+numeral_of : (numeral : Bool) (v n : ℕ) → (if numeral && nat_lt v (2 ^ 64) then Some v else None) ≡ Some n → (numeral ≡ true) × (v ≡ n)
+numeral_of numeral v n e = grind arith
+
+ticks_of : (numeral some all : Bool) (v n : ℕ) (text : List ℕ) → numeral ≡ true → some ≡ true → all ≡ true → v ≡ n → n ≤ most_ticks
+    → when (some && all) (min v (most_ticks + 1)) ≡ Some n
+ticks_of numeral some all v n text a b c is few =
+    let least : min n (most_ticks + 1) ≡ n = grind arith in
+    rw (b, c, is, least) refl
+
+ticks_back : (n : ℕ) → n ≤ most_ticks → ticks_read (decimal n) ≡ Some n
+ticks_back n few =
+    let text : List ℕ = decimal n in
+    let is = numeral_of (is_numeral text) (digits_value 10 text) n (number_back n (small_enough n few)) in
+    let some : nat_lt 0 (length text) ≡ true = grind (arith, decimal_nonempty n (small_enough n few)) in
+    ap (λ (b : Bool). when b text >>= digits_read) is.0
+    ∙ ticks_of (is_numeral text) (nat_lt 0 (length text)) (list_all is_ascii_digit text) (digits_value 10 text) n text is.0 some (decimal_digits n few) is.1 few
+
+-- ---- times and spans
+
+pub time_back : (n : ℕ) → n ≤ most_ticks → time_read (decimal n) ≡ Some (after false n)
+time_back n few =
+    ap (time_by (decimal n)) (uncut is_ascii_digit 58 (decimal n) (decimal_digits n few) refl)
+    ∙ ap (option_map (after false)) (ticks_back n few)
+
+no_minus : (b : ℕ) (later : Bool) → (is_ascii_digit b && later) ≡ true → (b == 45) ≡ false
+no_minus b later e = grind arith
+
+digits_span : (text : List ℕ) (span : Span) → list_all is_ascii_digit text ≡ true → time_read text ≡ Some span → 0 < length text → span_read text ≡ Some span
+digits_span [] span all is some = absurd (omega (arith, some))
+digits_span (b ∷ bytes) span all is some =
+    ap (λ (minus : Bool). if minus then time_read bytes >>= negated else time_read (b ∷ bytes)) (no_minus b (list_all is_ascii_digit bytes) all) ∙ is
+
+below_zero : (n : ℕ) → int_lt (pos 0) (pos (suc n)) ≡ true
+below_zero n = grind arith
+
+-- a number of ticks is read from what is written of it
+pub span_back : (v : ℤ) → is_sized v ≡ true → span_read (span_word (ticks v)) ≡ Some (ticks v)
+span_back (pos n) sized =
+    let few : n ≤ most_ticks = grind (arith, sized) in
+    digits_span (decimal n) (after false n) (decimal_digits n few) (time_back n few) (decimal_nonempty n (small_enough n few))
+span_back (negsuc n) sized =
+    let few : suc n ≤ most_ticks = grind (arith, sized) in
+    ap (λ (o : Option Span). o >>= negated) (time_back (suc n) few) ∙ ap (λ (b : Bool). when b (ticks (negsuc n))) (below_zero n)
