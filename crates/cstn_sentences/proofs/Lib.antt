@@ -15,3 +15,5 @@ mod WrittenRules
 pub mod SpelledNames
 pub mod OneWord
 pub mod WrittenNumbers
+pub mod WrittenRests
+pub mod WrittenLines

@@ -6,7 +6,7 @@ use Rattle.std.specs.Fmt.{digit_glyph}
 use Rattle.std.proofs.Math.Seq.{take-append_seam, drop-append_seam}
 use Rattle.std.proofs.lemmas.List.Folds.{list_any-append}
 use Rattle.std.proofs.lemmas.List.Elements.{All-head, All-tail}
-use Rattle.std.proofs.lemmas.Grind.{clamps}
+use Rattle.std.proofs.lemmas.Int.{clamps}
 use Rattle.cstn_markup.specs.Bytes.{is_white}
 use Rattle.cstn_text.specs.PrintedNames.{is_plain_byte, printed_byte, printed_name}
 use Rattle.cstn_text.specs.Names.{IsName}

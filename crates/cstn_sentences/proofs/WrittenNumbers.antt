@@ -100,3 +100,60 @@ span_back (pos n) sized =
 span_back (negsuc n) sized =
     let few : suc n ≤ most_ticks = grind (arith, sized) in
     ap (λ (o : Option Span). o >>= negated) (time_back (suc n) few) ∙ ap (λ (b : Bool). when b (ticks (negsuc n))) (below_zero n)
+
+-- ---- ranges
+
+-- the bytes of a number of ticks are digits, and `-` before them
+abbrev is_of_ticks : ℕ → Bool
+is_of_ticks b = is_ascii_digit b || b == 45
+
+digit_of_ticks : (b : ℕ) → is_ascii_digit b ≡ true → is_of_ticks b ≡ true
+digit_of_ticks b e = grind arith
+
+all_of_ticks : (text : List ℕ) → list_all is_ascii_digit text ≡ true → list_all is_of_ticks text ≡ true
+all_of_ticks [] all = refl
+all_of_ticks (b ∷ text) all =
+    let parts = and_both (is_ascii_digit b) (list_all is_ascii_digit text) all in
+    rw (digit_of_ticks b parts.0, all_of_ticks text parts.1) refl
+
+span_bytes : (v : ℤ) → is_sized v ≡ true → list_all is_of_ticks (span_word (ticks v)) ≡ true
+span_bytes (pos n) sized = let few : n ≤ most_ticks = grind (arith, sized) in all_of_ticks (decimal n) (decimal_digits n few)
+span_bytes (negsuc n) sized = let few : suc n ≤ most_ticks = grind (arith, sized) in all_of_ticks (decimal (suc n)) (decimal_digits (suc n) few)
+
+span_some : (v : ℤ) → is_sized v ≡ true → 1 ≤ length (span_word (ticks v))
+span_some (pos n) sized = let few : n ≤ most_ticks = grind (arith, sized) in omega (arith, decimal_nonempty n (small_enough n few))
+span_some (negsuc n) sized = omega arith
+
+-- a range that begins with a number of ticks is cut behind that
+range_cut : (v : ℤ) (most : List ℕ) → is_sized v ≡ true → cut_at 46 (span_word (ticks v) ++ (codes ".." ++ most)) ≡ Some (span_word (ticks v), 46 ∷ most)
+range_cut v most sized = cut_back 46 (span_word (ticks v)) (46 ∷ most) (free_of is_of_ticks 46 (span_word (ticks v)) (span_bytes v sized) refl)
+
+-- a range without an end is read back
+pub from_back : (a : ℤ) → is_sized a ≡ true → range_read (range_word (from_on a)) ≡ Some (from_on a)
+from_back a sized =
+    let text : List ℕ = span_word (ticks a) ++ (codes ".." ++ []) in
+    ap (range_by text) (range_cut a [] sized) ∙ ap (λ (o : Option Span). o >>= λ least. past_point (46 ∷ []) >>= range_to least) (span_back a sized)
+
+range_to_some : (least most : Span) (text : List ℕ) → 1 ≤ length text → span_read text ≡ Some most → range_to least text ≡ Some (record { least = least; most = Some most })
+range_to_some least most [] some is = absurd (omega (arith, some))
+range_to_some least most (b ∷ bytes) some is = ap (λ (o : Option Span). o >>= λ m. Some (record { least = least; most = Some m })) is
+
+-- a range with an end above its beginning is read back
+pub to_back : (a b : ℤ) → is_sized a ≡ true → is_sized b ≡ true → int_le b a ≡ false → range_read (range_word (from_to a b)) ≡ Some (from_to a b)
+to_back a b first last other =
+    let text : List ℕ = span_word (ticks a) ++ (codes ".." ++ span_word (ticks b)) in
+    let written : range_word (from_to a b) ≡ text = ap (λ (e : Bool). span_word (ticks a) ++ (if e then [] else codes ".." ++ span_word (ticks b))) other in
+    ap range_read written
+    ∙ ap (range_by text) (range_cut a (span_word (ticks b)) first)
+    ∙ ap (λ (o : Option Span). o >>= λ least. past_point (46 ∷ span_word (ticks b)) >>= range_to least) (span_back a first)
+    ∙ range_to_some (ticks a) (ticks b) (span_word (ticks b)) (span_some b last) (span_back b last)
+
+-- a range of one number is read back
+pub single_back : (a : ℤ) → is_sized a ≡ true → int_le a a ≡ true → range_read (range_word (from_to a a)) ≡ Some (from_to a a)
+single_back a sized same =
+    let text : List ℕ = span_word (ticks a) in
+    let written : range_word (from_to a a) ≡ text =
+    ap (λ (e : Bool). span_word (ticks a) ++ (if e then [] else codes ".." ++ span_word (ticks a))) same ∙ append-nil text in
+    ap range_read written
+    ∙ ap (range_by text) (uncut is_of_ticks 46 text (span_bytes a sized) refl)
+    ∙ ap (λ (o : Option Span). o >>= λ span. Some (record { least = span; most = Some span })) (span_back a sized)

@@ -1,16 +1,18 @@
 -- The lines of constraints, one rule after the other.
-use Rattle.std.proofs.Common.{ℕ, zero, suc, ◌+◌, ◌≡◌, Bool, true, false, List, [], ◌∷◌, ◌++◌, refl, ap, sym, ◌∙◌, append-nil, append_assoc, add-one, Option}
-use Rattle.std.specs.Prelude.{slice_index_or, codes, flat_map}
+use Rattle.std.proofs.Common.{ℕ, zero, suc, ◌+◌, ◌≡◌, Bool, true, false, List, [], ◌∷◌, ◌++◌, refl, ap, sym, ◌∙◌, append-nil, append_assoc, add-one, arith, length, ◌<◌, map, Option}
+use Rattle.std.specs.Prelude.{slice_index_or, flat_map}
 use Rattle.std.proofs.lemmas.Grind.{flat_map-append}
 use Rattle.cstn_label.specs.Labels.{Label}
-use Rattle.cstn_lift.specs.Labelled.{Labelled, label_in}
+use Rattle.cstn_lift.specs.Labelled.{Labelled}
 use Rattle.cstn_sentences.specs.declared.lines.Says.{Says}
 use Rattle.cstn_sentences.specs.Spelling.{spelling}
 use Rattle.cstn_sentences.specs.Grammar.{Words}
 use Rattle.cstn_sentences.proofs.WrittenLabels.{spaced_append}
 use Rattle.cstn_net.specs.Networks.{Constraint}
-use Rattle.cstn_sentences.specs.Printed.{spaced, says_words, label_words, observed_words, step_words, rule_words, line_text}
-use Rattle.cstn_sentences.specs.Sentences.{since_words, literals, rule_of, observed_at, step_of, has_step, steps_below, steps_text, is_pair, is_paired, pair_rule, alone_rule, rules_after, rules_text}
+use Rattle.cstn_net.specs.declared.constraints.Constraint.{Constraint as NetConstraint}
+use Rattle.cstn_net.specs.Read.{the_constraint}
+use Rattle.cstn_sentences.specs.Printed.{spaced, says_words, label_words, step_words, rule_words, line_text}
+use Rattle.cstn_sentences.specs.Sentences.{since_words, literals, rule_of, step_of, has_step, steps_below, steps_text, is_pair, is_paired, pair_rule, alone_rule, rules_after, rules_text}
 
 pub pair_text : (names : List (List ℕ)) (c d : Constraint) (cs : List Constraint) → is_pair c d ≡ true
     → rules_text names (c ∷ d ∷ cs) ≡ line_text (rule_words (pair_rule names c d)) ++ rules_text names cs
@@ -44,19 +46,6 @@ rule_put names x says y a old t1 t2 t3 t4 new e1 e2 e3 e4 e5 =
     let l : Words = label_words (literals a) in
     next old (name ++ spaced (s ++ w ++ l)) (10 ∷ []) t4 new
     (words_put name (s ++ w) l old t3 t4 (words_put name s w old t2 t3 (next old name (spaced s) t1 t2 e1 e2) e3) e4) e5
-
-pub step_put : (m : Labelled) (names : List (List ℕ)) (x : ℕ) (a : Label) (old t1 t2 t3 t4 new : List ℕ) → a ≡ label_in m.labels x
-    → t1 ≡ old ++ codes "step " → t2 ≡ t1 ++ spelling (slice_index_or names x []) → t3 ≡ t2 ++ spaced (observed_words (observed_at m.base x))
-    → t4 ≡ t3 ++ spaced (label_words (literals a)) → new ≡ t4 ++ (10 ∷ []) → new ≡ old ++ line_text (step_words (step_of m names x))
-step_put m names x a old t1 t2 t3 t4 new is e1 e2 e3 e4 e5 =
-    let name : List ℕ = spelling (slice_index_or names x []) in
-    let o : Words = observed_words (observed_at m.base x) in
-    let l : Words = label_words (literals (label_in m.labels x)) in
-    let named : t2 ≡ old ++ (codes "step" ++ spaced (name ∷ [])) =
-    next old (codes "step ") name t1 t2 e1 e2 ∙ ap (λ (t : List ℕ). old ++ (codes "step" ++ t)) (sym (append-nil (32 ∷ name))) in
-    let labelled : t4 ≡ t3 ++ spaced l = e4 ∙ ap (λ (b : Label). t3 ++ spaced (label_words (literals b))) is in
-    next old (codes "step" ++ spaced (name ∷ o ++ l)) (10 ∷ []) t4 new
-    (words_put (codes "step") (name ∷ o) l old t3 t4 (words_put (codes "step") (name ∷ []) o old t2 t3 named e3) labelled) e5
 
 pub steps_none : (m : Labelled) (names : List (List ℕ)) (old : List ℕ) → old ≡ old ++ steps_text m names 0
 unfolding steps_below
@@ -95,7 +84,28 @@ pub alone_put : (names : List (List ℕ)) (c : Constraint) (cs : List Constraint
 alone_put names c cs old new e put =
     put_and_left old (line_text (rule_words (alone_rule names c))) (rules_text names cs) new (rules_text names (c ∷ cs)) put (alone_text names c cs e)
 
--- no rule is left
-pub rules_put : (names : List (List ℕ)) (all text : List ℕ) → text ++ rules_text names [] ≡ all → text ≡ all
+-- where no constraint is left, all rules are put
+pub rules_put : (names : List (List ℕ)) (left : List NetConstraint) (text all : List ℕ) → length left < 1 → text ++ rules_text names (map the_constraint left) ≡ all → text ≡ all
 unfolding rules_after
-rules_put names all text e = sym (append-nil text) ∙ e
+rules_put names [] text all none e = sym (append-nil text) ∙ e
+rules_put names (c ∷ left) text all none e = absurd (omega (arith, none))
+
+pub pair_written : (names : List (List ℕ)) (c d : NetConstraint) (later last : List NetConstraint) (old new : List ℕ) → later ≡ d ∷ last
+    → is_pair (the_constraint c) (the_constraint d) ≡ true → new ≡ old ++ line_text (rule_words (pair_rule names (the_constraint c) (the_constraint d)))
+    → new ++ rules_text names (map the_constraint last) ≡ old ++ rules_text names (map the_constraint (c ∷ later))
+pair_written names c d later last old new is pair put =
+    pair_put names (the_constraint c) (the_constraint d) (map the_constraint last) old new pair put
+    ∙ ap (λ (xs : List NetConstraint). old ++ rules_text names (map the_constraint (c ∷ xs))) (sym is)
+
+pub last_written : (names : List (List ℕ)) (c : NetConstraint) (later : List NetConstraint) (old new : List ℕ) → length later ≡ 0
+    → new ≡ old ++ line_text (rule_words (alone_rule names (the_constraint c)))
+    → new ++ rules_text names (map the_constraint later) ≡ old ++ rules_text names (map the_constraint (c ∷ later))
+last_written names c [] old new none put = alone_put names (the_constraint c) [] old new refl put
+last_written names c (d ∷ later) old new none put = absurd (omega (arith, none))
+
+pub alone_written : (names : List (List ℕ)) (c d : NetConstraint) (later last : List NetConstraint) (old new : List ℕ) → later ≡ d ∷ last
+    → is_pair (the_constraint c) (the_constraint d) ≡ false → new ≡ old ++ line_text (rule_words (alone_rule names (the_constraint c)))
+    → new ++ rules_text names (map the_constraint later) ≡ old ++ rules_text names (map the_constraint (c ∷ later))
+alone_written names c d later last old new is other put =
+    alone_put names (the_constraint c) (map the_constraint later) old new
+    (ap (λ (xs : List NetConstraint). is_paired (the_constraint c) (map the_constraint xs)) is ∙ other) put

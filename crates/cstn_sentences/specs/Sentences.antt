@@ -86,9 +86,13 @@ steps_below m names (suc n) = steps_below m names n ++ (if has_step m.base n the
 abbrev pub is_same_label : Label → Label → Bool
 is_same_label a b = is_within a b && is_within b a
 
+-- -A and B, with A at least 0 and at most B
+abbrev pub is_range : ℤ → ℤ → Bool
+is_range least most = int_le least (pos 0) && int_le (neg_ℤ least) most
+
 -- (X, Y, -A, L) and (Y, X, B, L), with A at least 0 and at most B
 abbrev pub is_pair : Constraint → Constraint → Bool
-is_pair c d = c.from == d.to && c.to == d.from && is_same_label c.label d.label && int_le c.most (pos 0) && int_le (neg_ℤ c.most) d.most
+is_pair c d = c.from == d.to && c.to == d.from && is_same_label c.label d.label && is_range c.most d.most
 
 -- the next constraint is the other one of a pair
 abbrev pub is_paired : Constraint → List Constraint → Bool

@@ -1,6 +1,6 @@
 //! A labelled network in sentences.
 
-ghost use Rattle.std.specs.Prelude.{◌≡◌, ◌<◌, ◌≤◌, ◌++◌, ◌∷◌, [], neg_ℤ, slice_index_or, All, IfOk, OnOk, IfSome, length, map, pos};
+ghost use Rattle.std.specs.Prelude.{◌≡◌, ◌<◌, ◌≤◌, ◌++◌, ◌∷◌, [], neg_ℤ, slice_index_or, All, IfOk, OnOk, IfSome, int_le, length, map, pos};
 ghost use Rattle.cstn_label.specs.Read.{marks};
 ghost use Rattle.cstn_label.specs.Tests.{is_within};
 ghost use Rattle.cstn_net.specs.Networks.{count, IsValue};
@@ -8,7 +8,7 @@ ghost use Rattle.cstn_net.specs.Read.{the_network, the_constraint, IsInRange};
 ghost use Rattle.cstn_lift.specs.Read.{the_labelled};
 ghost use Rattle.cstn_sentences.specs.Spelling.{spelling};
 ghost use Rattle.cstn_sentences.specs.Printed.{spaced, observed_words, deadline_words, step_words, rule_words, line_text};
-ghost use Rattle.cstn_sentences.specs.Sentences.{since_words, observed_at, ticks, from_to, from_on, step_of, steps_text, rules_text, is_same_label, is_pair, rule_of, since_says, range_says, least_says, counted_from, pair_rule, has_step, alone_rule, sentences};
+ghost use Rattle.cstn_sentences.specs.Sentences.{since_words, observed_at, ticks, from_to, from_on, step_of, steps_text, rules_text, is_same_label, is_range, is_pair, rule_of, since_says, range_says, least_says, counted_from, pair_rule, has_step, alone_rule, sentences};
 ghost use Rattle.cstn_sentences.specs.NumbersSeen.{number_seen};
 
 use crate::lines::{Range, Says, Span};
@@ -121,16 +121,16 @@ fn push_next<'a>(
     ensures ranges { IfOk result (λ left. All (IsInRange (length names.now)) left.now) }
     ensures fewer { IfOk result (λ left. length left.now ≤ length later.now) }
 {
-    match later {
-        [d, last @ ..] if is_pair(c, d) => {
-            push_pair(text, names, c, d)?;
-            Ok(last)
-        }
-        _ => {
-            push_alone(text, names, c)?;
-            Ok(later)
-        }
+    let Some((d, last)) = later.split_first() else {
+        push_alone(text, names, c)?;
+        return Ok(later);
+    };
+    if is_pair(c, d) {
+        push_pair(text, names, c, d)?;
+        return Ok(last);
     }
+    push_alone(text, names, c)?;
+    Ok(later)
 }
 
 // Whether the constraints are the two ends of one range.
@@ -138,11 +138,24 @@ fn is_pair(c: &Constraint, d: &Constraint) -> bool
     requires { IsValue c.now.most }
     ensures { result ≡ is_pair (the_constraint c.now) (the_constraint d.now) }
 {
-    c.from == d.to
-        && c.to == d.from
+    c.from.0 == d.to.0
+        && c.to.0 == d.from.0
         && is_same(c.label, d.label)
-        && c.most <= 0
-        && negated(c.most) <= d.most
+        && is_range(c.most, d.most)
+}
+
+// Whether a value says at least 0 ticks, and at most as many as the other one says.
+fn is_range(least: i32, most: i32) -> bool
+    requires { IsValue least }
+    ensures { result ≡ is_range least most }
+{
+    is_at_most(least, 0) && is_at_most(negated(least), most)
+}
+
+fn is_at_most(a: i32, b: i32) -> bool
+    ensures { result ≡ int_le a b }
+{
+    a <= b
 }
 
 fn is_same(a: Label, b: Label) -> bool
