@@ -17,3 +17,6 @@ pub mod OneWord
 pub mod WrittenNumbers
 pub mod WrittenRests
 pub mod WrittenLines
+pub mod WrittenSteps
+pub mod WrittenForms
+pub mod LineWords

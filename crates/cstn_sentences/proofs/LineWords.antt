@@ -1,0 +1,128 @@
+-- What is written of a line is its words, one each.
+use Rattle.std.proofs.Common.{◌≡◌, ℕ, zero, suc, ◌<◌, ◌≤◌, Bool, true, false, List, [], ◌∷◌, ◌++◌, length, refl, ap, sym, ◌∙◌, arith, length-append, Option, Some, None}
+use Rattle.std.specs.Prelude.{◌==◌, ◌&&◌, ◌||◌, All, slice_index_or, codes, flat_map, if◌then◌else◌, ℤ, pos, int_le}
+use Rattle.std.specs.List.{list_any, list_all}
+use Rattle.std.specs.Char.{is_ascii_digit}
+use Rattle.std.proofs.lemmas.List.Elements.{All-nil, All-cons, All-append, All-head, All-tail}
+use Rattle.std.proofs.lemmas.List.Folds.{list_all-append}
+use Rattle.cstn_markup.specs.Bytes.{is_white}
+use Rattle.cstn_label.specs.Letters.{letter_of}
+use Rattle.cstn_text.specs.Names.{IsName}
+use Rattle.cstn_sentences.specs.Judged.{is_sized}
+use Rattle.cstn_sentences.specs.declared.lines.Range.{Range}
+use Rattle.cstn_sentences.specs.declared.lines.Literal.{Literal}
+use Rattle.cstn_sentences.specs.Spelling.{begins_with, is_prop, is_letter, is_word, begins_with_letter, spelling}
+use Rattle.cstn_sentences.specs.WrittenWords.{IsOneWord}
+use Rattle.cstn_sentences.specs.Grammar.{Words}
+use Rattle.cstn_sentences.specs.Printed.{span_word, most_word, range_word, said_words, literal_words, label_words, reaction_words}
+use Rattle.cstn_sentences.specs.Sentences.{ticks, from_to, from_on}
+use Rattle.cstn_sentences.proofs.OneWord.{bare_word}
+use Rattle.cstn_sentences.proofs.WrittenNumbers.{and_both, is_of_ticks, span_bytes, span_some}
+
+-- ---- words without names
+
+-- bytes that aren't white, of which the first is no quote and begins no comment, are a word
+pub plain_word : (w : List ℕ) → 1 ≤ length w → list_any is_white w ≡ false → begins_with 34 w ≡ false → begins_with 35 w ≡ false → IsOneWord w
+plain_word [] some black quote hash = absurd (omega (arith, some))
+plain_word (b ∷ w) some black quote hash = bare_word b w black quote hash
+
+-- the bytes of a range: those of numbers of ticks, and points
+abbrev is_of_range : ℕ → Bool
+is_of_range b = is_of_ticks b || b == 46
+
+of_range : (b : ℕ) → is_of_range b ≡ true → (is_white b ≡ false) × ((b == 34) ≡ false) × ((b == 35) ≡ false)
+of_range b e = grind arith
+
+range_black : (text : List ℕ) → list_all is_of_range text ≡ true → list_any is_white text ≡ false
+range_black [] all = refl
+range_black (b ∷ text) all =
+    let parts = and_both (is_of_range b) (list_all is_of_range text) all in
+    rw ((of_range b parts.0).0, range_black text parts.1) refl
+
+numbers_word : (text : List ℕ) → 1 ≤ length text → list_all is_of_range text ≡ true → IsOneWord text
+numbers_word [] some all = absurd (omega (arith, some))
+numbers_word (b ∷ text) some all =
+    let first = of_range b (and_both (is_of_range b) (list_all is_of_range text) all).0 in
+    bare_word b text (range_black (b ∷ text) all) first.1 first.2
+
+ticks_of_range : (b : ℕ) → is_of_ticks b ≡ true → is_of_range b ≡ true
+ticks_of_range b e = grind arith
+
+all_of_range : (text : List ℕ) → list_all is_of_ticks text ≡ true → list_all is_of_range text ≡ true
+all_of_range [] all = refl
+all_of_range (b ∷ text) all =
+    let parts = and_both (is_of_ticks b) (list_all is_of_ticks text) all in
+    rw (ticks_of_range b parts.0, all_of_range text parts.1) refl
+
+span_range : (v : ℤ) → is_sized v ≡ true → list_all is_of_range (span_word (ticks v)) ≡ true
+span_range v sized = all_of_range (span_word (ticks v)) (span_bytes v sized)
+
+-- a number of ticks is a word
+pub span_is_word : (v : ℤ) → is_sized v ≡ true → IsOneWord (span_word (ticks v))
+span_is_word v sized = numbers_word (span_word (ticks v)) (span_some v sized) (span_range v sized)
+
+both_pass : (p : ℕ → Bool) (xs ys : List ℕ) → list_all p xs ≡ true → list_all p ys ≡ true → list_all p (xs ++ ys) ≡ true
+both_pass p xs ys a b = list_all-append p xs ys ∙ ap (λ (x : Bool). x && list_all p ys) a ∙ b
+
+longer : (xs ys : List ℕ) → 1 ≤ length xs → 1 ≤ length (xs ++ ys)
+longer xs ys some = omega (arith, some, length-append xs ys)
+
+range_text : (v : ℤ) (most : List ℕ) → is_sized v ≡ true → list_all is_of_range most ≡ true → IsOneWord (span_word (ticks v) ++ most)
+range_text v most sized all =
+    numbers_word (span_word (ticks v) ++ most) (longer (span_word (ticks v)) most (span_some v sized)) (both_pass is_of_range (span_word (ticks v)) most (span_range v sized) all)
+
+most_at : (b : ℤ) (single : Bool) → is_sized b ≡ true → list_all is_of_range (if single then [] else codes ".." ++ span_word (ticks b)) ≡ true
+most_at b true sized = refl
+most_at b false sized = span_range b sized
+
+-- a range is a word
+pub range_is_word : (a b : ℤ) → is_sized a ≡ true → is_sized b ≡ true → IsOneWord (range_word (from_to a b))
+range_is_word a b first last = range_text a (most_word (ticks a) (Some (ticks b))) first (most_at b (int_le b a) last)
+
+pub from_is_word : (a : ℤ) → is_sized a ≡ true → IsOneWord (range_word (from_on a))
+from_is_word a sized = range_text a (codes "..") sized refl
+
+-- ---- labels
+
+letter_shape : (b : ℕ) → is_letter (b ∷ []) ≡ true → (list_any is_white (b ∷ []) ≡ false) × ((b == 34) ≡ false) × ((b == 35) ≡ false)
+letter_shape b e = grind arith
+
+-- a letter is a word
+pub letter_is_word : (p : ℕ) → p < 52 → IsOneWord (letter_of p ∷ [])
+letter_is_word p small =
+    let shape = letter_shape (letter_of p) (letter_fits p small) in
+    bare_word (letter_of p) [] shape.0 shape.1 shape.2
+  where
+    letter_fits : (p : ℕ) → p < 52 → is_letter (letter_of p ∷ []) ≡ true
+    letter_fits p small = grind arith
+
+abbrev pub AreWords : Words → Type 0
+AreWords words = All IsOneWord words
+
+pub one_more : (word : List ℕ) (words : Words) → IsOneWord word → AreWords words → AreWords (word ∷ words)
+one_more word words one all = All-cons IsOneWord word words one all
+
+pub no_words : AreWords []
+no_words = All-nil IsOneWord
+
+-- the proposition of a literal is a word
+abbrev pub HasWord : Literal → Type 0
+HasWord l = IsOneWord l.prop
+
+said_are : (holds : Bool) (prop : List ℕ) → IsOneWord prop → AreWords (said_words holds prop)
+said_are true prop one = one_more prop [] one no_words
+said_are false prop one = one_more (codes "not") (prop ∷ []) (plain_word (codes "not") (omega arith) refl refl refl) (one_more prop [] one no_words)
+
+later_are : (ls : List Literal) → All HasWord ls → AreWords (flat_map (λ y. codes "and" ∷ literal_words y) ls)
+later_are [] all = no_words
+later_are (l ∷ ls) all =
+    All-append IsOneWord (codes "and" ∷ literal_words l) (flat_map (λ y. codes "and" ∷ literal_words y) ls)
+    (one_more (codes "and") (literal_words l) (plain_word (codes "and") (omega arith) refl refl refl) (said_are l.holds l.prop (All-head HasWord l ls all)))
+    (later_are ls (All-tail HasWord l ls all))
+
+-- a label is written in words
+pub label_are : (ls : List Literal) → All HasWord ls → AreWords (label_words ls)
+label_are [] all = no_words
+label_are (l ∷ ls) all =
+    one_more (codes "if") (literal_words l ++ flat_map (λ y. codes "and" ∷ literal_words y) ls) (plain_word (codes "if") (omega arith) refl refl refl)
+    (All-append IsOneWord (literal_words l) (flat_map (λ y. codes "and" ∷ literal_words y) ls) (said_are l.holds l.prop (All-head HasWord l ls all)) (later_are ls (All-tail HasWord l ls all)))
