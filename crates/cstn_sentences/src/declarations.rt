@@ -1,11 +1,11 @@
 //! What the lines declare.
 
-ghost use Rattle.std.specs.Prelude.{◌≡◌, ◌≤◌, [], None, false, IfOk, length, string_bytes, bytes_eq};
+ghost use Rattle.std.specs.Prelude.{◌≡◌, ◌≤◌, [], None, false, IfOk, OnOk, length, string_bytes, bytes_eq};
 ghost use Rattle.std.specs.List.{list_any};
 ghost use Rattle.cstn_graphml.specs.DrawnGraphSeen.{observed_seen};
 ghost use Rattle.cstn_text.specs.Names.{IsName, number_of};
 ghost use Rattle.cstn_sentences.specs.Answers.{Tells};
-ghost use Rattle.cstn_sentences.specs.Declarations.{with_point, with_step, nothing_declared, is_declared, end_of, observation_of, letter_for, has_word, with_word_for, with_word, with_observed};
+ghost use Rattle.cstn_sentences.specs.Declarations.{with_point, with_step, nothing_declared, is_declared, is_origin, end_of, observation_of, letter_for, has_word, with_word_for, with_word, with_observed};
 ghost use Rattle.cstn_sentences.specs.Declarations.{are_new, words_with, declare_step, is_task, declare_task, declare, declared_line, declared_after};
 ghost use Rattle.cstn_sentences.specs.Lines.{deadline, start, the_step, the_line};
 ghost use Rattle.cstn_sentences.specs.SeenDeclared.{the_declared};
@@ -213,7 +213,8 @@ fn with_point(
     d: Declared,
 ) -> Result<Declared, AllocError>
     requires new { number_of d.names name.now ≡ None }
-    requires named { IsName name.now }
+    requires some { 1 ≤ length name.now }
+    requires few { length name.now ≤ 64 }
     ensures { IfOk result (λ r. the_declared r ≡ with_point name.now begins (observed_seen observed) (the_declared d)) }
 {
     let mut d = d;
@@ -274,7 +275,11 @@ fn declare_step(alloc: Global, n: u32, step: &Step, d: Declared) -> Result<Decla
 /// Whether neither the task nor its end was declared, it isn't the origin, and its name has at most 60 bytes.
 fn is_task(alloc: Global, n: u32, name: &Name, end: &str, d: &Declared) -> Result<(), PlanError>
     requires { end.now ≡ end_of name.now }
-    ensures { Tells (λ u. u) result (is_task n name.now (the_declared d.now)) }
+    ensures told { Tells (λ u. u) result (is_task n name.now (the_declared d.now)) }
+    ensures new { OnOk result (is_declared name.now (the_declared d.now) ≡ false) }
+    ensures ends { OnOk result (is_declared end.now (the_declared d.now) ≡ false) }
+    ensures other { OnOk result (is_origin name.now ≡ false) }
+    ensures few { OnOk result (length name.now ≤ 60) }
 {
     let text = name.as_str();
     if is_declared(text, d) {
