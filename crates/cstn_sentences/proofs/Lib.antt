@@ -17,6 +17,9 @@ pub mod OneWord
 pub mod WrittenNumbers
 pub mod WrittenRests
 pub mod WrittenLines
+pub mod LineWords
+pub mod RuleWords
 pub mod WrittenSteps
 pub mod WrittenForms
-pub mod LineWords
+-- What sentences say of moments.
+pub mod MomentLemmas

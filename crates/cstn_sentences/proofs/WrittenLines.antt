@@ -71,7 +71,7 @@ by_since : (point : Point) (says : Says) (name : List ℕ) (ls : List Literal) �
 by_since point says name ls ok all = ap (λ (r : Result Rest ℕ). r >>= λ rest. Ok (rule_with point says rest.since rest.label)) (since_back name ls ok all)
 
 -- what is read of the first word, and the words behind it
-one_read : {A : Type 0} (read : List ℕ → Option A) (word : List ℕ) (words : Words) (x : A) → read word ≡ Some x → one read (word ∷ words) ≡ Ok (x, words)
+pub one_read : {A : Type 0} (read : List ℕ → Option A) (word : List ℕ) (words : Words) (x : A) → read word ≡ Some x → one read (word ∷ words) ≡ Ok (x, words)
 one_read {A} read word words x e = ap (λ (o : Option A). or_refused (option_map (λ y. (y, words)) o) (length (word ∷ words))) e
 
 -- ---- each form
@@ -81,7 +81,7 @@ pub at_line : (point : Point) (r : Range) (ls : List Literal) → range_read (ra
 at_line point r ls back all =
     ap (λ (o : Read Range). o >>= λ p. rule_by point (At p.0) If p.1) (one_read range_read (range_word r) (label_words ls) r back) ∙ by_alone point (At r) ls all
 
-no_after : (ls : List Literal) → begins_by (codes "after") (label_words ls) ≡ false
+pub no_after : (ls : List Literal) → begins_by (codes "after") (label_words ls) ≡ false
 no_after [] = refl
 no_after (l ∷ ls) = refl
 

@@ -40,7 +40,7 @@ uncut p byte text all other = at (cut_at byte text) refl
         ∙ ap (λ (b : Bool). list_all p parts.0 && (b && list_all p parts.1)) other ∙ and_false (list_all p parts.0) in
         absurd (true≢false (sym all ∙ none))
 
-and_both : (a b : Bool) → (a && b) ≡ true → (a ≡ true) × (b ≡ true)
+pub and_both : (a b : Bool) → (a && b) ≡ true → (a ≡ true) × (b ≡ true)
 and_both a b e = grind arith
 
 free_of : (p : ℕ → Bool) (byte : ℕ) (text : List ℕ) → list_all p text ≡ true → p byte ≡ false → All (λ b. b ≢ byte) text
@@ -51,7 +51,7 @@ free_of p byte (b ∷ text) all other =
 
 -- ---- digits
 
-small_enough : (n : ℕ) → n ≤ most_ticks → n < 2 ^ 64
+pub small_enough : (n : ℕ) → n ≤ most_ticks → n < 2 ^ 64
 small_enough n h = omega (arith, h)
 
 decimal_digits : (n : ℕ) → n ≤ most_ticks → list_all is_ascii_digit (decimal n) ≡ true
@@ -104,7 +104,7 @@ span_back (negsuc n) sized =
 -- ---- ranges
 
 -- the bytes of a number of ticks are digits, and `-` before them
-abbrev is_of_ticks : ℕ → Bool
+abbrev pub is_of_ticks : ℕ → Bool
 is_of_ticks b = is_ascii_digit b || b == 45
 
 digit_of_ticks : (b : ℕ) → is_ascii_digit b ≡ true → is_of_ticks b ≡ true
@@ -116,11 +116,11 @@ all_of_ticks (b ∷ text) all =
     let parts = and_both (is_ascii_digit b) (list_all is_ascii_digit text) all in
     rw (digit_of_ticks b parts.0, all_of_ticks text parts.1) refl
 
-span_bytes : (v : ℤ) → is_sized v ≡ true → list_all is_of_ticks (span_word (ticks v)) ≡ true
+pub span_bytes : (v : ℤ) → is_sized v ≡ true → list_all is_of_ticks (span_word (ticks v)) ≡ true
 span_bytes (pos n) sized = let few : n ≤ most_ticks = grind (arith, sized) in all_of_ticks (decimal n) (decimal_digits n few)
 span_bytes (negsuc n) sized = let few : suc n ≤ most_ticks = grind (arith, sized) in all_of_ticks (decimal (suc n)) (decimal_digits (suc n) few)
 
-span_some : (v : ℤ) → is_sized v ≡ true → 1 ≤ length (span_word (ticks v))
+pub span_some : (v : ℤ) → is_sized v ≡ true → 1 ≤ length (span_word (ticks v))
 span_some (pos n) sized = let few : n ≤ most_ticks = grind (arith, sized) in omega (arith, decimal_nonempty n (small_enough n few))
 span_some (negsuc n) sized = omega arith
 

@@ -3,6 +3,8 @@ use Rattle.std.proofs.Common.{◌≡◌, ℕ, ◌<◌, ◌≤◌, Bool, true, fa
 use Rattle.std.specs.Prelude.{◌==◌, All, slice_index_or, codes, Result, Ok, if◌then◌else◌, pos}
 use Rattle.std.specs.Option.{option_map}
 use Rattle.cstn_markup.specs.Bytes.{when}
+use Rattle.std.proofs.lemmas.List.Elements.{All-append}
+use Rattle.cstn_label.specs.Labels.{Label}
 use Rattle.cstn_label.specs.Letters.{letter_of}
 use Rattle.cstn_net.specs.Limits.{most_reaction}
 use Rattle.cstn_net.specs.Networks.{IsWellFormed}
@@ -14,16 +16,21 @@ use Rattle.cstn_sentences.specs.declared.lines.Span.{Span}
 use Rattle.cstn_sentences.specs.declared.lines.Literal.{Literal}
 use Rattle.cstn_sentences.specs.declared.lines.Observed.{Observed}
 use Rattle.cstn_sentences.specs.declared.lines.Expects.TheVariants.{If}
-use Rattle.cstn_sentences.specs.Lines.{Step, step}
+use Rattle.cstn_sentences.specs.Judged.{is_sized}
+use Rattle.cstn_sentences.specs.Lines.{Step, step, deadline}
 use Rattle.cstn_sentences.specs.Spelling.{name_of, spelling, is_letter}
 use Rattle.cstn_sentences.specs.Spans.{after, time_read}
 use Rattle.cstn_sentences.specs.Grammar.{Words, Rest, Read, past, begins_by, one, nothing_yet, rest_read, reaction_read, letter_of as letter_read, letter_or_word, observed_prop, with_reaction, observed_read, step_read, line_read}
-use Rattle.cstn_sentences.specs.Printed.{span_word, label_words, reaction_words, observed_words, step_words}
+use Rattle.cstn_sentences.specs.Printed.{span_word, label_words, reaction_words, observed_words, step_words, deadline_words}
+use Rattle.cstn_sentences.specs.WrittenWords.{IsOneWord, IsReadAs}
 use Rattle.cstn_sentences.specs.Sentences.{ticks, literals, observed_after, observed_of, observed_at, step_of}
 use Rattle.cstn_sentences.proofs.SpelledNames.{name_back}
 use Rattle.cstn_sentences.proofs.WrittenNumbers.{time_back}
 use Rattle.cstn_sentences.proofs.WrittenRests.{IsLiteral, label_alone}
-use Rattle.cstn_sentences.proofs.WrittenLines.{label_literals, no_after, one_read}
+use Rattle.cstn_sentences.proofs.WrittenLines.{label_literals, no_after, one_read, deadline_line}
+use Rattle.cstn_sentences.proofs.OneWord.{spelled_is_word, words_back}
+use Rattle.cstn_sentences.proofs.LineWords.{plain_word, span_is_word, AreWords, one_more, no_words}
+use Rattle.cstn_sentences.proofs.RuleWords.{label_is, observed_are}
 
 -- ---- what is observed
 
@@ -80,15 +87,41 @@ step_line name observed ls ok back all =
 few_ticks : (n : ℕ) → n ≤ most_reaction → n ≤ most_ticks
 few_ticks n h = omega (arith, h)
 
-at_point : (reaction : ℕ → ℕ) (o : Option ℕ) (ls : List Literal) → ((p : ℕ) → o ≡ Some p → (p < 52) × (reaction p ≤ most_reaction)) → IsObservedBack (option_map (observed_of reaction) o) ls
-at_point reaction None ls fits = nothing_observed ls
-at_point reaction (Some p) ls fits = observed_back (reaction p) p ls (few_ticks (reaction p) (fits p refl).1) (fits p refl).0
+-- what is observed is read back, and is written in words
+record IsObservedRead (observed : Option Observed) (ls : List Literal) : Type 0 where
+  back : IsObservedBack observed ls
+  words : AreWords (observed_words observed)
+
+small_sized : (n : ℕ) → n ≤ most_reaction → is_sized (pos n) ≡ true
+small_sized n h = grind arith
+
+at_point : (reaction : ℕ → ℕ) (o : Option ℕ) (ls : List Literal) → ((p : ℕ) → o ≡ Some p → (p < 52) × (reaction p ≤ most_reaction)) → IsObservedRead (option_map (observed_of reaction) o) ls
+at_point reaction None ls fits = record { back = nothing_observed ls; words = no_words }
+at_point reaction (Some p) ls fits =
+    let small : p < 52 = (fits p refl).0 in
+    let few : reaction p ≤ most_reaction = (fits p refl).1 in
+    record { back = observed_back (reaction p) p ls (few_ticks (reaction p) few) small; words = observed_are (reaction p) p (small_sized (reaction p) few) small }
 
 -- the step of a time-point is read back
 pub point_back : (m : Labelled) (names : List (List ℕ)) (x : ℕ) → IsWellFormed m.base → IsName (slice_index_or names x [])
-    → line_read (step_words (step_of m names x)) ≡ Ok (step (step_of m names x))
+    → IsReadAs (step_words (step_of m names x)) (step (step_of m names x))
 point_back m names x well named =
-    let ls : List Literal = literals (label_in m.labels x) in
-    step_line (slice_index_or names x []) (observed_at m.base x) ls named
-    (at_point m.base.reaction (slice_index_or m.base.observes x None) ls (λ p e. (well.letters x p (record { what = e }), well.soon x p (record { what = e }))))
-    (label_literals (label_in m.labels x))
+    let name : List ℕ = slice_index_or names x [] in
+    let observed : Option Observed = observed_at m.base x in
+    let label : Label = label_in m.labels x in
+    let seen : IsObservedRead observed (literals label) =
+    at_point m.base.reaction (slice_index_or m.base.observes x None) (literals label) (λ p e. (well.letters x p (record { what = e }), well.soon x p (record { what = e }))) in
+    let behind : Words = observed_words observed ++ label_words (literals label) in
+    let words : AreWords behind = All-append IsOneWord (observed_words observed) (label_words (literals label)) seen.words (label_is label) in
+    record {
+      cut = words_back (codes "step") (spelling name ∷ behind) (plain_word (codes "step") (omega arith) refl refl refl) (one_more (spelling name) behind (spelled_is_word name named) words);
+      read = step_line name observed (literals label) named seen.back (label_literals label);
+    }
+
+-- the line of the deadline is read back
+pub deadline_back : (n : ℕ) → is_sized (pos n) ≡ true → IsReadAs (deadline_words (ticks (pos n))) (deadline (ticks (pos n)))
+deadline_back n sized = record {
+  cut = words_back (codes "deadline") (span_word (ticks (pos n)) ∷ []) (plain_word (codes "deadline") (omega arith) refl refl refl)
+    (one_more (span_word (ticks (pos n))) [] (span_is_word (pos n) sized) no_words);
+  read = deadline_line n sized;
+}

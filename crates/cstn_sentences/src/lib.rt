@@ -21,7 +21,10 @@ mod words;
 mod writing;
 
 pub use errors::PlanError;
-pub use laws::{names_are_read_back, ticks_are_read_back, words_are_read_back};
+pub use laws::{
+    lines_are_read_back, names_are_read_back, sentences_say_what_they_say, ticks_are_read_back,
+    words_are_read_back,
+};
 pub use lines::{Name, Word};
 pub use reading::read;
 pub use writing::sentences;
