@@ -16,7 +16,7 @@ use Rattle.cstn_sentences.specs.Spans.{range_read}
 use Rattle.cstn_sentences.specs.Grammar.{rule_read}
 use Rattle.cstn_sentences.specs.Printed.{range_word, label_words, says_words, rule_words}
 use Rattle.cstn_sentences.specs.WrittenWords.{IsReadAs}
-use Rattle.cstn_sentences.specs.Sentences.{ticks, from_to, from_on, literals, since_words, rule_of, counted_from, since_says, range_says, least_says, is_same_label, is_range, is_pair, pair_rule, alone_rule}
+use Rattle.cstn_sentences.specs.Sentences.{ticks, from_to, from_on, literals, since_words, rule_of, counted_from, since_says, range_says, least_says, is_same_label, is_range, are_turned, are_one_range, is_pair, pair_rule, alone_rule}
 use Rattle.cstn_sentences.proofs.WrittenNumbers.{from_back, to_back, single_back}
 use Rattle.cstn_sentences.proofs.WrittenLines.{label_literals, at_line, by_line, by_after_line, within_line, not_before_line, together_line, between_line, rule_line}
 use Rattle.cstn_sentences.proofs.LineWords.{range_is_word, from_is_word, AreWords}
@@ -102,14 +102,14 @@ range_parts least most e = both (int_le least (pos 0)) (int_le (neg_ℤ least) m
     both : (a b : Bool) → (a && b) ≡ true → (a ≡ true) × (b ≡ true)
     both a b e = grind arith
 
-pair_parts : (a b c d : Bool) → (a && b && c && d) ≡ true → d ≡ true
-pair_parts a b c d e = grind arith
+second_part : (a b : Bool) → (a && b) ≡ true → b ≡ true
+second_part a b e = grind arith
 
 -- the rule of a pair is read back
 pub pair_back : (names : List (List ℕ)) (c d : Constraint) → HasName names c.from → HasName names c.to → IsValue c.most → IsValue d.most → is_pair c d ≡ true
     → IsReadAs (rule_words (pair_rule names c d)) (rule (pair_rule names c d))
 pair_back names c d from to value other pair =
-    let range = range_parts c.most d.most (pair_parts (c.from == d.to) (c.to == d.from) (is_same_label c.label d.label) (is_range c.most d.most) pair) in
+    let range = range_parts c.most d.most (second_part (is_same_label c.label d.label) (is_range c.most d.most) (second_part (are_turned c d) (are_one_range c d) pair)) in
     range_rule_back names c.from c.to c.label (neg_ℤ c.most) d.most from to (negated_sized c.most value) (value_sized d.most other) (negated_up c.most range.0) range.1
 
 -- ---- alone
@@ -140,9 +140,6 @@ by_after_rule_back names x y label v named since sized =
     form names x (ByAfter (ticks v)) (Some y) label named (by_after_are v sized) (since_one names y since)
     (by_after_line (point_of names x) v (slice_index_or names y []) (literals label) sized since (label_literals label))
 
-first_parts : (a b : Bool) → (a && b) ≡ true → b ≡ true
-first_parts a b e = grind arith
-
 abbrev alone_by : List (List ℕ) → Constraint → Bool → Bool → Rule
 alone_by names c by least =
     if by then rule_of names c.to (By (ticks c.most)) None c.label
@@ -155,6 +152,6 @@ pub alone_back : (names : List (List ℕ)) (c : Constraint) → HasName names c.
 alone_back names c from to value = at (c.from == 0 && int_le (pos 0) c.most) (int_le c.most (pos 0)) refl
   where
     at : (by least : Bool) → (c.from == 0 && int_le (pos 0) c.most) ≡ by → IsReadAs (rule_words (alone_by names c by least)) (rule (alone_by names c by least))
-    at true least e = by_rule_back names c.to c.label c.most to (value_sized c.most value) (first_parts (c.from == 0) (int_le (pos 0) c.most) e)
+    at true least e = by_rule_back names c.to c.label c.most to (value_sized c.most value) (second_part (c.from == 0) (int_le (pos 0) c.most) e)
     at false true e = least_rule_back names c.from c.to c.label (neg_ℤ c.most) from to (negated_sized c.most value)
     at false false e = by_after_rule_back names c.to c.from c.label c.most to from (value_sized c.most value)

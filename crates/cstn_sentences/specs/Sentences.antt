@@ -90,9 +90,16 @@ is_same_label a b = is_within a b && is_within b a
 abbrev pub is_range : ℤ → ℤ → Bool
 is_range least most = int_le least (pos 0) && int_le (neg_ℤ least) most
 
+-- one is from X to Y, and the other from Y to X
+abbrev pub are_turned : Constraint → Constraint → Bool
+are_turned c d = c.from == d.to && c.to == d.from
+
+abbrev pub are_one_range : Constraint → Constraint → Bool
+are_one_range c d = is_same_label c.label d.label && is_range c.most d.most
+
 -- (X, Y, -A, L) and (Y, X, B, L), with A at least 0 and at most B
 abbrev pub is_pair : Constraint → Constraint → Bool
-is_pair c d = c.from == d.to && c.to == d.from && is_same_label c.label d.label && is_range c.most d.most
+is_pair c d = are_turned c d && are_one_range c d
 
 -- the next constraint is the other one of a pair
 abbrev pub is_paired : Constraint → List Constraint → Bool

@@ -40,7 +40,6 @@ pub fn ticks_are_read_back()
 
 /// The line of a deadline, of the step of a time-point, and of the rule of a constraint or of a pair is cut into its words, and is
 /// read as that deadline, step or rule.
-#[tactic(auto, using(crate::proofs::WrittenSteps::deadline_back, crate::proofs::WrittenSteps::point_back, crate::proofs::WrittenForms::alone_back, crate::proofs::WrittenForms::pair_back))]
 pub fn lines_are_read_back()
     ensures deadline { (n : ℕ) → is_sized (pos n) ≡ true → IsReadAs (deadline_words (ticks (pos n))) (deadline (ticks (pos n))) }
     ensures step { (m : Labelled) (names : List (List ℕ)) (x : ℕ) → IsWellFormed m.base → IsName (slice_index_or names x [])

@@ -8,7 +8,7 @@ ghost use Rattle.cstn_net.specs.Read.{the_network, the_constraint, IsInRange};
 ghost use Rattle.cstn_lift.specs.Read.{the_labelled};
 ghost use Rattle.cstn_sentences.specs.Spelling.{spelling};
 ghost use Rattle.cstn_sentences.specs.Printed.{spaced, observed_words, deadline_words, step_words, rule_words, line_text};
-ghost use Rattle.cstn_sentences.specs.Sentences.{since_words, observed_at, ticks, from_to, from_on, step_of, steps_text, rules_text, is_same_label, is_range, is_pair, rule_of, since_says, range_says, least_says, counted_from, pair_rule, has_step, alone_rule, sentences};
+ghost use Rattle.cstn_sentences.specs.Sentences.{since_words, observed_at, ticks, from_to, from_on, step_of, steps_text, rules_text, is_same_label, is_range, are_turned, are_one_range, is_pair, rule_of, since_says, range_says, least_says, counted_from, pair_rule, has_step, alone_rule, sentences};
 ghost use Rattle.cstn_sentences.specs.NumbersSeen.{number_seen};
 
 use crate::lines::{Range, Says, Span};
@@ -138,10 +138,20 @@ fn is_pair(c: &Constraint, d: &Constraint) -> bool
     requires { IsValue c.now.most }
     ensures { result ≡ is_pair (the_constraint c.now) (the_constraint d.now) }
 {
-    c.from.0 == d.to.0
-        && c.to.0 == d.from.0
-        && is_same(c.label, d.label)
-        && is_range(c.most, d.most)
+    are_turned(c, d) && are_one_range(c, d)
+}
+
+fn are_turned(c: &Constraint, d: &Constraint) -> bool
+    ensures { result ≡ are_turned (the_constraint c.now) (the_constraint d.now) }
+{
+    c.from.0 == d.to.0 && c.to.0 == d.from.0
+}
+
+fn are_one_range(c: &Constraint, d: &Constraint) -> bool
+    requires { IsValue c.now.most }
+    ensures { result ≡ are_one_range (the_constraint c.now) (the_constraint d.now) }
+{
+    is_same(c.label, d.label) && is_range(c.most, d.most)
 }
 
 // Whether a value says at least 0 ticks, and at most as many as the other one says.
