@@ -1,5 +1,5 @@
 -- A label's test of being within another passes exactly where it is within.
-use Rattle.std.proofs.Common.{ℕ, zero, suc, ◌≡◌, inl, inr, ◌<◌, ◌≤◌, ◌↔◌, Bool, true, false, ◌&&◌, arith, refl, subst, sym, ◌∙◌, ap, IsTrue}
+use Rattle.std.proofs.Common.{ℕ, zero, suc, ◌≡◌, inl, inr, ◌<◌, ◌≤◌, ◌↔◌, Bool, true, arith, refl, subst, IsTrue}
 use Rattle.std.specs.Cmp.{both_ways}
 use Rattle.std.proofs.lemmas.Bool.{cases_lt, and_parts, and_from}
 use Rattle.cstn_label.specs.declared.marks.Mark.{Mark}

@@ -1,20 +1,17 @@
 -- What is written of a line is its words, one each.
-use Rattle.std.proofs.Common.{◌≡◌, ℕ, zero, suc, ◌<◌, ◌≤◌, Bool, true, false, List, [], ◌∷◌, ◌++◌, length, refl, ap, sym, ◌∙◌, arith, length-append, Option, Some, None}
-use Rattle.std.specs.Prelude.{◌==◌, ◌&&◌, ◌||◌, All, slice_index_or, codes, flat_map, if◌then◌else◌, ℤ, pos, int_le}
+use Rattle.std.proofs.Common.{◌≡◌, ℕ, ◌<◌, ◌≤◌, Bool, true, false, List, [], ◌∷◌, ◌++◌, length, refl, ap, ◌∙◌, arith, length-append, Some}
+use Rattle.std.specs.Prelude.{◌==◌, ◌&&◌, ◌||◌, All, codes, flat_map, if◌then◌else◌, ℤ, int_le}
 use Rattle.std.specs.List.{list_any, list_all}
-use Rattle.std.specs.Char.{is_ascii_digit}
 use Rattle.std.proofs.lemmas.List.Elements.{All-nil, All-cons, All-append, All-head, All-tail}
 use Rattle.std.proofs.lemmas.List.Folds.{list_all-append}
 use Rattle.cstn_markup.specs.Bytes.{is_white}
 use Rattle.cstn_label.specs.Letters.{letter_of}
-use Rattle.cstn_text.specs.Names.{IsName}
 use Rattle.cstn_sentences.specs.Judged.{is_sized}
-use Rattle.cstn_sentences.specs.declared.lines.Range.{Range}
 use Rattle.cstn_sentences.specs.declared.lines.Literal.{Literal}
-use Rattle.cstn_sentences.specs.Spelling.{begins_with, is_prop, is_letter, is_word, begins_with_letter, spelling}
+use Rattle.cstn_sentences.specs.Spelling.{begins_with, is_letter}
 use Rattle.cstn_sentences.specs.WrittenWords.{IsOneWord}
 use Rattle.cstn_sentences.specs.Grammar.{Words}
-use Rattle.cstn_sentences.specs.Printed.{span_word, most_word, range_word, said_words, literal_words, label_words, reaction_words}
+use Rattle.cstn_sentences.specs.Printed.{span_word, most_word, range_word, said_words, literal_words, label_words}
 use Rattle.cstn_sentences.specs.Sentences.{ticks, from_to, from_on}
 use Rattle.cstn_sentences.proofs.OneWord.{bare_word}
 use Rattle.cstn_sentences.proofs.WrittenNumbers.{and_both, is_of_ticks, span_bytes, span_some}

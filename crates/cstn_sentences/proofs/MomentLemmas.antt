@@ -11,11 +11,10 @@ use Rattle.cstn_graphml.specs.DrawnGraph.{DrawnConstraint}
 use Rattle.cstn_graphml.specs.Networks.{constraint_drawn}
 use Rattle.cstn_sentences.specs.declared.bounds.Bounds.{Bounds}
 use Rattle.cstn_sentences.specs.declared.lines.Span.{Span}
-use Rattle.cstn_sentences.specs.declared.lines.Range.{Range}
 use Rattle.cstn_sentences.specs.declared.lines.Says.{Says}
 use Rattle.cstn_sentences.specs.declared.lines.Says.TheVariants.{At, By, Between, ByAfter, Within, NotBefore, Together}
 use Rattle.cstn_sentences.specs.Meaning.{Moment_after, on_clock, bounds_of, since_origin, at_least, at_most, constraints_of}
-use Rattle.cstn_sentences.specs.Moments.{tick_of, IsAtLeast, IsAtMost, IsAtMostSo, IsNotBeforeTick, IsByTick, IsByTickSo, IsSaid, MeetsEach}
+use Rattle.cstn_sentences.specs.Moments.{tick_of, IsAtLeast, IsAtMost, IsAtMostSo, IsByTickSo, IsSaid, MeetsEach}
 
 -- ---- lists
 

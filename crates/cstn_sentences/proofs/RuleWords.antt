@@ -1,5 +1,5 @@
 -- The lines of rules and of steps are their words.
-use Rattle.std.proofs.Common.{◌≡◌, ℕ, zero, suc, ◌+◌, ◌<◌, ◌≤◌, Bool, true, false, List, [], ◌∷◌, ◌++◌, refl, arith, Option, Some, None}
+use Rattle.std.proofs.Common.{◌≡◌, ℕ, zero, suc, ◌<◌, ◌≤◌, Bool, true, false, List, [], ◌∷◌, ◌++◌, refl, arith, Option, Some, None}
 use Rattle.std.specs.Prelude.{◌==◌, All, slice_index_or, codes, if◌then◌else◌, ℤ, pos}
 use Rattle.std.proofs.lemmas.List.Elements.{All-nil, All-cons, All-append}
 use Rattle.cstn_label.specs.declared.marks.Mark.{Mark}

@@ -1,6 +1,6 @@
 -- A name is read from its spelling.
 use Rattle.std.proofs.Common.{◌≡◌, ℕ, ◌-◌, Bool, true, false, not, List, [], ◌∷◌, ◌++◌, length, take, refl, ap, sym, ◌∙◌, arith, append-nil, append_assoc, length-append, Option, Some}
-use Rattle.std.specs.Prelude.{◌==◌, ◌||◌, ◌&&◌, nat_lt, nat_le, codes, flat_map, bytes_eq, if◌then◌else◌}
+use Rattle.std.specs.Prelude.{◌==◌, ◌||◌, ◌&&◌, nat_lt, nat_le, flat_map, bytes_eq, if◌then◌else◌}
 use Rattle.std.specs.List.{list_any}
 use Rattle.std.specs.Option.{option_and_then}
 use Rattle.std.specs.Str.{is_utf8}
@@ -9,8 +9,8 @@ use Rattle.std.proofs.lemmas.Bool.{true≢false}
 use Rattle.std.proofs.lemmas.Slice.Eq.{bytes_eq-Decides}
 use Rattle.cstn_facts.proofs.Booleans.{bytes_same}
 use Rattle.cstn_markup.specs.Bytes.{when}
-use Rattle.cstn_text.specs.Names.{IsName, is_name}
-use Rattle.cstn_text.specs.PrintedNames.{is_plain_byte, printed_byte, printed_name, unprinted_after, unprinted, name_read}
+use Rattle.cstn_text.specs.Names.{IsName}
+use Rattle.cstn_text.specs.PrintedNames.{is_plain_byte, printed_byte, printed_name, unprinted_after, unprinted}
 use Rattle.cstn_text.proofs.PrintedNameLemmas.{text_back, name_back as printed_back, printed_once, shape_true}
 use Rattle.cstn_sentences.specs.Spelling.{is_keyword, begins_with, has_space_or_quote, needs_quotes, quoted_byte, quoted, spelling, between_quotes, is_quoted_as, quoted_as, quoted_name, bare_name, name_of}
 

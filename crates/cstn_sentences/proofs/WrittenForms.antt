@@ -1,6 +1,6 @@
 -- The rules of constraints are read from their lines.
-use Rattle.std.proofs.Common.{◌≡◌, ℕ, zero, suc, ◌<◌, Bool, true, false, List, [], ◌∷◌, ◌++◌, refl, ap, sym, subst, ◌∙◌, arith, Option, Some, None}
-use Rattle.std.specs.Prelude.{◌==◌, ◌&&◌, All, slice_index_or, Ok, if◌then◌else◌, ℤ, pos, neg_ℤ, int_le, ◌≤ℤ◌}
+use Rattle.std.proofs.Common.{◌≡◌, ℕ, zero, suc, Bool, true, false, List, [], ◌++◌, refl, sym, subst, ◌∙◌, arith, Option, Some, None}
+use Rattle.std.specs.Prelude.{◌==◌, ◌&&◌, slice_index_or, Ok, if◌then◌else◌, ℤ, pos, neg_ℤ, int_le}
 use Rattle.std.proofs.lemmas.Int.{ints}
 use Rattle.cstn_label.specs.Labels.{Label}
 use Rattle.cstn_net.specs.Networks.{Constraint, IsValue}
@@ -8,7 +8,6 @@ use Rattle.cstn_text.specs.Names.{IsName}
 use Rattle.cstn_sentences.specs.Judged.{is_sized}
 use Rattle.cstn_sentences.specs.declared.lines.Side.TheVariants.{Alone}
 use Rattle.cstn_sentences.specs.declared.lines.Point.{Point}
-use Rattle.cstn_sentences.specs.declared.lines.Literal.{Literal}
 use Rattle.cstn_sentences.specs.declared.lines.Says.{Says}
 use Rattle.cstn_sentences.specs.declared.lines.Says.TheVariants.{At, By, Between, ByAfter, Within, NotBefore, Together}
 use Rattle.cstn_sentences.specs.Lines.{Rule, rule}
@@ -16,7 +15,7 @@ use Rattle.cstn_sentences.specs.Spans.{range_read}
 use Rattle.cstn_sentences.specs.Grammar.{rule_read}
 use Rattle.cstn_sentences.specs.Printed.{range_word, label_words, says_words, rule_words}
 use Rattle.cstn_sentences.specs.WrittenWords.{IsReadAs}
-use Rattle.cstn_sentences.specs.Sentences.{ticks, from_to, from_on, literals, since_words, rule_of, counted_from, since_says, range_says, least_says, is_same_label, is_range, are_turned, are_one_range, is_pair, pair_rule, alone_rule}
+use Rattle.cstn_sentences.specs.Sentences.{ticks, from_to, from_on, literals, since_words, rule_of, counted_from, range_says, least_says, is_same_label, is_range, are_turned, are_one_range, is_pair, pair_rule, alone_rule}
 use Rattle.cstn_sentences.proofs.WrittenNumbers.{from_back, to_back, single_back}
 use Rattle.cstn_sentences.proofs.WrittenLines.{label_literals, at_line, by_line, by_after_line, within_line, not_before_line, together_line, between_line, rule_line}
 use Rattle.cstn_sentences.proofs.LineWords.{range_is_word, from_is_word, AreWords}

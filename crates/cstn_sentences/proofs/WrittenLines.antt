@@ -1,9 +1,8 @@
 -- Lines are read from what is written of them.
-use Rattle.std.proofs.Common.{◌≡◌, ◌≢◌, ℕ, zero, suc, ◌+◌, ◌<◌, ◌≤◌, Bool, true, false, List, [], ◌∷◌, ◌++◌, length, refl, ap, sym, ◌∙◌, arith, append-nil, Option, Some, None}
-use Rattle.std.specs.Prelude.{◌==◌, ◌&&◌, ◌||◌, nat_eq, All, slice_index_or, codes, bytes_eq, Result, Ok, Err, if◌then◌else◌, ℤ, pos, negsuc, neg_ℤ, int_le}
+use Rattle.std.proofs.Common.{◌≡◌, ℕ, zero, suc, ◌<◌, ◌≤◌, Bool, true, false, List, [], ◌∷◌, ◌++◌, length, refl, ap, ◌∙◌, arith, Option, Some}
+use Rattle.std.specs.Prelude.{nat_eq, All, codes, Result, Ok, if◌then◌else◌, ℤ, pos, negsuc, int_le}
 use Rattle.std.specs.List.{list_all}
 use Rattle.std.specs.Option.{option_map}
-use Rattle.std.proofs.lemmas.Bool.{false≢true}
 use Rattle.std.proofs.lemmas.List.Elements.{All-nil, All-cons, All-append}
 use Rattle.cstn_label.specs.declared.marks.Mark.{Mark}
 use Rattle.cstn_label.specs.declared.marks.Mark.TheVariants.{Absent, Yes, No, Unknown}
@@ -21,14 +20,14 @@ use Rattle.cstn_sentences.specs.declared.lines.Literal.{Literal}
 use Rattle.cstn_sentences.specs.declared.lines.Says.{Says}
 use Rattle.cstn_sentences.specs.declared.lines.Says.TheVariants.{At, By, Between, ByAfter, Within, NotBefore, Together}
 use Rattle.cstn_sentences.specs.declared.lines.Expects.TheVariants.{Since, If}
-use Rattle.cstn_sentences.specs.Lines.{Rule, Line, rule, deadline}
+use Rattle.cstn_sentences.specs.Lines.{Line, rule, deadline}
 use Rattle.cstn_sentences.specs.Spelling.{name_of, spelling, is_prop}
 use Rattle.cstn_sentences.specs.Spans.{time_read, span_read, range_read}
-use Rattle.cstn_sentences.specs.Grammar.{Words, Rest, Read, is, past, begins_by, one, ended, nothing_yet, rest_read, rule_by, rule_read, named_rule, line_read}
-use Rattle.cstn_sentences.specs.Printed.{span_word, range_word, most_word, label_words, says_words, rule_words, deadline_words}
-use Rattle.cstn_sentences.specs.Sentences.{ticks, asserted, literal, literals_below, literals}
+use Rattle.cstn_sentences.specs.Grammar.{Words, Rest, Read, is, past, begins_by, one, ended, rule_by, rule_read, named_rule, line_read}
+use Rattle.cstn_sentences.specs.Printed.{span_word, range_word, most_word, label_words, deadline_words}
+use Rattle.cstn_sentences.specs.Sentences.{ticks, literal, literals_below, literals}
 use Rattle.cstn_sentences.proofs.SpelledNames.{name_back}
-use Rattle.cstn_sentences.proofs.WrittenNumbers.{and_both, is_of_ticks, span_bytes, span_some, span_back, time_back, small_enough}
+use Rattle.cstn_sentences.proofs.WrittenNumbers.{and_both, is_of_ticks, span_bytes, span_some, span_back, time_back}
 use Rattle.cstn_sentences.proofs.WrittenRests.{IsLiteral, no_keyword, moment_of, label_alone, since_back}
 
 -- ---- literals

@@ -1,6 +1,6 @@
 -- Numbers of ticks and ranges are read from what is written of them.
-use Rattle.std.proofs.Common.{◌≡◌, ◌≢◌, ℕ, zero, suc, ◌+◌, ◌<◌, ◌≤◌, ◌^◌, Bool, true, false, not, List, [], ◌∷◌, ◌++◌, length, refl, ap, sym, ◌∙◌, arith, append-nil, Option, Some, None}
-use Rattle.std.specs.Prelude.{◌==◌, ◌||◌, ◌&&◌, nat_lt, nat_le, min, All, decimal, ℤ, pos, negsuc, neg_ℤ, nat_abs, int_le, int_lt, ◌<ℤ◌, codes, if◌then◌else◌}
+use Rattle.std.proofs.Common.{◌≡◌, ◌≢◌, ℕ, suc, ◌+◌, ◌<◌, ◌≤◌, ◌^◌, Bool, true, false, List, [], ◌∷◌, ◌++◌, length, refl, ap, sym, ◌∙◌, arith, append-nil, Option, Some, None}
+use Rattle.std.specs.Prelude.{◌==◌, ◌||◌, ◌&&◌, nat_lt, min, All, decimal, ℤ, pos, negsuc, int_le, int_lt, codes, if◌then◌else◌}
 use Rattle.std.specs.List.{list_all}
 use Rattle.std.specs.Option.{option_map}
 use Rattle.std.specs.Char.{is_ascii_digit}
@@ -11,15 +11,14 @@ use Rattle.std.proofs.lemmas.List.Folds.{list_all-append}
 use Rattle.std.proofs.lemmas.Fmt.{digits_decimal, decimal_nonempty}
 use Rattle.cstn_markup.specs.Bytes.{◌>>=◌, when}
 use Rattle.cstn_text.specs.Cuts.{cut_at}
-use Rattle.cstn_text.specs.Numbers.{is_numeral, number_read, printed_number, printed_value}
+use Rattle.cstn_text.specs.Numbers.{is_numeral}
 use Rattle.cstn_text.proofs.CutLemmas.{cut_back, cut_joined}
 use Rattle.cstn_text.proofs.NumberLemmas.{digits, number_back}
 use Rattle.cstn_sentences.specs.Limits.{most_ticks}
 use Rattle.cstn_sentences.specs.Judged.{is_sized}
 use Rattle.cstn_sentences.specs.declared.lines.Span.{Span}
-use Rattle.cstn_sentences.specs.declared.lines.Range.{Range}
 use Rattle.cstn_sentences.specs.Spans.{digits_read, ticks_read, after, time_by, time_read, negated, span_read, range_to, past_point, range_by, range_read}
-use Rattle.cstn_sentences.specs.Printed.{span_word, most_word, range_word}
+use Rattle.cstn_sentences.specs.Printed.{span_word, range_word}
 use Rattle.cstn_sentences.specs.Sentences.{ticks, from_to, from_on}
 
 -- ---- texts that aren't cut

@@ -1,19 +1,18 @@
 -- What a rule counts from and its label are read from what is written of them.
-use Rattle.std.proofs.Common.{◌≡◌, ℕ, Bool, true, false, List, [], ◌∷◌, ◌++◌, length, refl, ap, sym, ◌∙◌, arith, append-nil, append_assoc, Option, Some, None}
-use Rattle.std.specs.Prelude.{◌==◌, ◌||◌, All, codes, flat_map, bytes_eq, Result, Ok, Err, if◌then◌else◌}
+use Rattle.std.proofs.Common.{◌≡◌, ℕ, Bool, true, false, List, [], ◌∷◌, ◌++◌, length, refl, ap, sym, ◌∙◌, arith, append-nil, append_assoc, Option, Some}
+use Rattle.std.specs.Prelude.{◌||◌, All, codes, flat_map, Ok, Err, if◌then◌else◌}
 use Rattle.std.specs.Option.{option_map}
 use Rattle.std.proofs.lemmas.List.Elements.{All-head, All-tail}
 use Rattle.cstn_markup.specs.Bytes.{when}
 use Rattle.cstn_text.specs.Names.{IsName}
 use Rattle.cstn_sentences.specs.Results.{◌>>=◌, or_refused}
 use Rattle.cstn_sentences.specs.declared.lines.Side.TheVariants.{Alone}
-use Rattle.cstn_sentences.specs.declared.lines.Point.{Point}
 use Rattle.cstn_sentences.specs.declared.lines.Reference.{Reference}
 use Rattle.cstn_sentences.specs.declared.lines.Reference.TheVariants.{Moment}
 use Rattle.cstn_sentences.specs.declared.lines.Literal.{Literal}
 use Rattle.cstn_sentences.specs.declared.lines.Expects.{Expects}
 use Rattle.cstn_sentences.specs.declared.lines.Expects.TheVariants.{Since, AndOrIf, If, Asserted, Negated, And}
-use Rattle.cstn_sentences.specs.Spelling.{begins_line, is_of_rule, is_between, is_keyword, needs_quotes, spelling, quoted, name_of, is_prop}
+use Rattle.cstn_sentences.specs.Spelling.{begins_line, is_of_rule, is_between, needs_quotes, spelling, name_of, is_prop}
 use Rattle.cstn_sentences.specs.Grammar.{Words, Rest, is, expecting, with_reference, with_literal, after_word, may_end, rest_read}
 use Rattle.cstn_sentences.specs.Printed.{said_words, literal_words, label_words}
 use Rattle.cstn_sentences.proofs.SpelledNames.{name_back, bare_parts, spelled_other}

@@ -1,5 +1,5 @@
 -- Steps are read from their lines.
-use Rattle.std.proofs.Common.{◌≡◌, ℕ, ◌<◌, ◌≤◌, Bool, true, false, List, [], ◌∷◌, ◌++◌, refl, ap, sym, ◌∙◌, arith, Option, Some, None}
+use Rattle.std.proofs.Common.{◌≡◌, ℕ, ◌<◌, ◌≤◌, Bool, true, false, List, [], ◌∷◌, ◌++◌, refl, ap, ◌∙◌, arith, Option, Some, None}
 use Rattle.std.specs.Prelude.{◌==◌, All, slice_index_or, codes, Result, Ok, if◌then◌else◌, pos}
 use Rattle.std.specs.Option.{option_map}
 use Rattle.cstn_markup.specs.Bytes.{when}

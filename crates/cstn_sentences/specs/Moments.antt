@@ -1,16 +1,13 @@
 -- What sentences say, in the words of moments.
-use Rattle.std.specs.Prelude.{ℕ, ◌≡◌, ◌+◌, ◌<◌, List, Option, Some, None, ℤ, pos, ◌+ℤ◌, ◌≤ℤ◌}
+use Rattle.std.specs.Prelude.{ℕ, ◌≡◌, List, Option, Some, None, ℤ, pos, ◌+ℤ◌, ◌≤ℤ◌}
 use Rattle.std.specs.List.{All}
-use Rattle.cstn_net.specs.Networks.{Constraint}
 use Rattle.cstn_net.specs.Strategies.{Schedule, Meets}
-use Rattle.cstn_lift.specs.Labelled.{Labelled}
 use Rattle.cstn_graphml.specs.DrawnGraph.{DrawnConstraint}
 use Rattle.cstn_graphml.specs.Networks.{constraint_drawn}
 use Rattle.cstn_sentences.specs.declared.lines.Says.{Says}
 use Rattle.cstn_sentences.specs.declared.lines.Says.TheVariants.{At, By, Between, ByAfter, Within, NotBefore, Together}
 use Rattle.cstn_sentences.specs.declared.lines.Span.{Span}
 use Rattle.cstn_sentences.specs.Meaning.{Moment_after, on_clock}
-use Rattle.cstn_label.specs.Labels.{Label}
 
 -- the tick of a moment in a schedule: so many ticks after its time-point
 abbrev pub tick_of : Schedule → Moment_after → ℤ

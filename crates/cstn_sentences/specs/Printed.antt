@@ -1,5 +1,5 @@
 -- The words of what a line says, and its text: times in ticks, and one space between words.
-use Rattle.std.specs.Prelude.{ℕ, Bool, true, false, ◌&&◌, ◌==◌, List, [], ◌∷◌, ◌++◌, flat_map, Option, Some, None, if◌then◌else◌, codes, int_le, nat_abs}
+use Rattle.std.specs.Prelude.{ℕ, Bool, true, false, ◌==◌, List, [], ◌∷◌, ◌++◌, flat_map, Option, Some, None, if◌then◌else◌, codes, int_le, nat_abs}
 use Rattle.cstn_text.specs.Numbers.{printed_value}
 use Rattle.cstn_sentences.specs.declared.lines.Span.{Span}
 use Rattle.cstn_sentences.specs.declared.lines.Range.{Range}

@@ -1,5 +1,5 @@
 -- A labelled network in sentences.
-use Rattle.std.specs.Prelude.{ℕ, zero, suc, Bool, true, false, ◌&&◌, ◌||◌, not, ◌==◌, List, [], ◌∷◌, ◌++◌, map, flat_map, slice_index_or, Option, Some, None, is_some, option_map, option_to_list, if◌then◌else◌, codes, ℤ, pos, neg_ℤ, int_le}
+use Rattle.std.specs.Prelude.{ℕ, zero, suc, Bool, true, false, ◌&&◌, ◌||◌, not, ◌==◌, List, [], ◌∷◌, ◌++◌, flat_map, slice_index_or, Option, Some, None, is_some, option_map, option_to_list, if◌then◌else◌, ℤ, pos, neg_ℤ, int_le}
 use Rattle.cstn_label.specs.declared.marks.Mark.{Mark}
 use Rattle.cstn_label.specs.declared.marks.Mark.TheVariants.{Absent, Yes, No, Unknown}
 use Rattle.cstn_label.specs.Labels.{Label}
@@ -10,7 +10,6 @@ use Rattle.cstn_lift.specs.Labelled.{Labelled, label_in}
 use Rattle.cstn_sentences.specs.declared.lines.Span.{Span}
 use Rattle.cstn_sentences.specs.declared.lines.Range.{Range}
 use Rattle.cstn_sentences.specs.declared.lines.Side.TheVariants.{Alone}
-use Rattle.cstn_sentences.specs.declared.lines.Point.{Point}
 use Rattle.cstn_sentences.specs.declared.lines.Reference.{Reference}
 use Rattle.cstn_sentences.specs.declared.lines.Reference.TheVariants.{Moment}
 use Rattle.cstn_sentences.specs.declared.lines.Literal.{Literal}

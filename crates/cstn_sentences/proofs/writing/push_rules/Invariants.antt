@@ -1,5 +1,4 @@
 use Rattle.std.proofs.Common.{◌≡◌, ◌++◌, All, length, map}
-use Rattle.cstn_net.specs.Networks.{count}
 use Rattle.cstn_net.specs.Read.{the_network, the_constraint, IsInRange}
 use Rattle.cstn_sentences.specs.Sentences.{rules_text}
 use Rattle.cstn_sentences.proofs.writing.push_rules.Given as goal
