@@ -89,12 +89,12 @@ pub by_line : (point : Point) (v : ℤ) (ls : List Literal) → is_sized v ≡ t
 by_line point v ls sized timely all =
     let words : Words = label_words ls in
     ap (λ (o : Read Span). o >>= λ r.
-      if begins_by (codes "after") r.1 then (past (codes "after") r.1 >>= rule_by point (ByAfter r.0) Since)
-      else (demand (int_le (pos 0) r.0.ticks) (length r.1) >>= λ timely. rule_by point (By r.0) If r.1))
+    if begins_by (codes "after") r.1 then (past (codes "after") r.1 >>= rule_by point (ByAfter r.0) Since)
+    else (demand (int_le (pos 0) r.0.ticks) (length r.1) >>= λ timely. rule_by point (By r.0) If r.1))
     (one_read span_read (span_word (ticks v)) words (ticks v) (span_back v sized))
     ∙ ap (λ (b : Bool).
-      if b then (past (codes "after") words >>= rule_by point (ByAfter (ticks v)) Since)
-      else (demand (int_le (pos 0) v) (length words) >>= λ timely. rule_by point (By (ticks v)) If words)) (no_after ls)
+    if b then (past (codes "after") words >>= rule_by point (ByAfter (ticks v)) Since)
+    else (demand (int_le (pos 0) v) (length words) >>= λ timely. rule_by point (By (ticks v)) If words)) (no_after ls)
     ∙ ap (λ (b : Bool). demand b (length words) >>= λ timely. rule_by point (By (ticks v)) If words) timely
     ∙ by_alone point (By (ticks v)) ls all
 
@@ -103,8 +103,8 @@ pub by_after_line : (point : Point) (v : ℤ) (name : List ℕ) (ls : List Liter
 by_after_line point v name ls sized ok all =
     let words : Words = codes "after" ∷ spelling name ∷ label_words ls in
     ap (λ (o : Read Span). o >>= λ r.
-      if begins_by (codes "after") r.1 then (past (codes "after") r.1 >>= rule_by point (ByAfter r.0) Since)
-      else (demand (int_le (pos 0) r.0.ticks) (length r.1) >>= λ timely. rule_by point (By r.0) If r.1))
+    if begins_by (codes "after") r.1 then (past (codes "after") r.1 >>= rule_by point (ByAfter r.0) Since)
+    else (demand (int_le (pos 0) r.0.ticks) (length r.1) >>= λ timely. rule_by point (By r.0) If r.1))
     (one_read span_read (span_word (ticks v)) words (ticks v) (span_back v sized))
     ∙ by_since point (ByAfter (ticks v)) name ls ok all
 

@@ -122,6 +122,6 @@ point_back m names x well named =
 pub deadline_back : (n : ℕ) → is_sized (pos n) ≡ true → IsReadAs (deadline_words (ticks (pos n))) (deadline (ticks (pos n)))
 deadline_back n sized = record {
   cut = words_back (codes "deadline") (span_word (ticks (pos n)) ∷ []) (plain_word (codes "deadline") (omega arith) refl refl refl)
-    (one_more (span_word (ticks (pos n))) [] (span_is_word (pos n) sized) no_words);
+      (one_more (span_word (ticks (pos n))) [] (span_is_word (pos n) sized) no_words);
   read = deadline_line n sized;
 }

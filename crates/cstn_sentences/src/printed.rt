@@ -126,12 +126,7 @@ fn asserted(mark: Mark) -> Option<bool>
     }
 }
 
-fn push_literal(
-    text: &mut Vec<u8>,
-    joint: &[u8],
-    p: Prop,
-    holds: bool,
-) -> Result<(), AllocError>
+fn push_literal(text: &mut Vec<u8>, joint: &[u8], p: Prop, holds: bool) -> Result<(), AllocError>
     ensures { OnOk result (text.new.items ≡ text.old.items ++ spaced (joint.now ∷ said_words holds (letter_of p.index ∷ []))) }
 {
     push_word(text, joint)?;

@@ -12,8 +12,8 @@ ghost use Rattle.cstn_sentences.specs.Sentences.{since_words, observed_at, ticks
 ghost use Rattle.cstn_sentences.specs.NumbersSeen.{number_seen};
 
 use crate::lines::{Range, Says, Span};
-use crate::printed::{push_label, push_number, push_observed, push_says};
 use crate::names::push_name;
+use crate::printed::{push_label, push_number, push_observed, push_says};
 use cstn_label::{Label, NodeId, labels_are_their_marks};
 use cstn_lift::Labelled;
 use cstn_net::{Constraint, Network};
@@ -67,12 +67,7 @@ fn has_step(net: &Network, x: NodeId) -> bool
     x.0 != 0 || net.observes(x).is_some()
 }
 
-fn push_step(
-    text: &mut Vec<u8>,
-    net: &Labelled,
-    names: &Names,
-    x: NodeId,
-) -> Result<(), AllocError>
+fn push_step(text: &mut Vec<u8>, net: &Labelled, names: &Names, x: NodeId) -> Result<(), AllocError>
     requires named { length names.now ≡ count (the_network net.now.base) }
     requires node { x.0 < count (the_network net.now.base) }
     ensures { OnOk result (text.new.items ≡ text.old.items ++ line_text (step_words (step_of (the_labelled net.now) names.now x.0))) }
@@ -198,7 +193,14 @@ fn push_pair(
     ensures { OnOk result (text.new.items ≡ text.old.items ++ line_text (rule_words (pair_rule names.now (the_constraint c.now) (the_constraint d.now)))) }
 {
     let y = counted_from(c.to);
-    push_rule(text, names, c.from, range_says(y, negated(c.most), d.most), y, c.label)
+    push_rule(
+        text,
+        names,
+        c.from,
+        range_says(y, negated(c.most), d.most),
+        y,
+        c.label,
+    )
 }
 
 fn push_alone(text: &mut Vec<u8>, names: &Names, c: &Constraint) -> Result<(), AllocError>
@@ -210,9 +212,23 @@ fn push_alone(text: &mut Vec<u8>, names: &Names, c: &Constraint) -> Result<(), A
     }
     if c.most <= 0 {
         let y = counted_from(c.to);
-        return push_rule(text, names, c.from, least_says(y, negated(c.most)), y, c.label);
+        return push_rule(
+            text,
+            names,
+            c.from,
+            least_says(y, negated(c.most)),
+            y,
+            c.label,
+        );
     }
-    push_rule(text, names, c.to, Says::ByAfter(ticks(c.most)), Some(c.from), c.label)
+    push_rule(
+        text,
+        names,
+        c.to,
+        Says::ByAfter(ticks(c.most)),
+        Some(c.from),
+        c.label,
+    )
 }
 
 fn push_rule(
