@@ -15,11 +15,13 @@ mod WrittenRules
 pub mod SpelledNames
 pub mod OneWord
 pub mod WrittenNumbers
+pub mod SpelledWords
 pub mod WrittenRests
 pub mod WrittenLines
 pub mod LineWords
 pub mod RuleWords
 pub mod WrittenSteps
 pub mod WrittenForms
+pub mod TextLines
 -- What sentences say of moments.
 pub mod MomentLemmas

@@ -1,6 +1,8 @@
 -- What is written of a line is its words, one each.
-use Rattle.std.proofs.Common.{◌≡◌, ℕ, ◌<◌, ◌≤◌, Bool, true, false, List, [], ◌∷◌, ◌++◌, length, refl, ap, ◌∙◌, arith, length-append, Some}
-use Rattle.std.specs.Prelude.{◌==◌, ◌&&◌, ◌||◌, All, codes, flat_map, if◌then◌else◌, ℤ, int_le}
+use Rattle.std.proofs.Common.{◌≡◌, ◌≢◌, ℕ, zero, suc, ◌<◌, ◌≤◌, Bool, true, false, List, [], ◌∷◌, ◌++◌, length, refl, ap, ◌∙◌, arith, length-append, Option, Some, None}
+use Rattle.std.specs.Prelude.{◌==◌, ◌&&◌, ◌||◌, nat_le, All, codes, flat_map, if◌then◌else◌, ℤ, pos, int_le}
+use Rattle.std.specs.Str.{IsAscii}
+use Rattle.std.proofs.lemmas.Str.{IsUtf8-from_ascii}
 use Rattle.std.specs.List.{list_any, list_all}
 use Rattle.std.proofs.lemmas.List.Elements.{All-nil, All-cons, All-append, All-head, All-tail}
 use Rattle.std.proofs.lemmas.List.Folds.{list_all-append}
@@ -9,38 +11,71 @@ use Rattle.cstn_label.specs.Letters.{letter_of}
 use Rattle.cstn_sentences.specs.Judged.{is_sized}
 use Rattle.cstn_sentences.specs.declared.lines.Literal.{Literal}
 use Rattle.cstn_sentences.specs.Spelling.{begins_with, is_letter}
-use Rattle.cstn_sentences.specs.WrittenWords.{IsOneWord}
+use Rattle.cstn_sentences.specs.Words.{is_closed}
+use Rattle.cstn_sentences.specs.WrittenWords.{IsWritten}
 use Rattle.cstn_sentences.specs.Grammar.{Words}
 use Rattle.cstn_sentences.specs.Printed.{span_word, most_word, range_word, said_words, literal_words, label_words}
 use Rattle.cstn_sentences.specs.Sentences.{ticks, from_to, from_on}
 use Rattle.cstn_sentences.proofs.OneWord.{bare_word}
-use Rattle.cstn_sentences.proofs.WrittenNumbers.{and_both, is_of_ticks, span_bytes, span_some}
+use Rattle.cstn_sentences.proofs.WrittenNumbers.{and_both, free_of, is_of_ticks, span_bytes, span_some}
 
 -- ---- words without names
 
--- bytes that aren't white, of which the first is no quote and begins no comment, are a word
-pub plain_word : (w : List ℕ) → 1 ≤ length w → list_any is_white w ≡ false → begins_with 34 w ≡ false → begins_with 35 w ≡ false → IsOneWord w
-plain_word [] some black quote hash = absurd (omega (arith, some))
-plain_word (b ∷ w) some black quote hash = bare_word b w black quote hash
+-- the bytes that ASCII shows, but for the space
+abbrev pub is_visible : ℕ → Bool
+is_visible b = nat_le 33 b && nat_le b 126
+
+black_of : (b : ℕ) → is_visible b ≡ true → is_white b ≡ false
+black_of b e = grind arith
+
+visible_black : (text : List ℕ) → list_all is_visible text ≡ true → list_any is_white text ≡ false
+visible_black [] all = refl
+visible_black (b ∷ text) all =
+    let parts = and_both (is_visible b) (list_all is_visible text) all in
+    rw (black_of b parts.0, visible_black text parts.1) refl
+
+small_of : (b : ℕ) → is_visible b ≡ true → b < 128
+small_of b e = grind arith
+
+visible_ascii : (text : List ℕ) → list_all is_visible text ≡ true → IsAscii text
+visible_ascii [] all i = omega arith
+visible_ascii (b ∷ text) all zero = small_of b (and_both (is_visible b) (list_all is_visible text) all).0
+visible_ascii (b ∷ text) all (suc i) = visible_ascii text (and_both (is_visible b) (list_all is_visible text) all).1 i
+
+pub closed_first : (b : ℕ) (w : List ℕ) → (b == 34) ≡ false → is_closed (b ∷ w) ≡ true
+closed_first b w quote = rw quote refl
+
+visible_word : (b : ℕ) (w : List ℕ) → list_all is_visible (b ∷ w) ≡ true → (b == 34) ≡ false → (b == 35) ≡ false → IsWritten (b ∷ w)
+visible_word b w all quote hash = record {
+  one = bare_word b w (visible_black (b ∷ w) all) quote hash;
+  utf8 = IsUtf8-from_ascii (b ∷ w) (visible_ascii (b ∷ w) all);
+  lone = free_of is_visible 10 (b ∷ w) all refl;
+  closed = closed_first b w quote;
+}
+
+-- visible bytes, of which the first is no quote and begins no comment, are a word
+pub plain_word : (w : List ℕ) → 1 ≤ length w → list_all is_visible w ≡ true → begins_with 34 w ≡ false → begins_with 35 w ≡ false → IsWritten w
+plain_word [] some all quote hash = absurd (omega (arith, some))
+plain_word (b ∷ w) some all quote hash = visible_word b w all quote hash
 
 -- the bytes of a range: those of numbers of ticks, and points
 abbrev is_of_range : ℕ → Bool
 is_of_range b = is_of_ticks b || b == 46
 
-of_range : (b : ℕ) → is_of_range b ≡ true → (is_white b ≡ false) × ((b == 34) ≡ false) × ((b == 35) ≡ false)
+of_range : (b : ℕ) → is_of_range b ≡ true → (is_visible b ≡ true) × ((b == 34) ≡ false) × ((b == 35) ≡ false)
 of_range b e = grind arith
 
-range_black : (text : List ℕ) → list_all is_of_range text ≡ true → list_any is_white text ≡ false
-range_black [] all = refl
-range_black (b ∷ text) all =
+range_visible : (text : List ℕ) → list_all is_of_range text ≡ true → list_all is_visible text ≡ true
+range_visible [] all = refl
+range_visible (b ∷ text) all =
     let parts = and_both (is_of_range b) (list_all is_of_range text) all in
-    rw ((of_range b parts.0).0, range_black text parts.1) refl
+    rw ((of_range b parts.0).0, range_visible text parts.1) refl
 
-numbers_word : (text : List ℕ) → 1 ≤ length text → list_all is_of_range text ≡ true → IsOneWord text
+numbers_word : (text : List ℕ) → 1 ≤ length text → list_all is_of_range text ≡ true → IsWritten text
 numbers_word [] some all = absurd (omega (arith, some))
 numbers_word (b ∷ text) some all =
     let first = of_range b (and_both (is_of_range b) (list_all is_of_range text) all).0 in
-    bare_word b text (range_black (b ∷ text) all) first.1 first.2
+    visible_word b text (range_visible (b ∷ text) all) first.1 first.2
 
 ticks_of_range : (b : ℕ) → is_of_ticks b ≡ true → is_of_range b ≡ true
 ticks_of_range b e = grind arith
@@ -55,7 +90,7 @@ span_range : (v : ℤ) → is_sized v ≡ true → list_all is_of_range (span_wo
 span_range v sized = all_of_range (span_word (ticks v)) (span_bytes v sized)
 
 -- a number of ticks is a word
-pub span_is_word : (v : ℤ) → is_sized v ≡ true → IsOneWord (span_word (ticks v))
+pub span_is_word : (v : ℤ) → is_sized v ≡ true → IsWritten (span_word (ticks v))
 span_is_word v sized = numbers_word (span_word (ticks v)) (span_some v sized) (span_range v sized)
 
 both_pass : (p : ℕ → Bool) (xs ys : List ℕ) → list_all p xs ≡ true → list_all p ys ≡ true → list_all p (xs ++ ys) ≡ true
@@ -64,7 +99,7 @@ both_pass p xs ys a b = list_all-append p xs ys ∙ ap (λ (x : Bool). x && list
 longer : (xs ys : List ℕ) → 1 ≤ length xs → 1 ≤ length (xs ++ ys)
 longer xs ys some = omega (arith, some, length-append xs ys)
 
-range_text : (v : ℤ) (most : List ℕ) → is_sized v ≡ true → list_all is_of_range most ≡ true → IsOneWord (span_word (ticks v) ++ most)
+range_text : (v : ℤ) (most : List ℕ) → is_sized v ≡ true → list_all is_of_range most ≡ true → IsWritten (span_word (ticks v) ++ most)
 range_text v most sized all =
     numbers_word (span_word (ticks v) ++ most) (longer (span_word (ticks v)) most (span_some v sized)) (both_pass is_of_range (span_word (ticks v)) most (span_range v sized) all)
 
@@ -73,47 +108,47 @@ most_at b true sized = refl
 most_at b false sized = span_range b sized
 
 -- a range is a word
-pub range_is_word : (a b : ℤ) → is_sized a ≡ true → is_sized b ≡ true → IsOneWord (range_word (from_to a b))
+pub range_is_word : (a b : ℤ) → is_sized a ≡ true → is_sized b ≡ true → IsWritten (range_word (from_to a b))
 range_is_word a b first last = range_text a (most_word (ticks a) (Some (ticks b))) first (most_at b (int_le b a) last)
 
-pub from_is_word : (a : ℤ) → is_sized a ≡ true → IsOneWord (range_word (from_on a))
+pub from_is_word : (a : ℤ) → is_sized a ≡ true → IsWritten (range_word (from_on a))
 from_is_word a sized = range_text a (codes "..") sized refl
 
 -- ---- labels
 
-letter_shape : (b : ℕ) → is_letter (b ∷ []) ≡ true → (list_any is_white (b ∷ []) ≡ false) × ((b == 34) ≡ false) × ((b == 35) ≡ false)
+letter_shape : (b : ℕ) → is_letter (b ∷ []) ≡ true → (list_all is_visible (b ∷ []) ≡ true) × ((b == 34) ≡ false) × ((b == 35) ≡ false)
 letter_shape b e = grind arith
 
 -- a letter is a word
-pub letter_is_word : (p : ℕ) → p < 52 → IsOneWord (letter_of p ∷ [])
+pub letter_is_word : (p : ℕ) → p < 52 → IsWritten (letter_of p ∷ [])
 letter_is_word p small =
     let shape = letter_shape (letter_of p) (letter_fits p small) in
-    bare_word (letter_of p) [] shape.0 shape.1 shape.2
+    visible_word (letter_of p) [] shape.0 shape.1 shape.2
   where
     letter_fits : (p : ℕ) → p < 52 → is_letter (letter_of p ∷ []) ≡ true
     letter_fits p small = grind arith
 
 abbrev pub AreWords : Words → Type 0
-AreWords words = All IsOneWord words
+AreWords words = All IsWritten words
 
-pub one_more : (word : List ℕ) (words : Words) → IsOneWord word → AreWords words → AreWords (word ∷ words)
-one_more word words one all = All-cons IsOneWord word words one all
+pub one_more : (word : List ℕ) (words : Words) → IsWritten word → AreWords words → AreWords (word ∷ words)
+one_more word words one all = All-cons IsWritten word words one all
 
 pub no_words : AreWords []
-no_words = All-nil IsOneWord
+no_words = All-nil IsWritten
 
 -- the proposition of a literal is a word
 abbrev pub HasWord : Literal → Type 0
-HasWord l = IsOneWord l.prop
+HasWord l = IsWritten l.prop
 
-said_are : (holds : Bool) (prop : List ℕ) → IsOneWord prop → AreWords (said_words holds prop)
+said_are : (holds : Bool) (prop : List ℕ) → IsWritten prop → AreWords (said_words holds prop)
 said_are true prop one = one_more prop [] one no_words
 said_are false prop one = one_more (codes "not") (prop ∷ []) (plain_word (codes "not") (omega arith) refl refl refl) (one_more prop [] one no_words)
 
 later_are : (ls : List Literal) → All HasWord ls → AreWords (flat_map (λ y. codes "and" ∷ literal_words y) ls)
 later_are [] all = no_words
 later_are (l ∷ ls) all =
-    All-append IsOneWord (codes "and" ∷ literal_words l) (flat_map (λ y. codes "and" ∷ literal_words y) ls)
+    All-append IsWritten (codes "and" ∷ literal_words l) (flat_map (λ y. codes "and" ∷ literal_words y) ls)
     (one_more (codes "and") (literal_words l) (plain_word (codes "and") (omega arith) refl refl refl) (said_are l.holds l.prop (All-head HasWord l ls all)))
     (later_are ls (All-tail HasWord l ls all))
 
@@ -122,4 +157,4 @@ pub label_are : (ls : List Literal) → All HasWord ls → AreWords (label_words
 label_are [] all = no_words
 label_are (l ∷ ls) all =
     one_more (codes "if") (literal_words l ++ flat_map (λ y. codes "and" ∷ literal_words y) ls) (plain_word (codes "if") (omega arith) refl refl refl)
-    (All-append IsOneWord (literal_words l) (flat_map (λ y. codes "and" ∷ literal_words y) ls) (said_are l.holds l.prop (All-head HasWord l ls all)) (later_are ls (All-tail HasWord l ls all)))
+    (All-append IsWritten (literal_words l) (flat_map (λ y. codes "and" ∷ literal_words y) ls) (said_are l.holds l.prop (All-head HasWord l ls all)) (later_are ls (All-tail HasWord l ls all)))

@@ -121,16 +121,6 @@ first_hash : (b : ℕ) (plain : Bool) (rest : List ℕ) → is_plain_byte b ≡ 
 first_hash b true rest e other = rw e other
 first_hash b false rest e other = rw e refl
 
-no_comment : (name : List ℕ) → begins_with 35 name ≡ false → begins_with 35 (printed_name name) ≡ false
+pub no_comment : (name : List ℕ) → begins_with 35 name ≡ false → begins_with 35 (printed_name name) ≡ false
 no_comment [] e = refl
 no_comment (b ∷ name) e = first_hash b (is_plain_byte b) (printed_name name) refl e
-
--- the spelling of a name is a word
-pub spelled_is_word : (name : List ℕ) → IsName name → IsOneWord (spelling name)
-spelled_is_word name is = at (needs_quotes name) refl
-  where
-    at : (needs : Bool) → needs_quotes name ≡ needs → IsOneWord (spelling name)
-    at true e = subst IsOneWord (sym (spelled_quoted name e)) (quoted_is_word name)
-    at false e =
-        let bare = bare_parts name e in
-        subst IsOneWord (sym (spelled_bare name e)) (part_word (printed_name name) (name_part name is.some) (first_bare name bare.0) (no_comment name bare.1))

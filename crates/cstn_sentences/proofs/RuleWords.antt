@@ -13,11 +13,11 @@ use Rattle.cstn_sentences.specs.declared.lines.Says.{Says}
 use Rattle.cstn_sentences.specs.declared.lines.Says.TheVariants.{At, By, Between, ByAfter, Within, NotBefore, Together}
 use Rattle.cstn_sentences.specs.Spelling.{spelling}
 use Rattle.cstn_sentences.specs.Words.{words_of}
-use Rattle.cstn_sentences.specs.WrittenWords.{IsOneWord}
+use Rattle.cstn_sentences.specs.WrittenWords.{IsWritten}
 use Rattle.cstn_sentences.specs.Grammar.{Words}
 use Rattle.cstn_sentences.specs.Printed.{spaced, span_word, range_word, label_words, reaction_words, observed_words, says_words, rule_words}
 use Rattle.cstn_sentences.specs.Sentences.{ticks, literal, literals_below, literals, since_words, observed_after, rule_of}
-use Rattle.cstn_sentences.proofs.OneWord.{spelled_is_word, words_back}
+use Rattle.cstn_sentences.proofs.SpelledWords.{spelled_is_written}
 use Rattle.cstn_sentences.proofs.LineWords.{plain_word, span_is_word, letter_is_word, AreWords, one_more, no_words, HasWord, label_are}
 
 -- ---- labels
@@ -42,14 +42,14 @@ label_is a = label_are (literals a) (literals_have a 52 (omega arith))
 after_is : AreWords (codes "after" ∷ [])
 after_is = one_more (codes "after") [] (plain_word (codes "after") (omega arith) refl refl refl) no_words
 
-pub at_are : (r : Range) → IsOneWord (range_word r) → AreWords (says_words (At r))
+pub at_are : (r : Range) → IsWritten (range_word r) → AreWords (says_words (At r))
 at_are r one = one_more (codes "at") (range_word r ∷ []) (plain_word (codes "at") (omega arith) refl refl refl) (one_more (range_word r) [] one no_words)
 
 pub by_are : (v : ℤ) → is_sized v ≡ true → AreWords (says_words (By (ticks v)))
 by_are v sized =
     one_more (codes "by") (span_word (ticks v) ∷ []) (plain_word (codes "by") (omega arith) refl refl refl) (one_more (span_word (ticks v)) [] (span_is_word v sized) no_words)
 
-pub between_are : (r : Range) → IsOneWord (range_word r) → AreWords (says_words (Between r))
+pub between_are : (r : Range) → IsWritten (range_word r) → AreWords (says_words (Between r))
 between_are r one = one_more (range_word r) (codes "after" ∷ []) one after_is
 
 pub by_after_are : (v : ℤ) → is_sized v ≡ true → AreWords (says_words (ByAfter (ticks v)))
@@ -74,17 +74,13 @@ pub since_none : (names : List (List ℕ)) → AreWords (since_words names None)
 since_none names = no_words
 
 pub since_one : (names : List (List ℕ)) (y : ℕ) → IsName (slice_index_or names y []) → AreWords (since_words names (Some y))
-since_one names y named = one_more (spelling (slice_index_or names y [])) [] (spelled_is_word (slice_index_or names y []) named) no_words
+since_one names y named = one_more (spelling (slice_index_or names y [])) [] (spelled_is_written (slice_index_or names y []) named) no_words
 
--- the line of a rule is read as the rule's words
-pub rule_back : (names : List (List ℕ)) (x : ℕ) (says : Says) (y : Option ℕ) (label : Label) → IsName (slice_index_or names x []) → AreWords (says_words says) → AreWords (since_words names y)
-    → words_of (spelling (slice_index_or names x []) ++ spaced (says_words says ++ since_words names y ++ label_words (literals label))) ≡ rule_words (rule_of names x says y label)
-rule_back names x says y label named said since =
-    let s : Words = says_words says in
-    let w : Words = since_words names y in
-    let l : Words = label_words (literals label) in
-    let name : List ℕ = slice_index_or names x [] in
-    words_back (spelling name) (s ++ w ++ l) (spelled_is_word name named) (All-append IsOneWord (s ++ w) l (All-append IsOneWord s w said since) (label_is label))
+-- a rule is written in words, and its line is cut into them
+pub rule_are : (names : List (List ℕ)) (x : ℕ) (says : Says) (y : Option ℕ) (label : Label) → IsName (slice_index_or names x []) → AreWords (says_words says) → AreWords (since_words names y)
+    → AreWords (says_words says ++ since_words names y ++ label_words (literals label))
+rule_are names x says y label named said since =
+    All-append IsWritten (says_words says ++ since_words names y) (label_words (literals label)) (All-append IsWritten (says_words says) (since_words names y) said since) (label_is label)
 
 -- ---- steps
 

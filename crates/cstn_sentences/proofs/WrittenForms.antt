@@ -12,14 +12,16 @@ use Rattle.cstn_sentences.specs.declared.lines.Says.{Says}
 use Rattle.cstn_sentences.specs.declared.lines.Says.TheVariants.{At, By, Between, ByAfter, Within, NotBefore, Together}
 use Rattle.cstn_sentences.specs.Lines.{Rule, rule}
 use Rattle.cstn_sentences.specs.Spans.{range_read}
-use Rattle.cstn_sentences.specs.Grammar.{rule_read}
+use Rattle.cstn_sentences.specs.Grammar.{Words, rule_read}
 use Rattle.cstn_sentences.specs.Printed.{range_word, label_words, says_words, rule_words}
-use Rattle.cstn_sentences.specs.WrittenWords.{IsReadAs}
+use Rattle.cstn_sentences.specs.Spelling.{spelling}
+use Rattle.cstn_sentences.specs.WrittenWords.{IsWritten, IsReadAs}
 use Rattle.cstn_sentences.specs.Sentences.{ticks, from_to, from_on, literals, since_words, rule_of, counted_from, range_says, least_says, is_same_label, is_range, are_turned, are_one_range, is_pair, pair_rule, alone_rule}
 use Rattle.cstn_sentences.proofs.WrittenNumbers.{from_back, to_back, single_back}
 use Rattle.cstn_sentences.proofs.WrittenLines.{label_literals, at_line, by_line, by_after_line, within_line, not_before_line, together_line, between_line, rule_line}
-use Rattle.cstn_sentences.proofs.LineWords.{range_is_word, from_is_word, AreWords}
-use Rattle.cstn_sentences.proofs.RuleWords.{at_are, by_are, between_are, by_after_are, within_are, not_before_are, together_are, since_none, since_one, rule_back}
+use Rattle.cstn_sentences.proofs.LineWords.{range_is_word, from_is_word, AreWords, one_more}
+use Rattle.cstn_sentences.proofs.RuleWords.{at_are, by_are, between_are, by_after_are, within_are, not_before_are, together_are, since_none, since_one, rule_are}
+use Rattle.cstn_sentences.proofs.SpelledWords.{spelled_is_written, written_back}
 
 -- the line of a rule is read as that rule
 abbrev pub IsReadBack : List (List ℕ) → ℕ → Option ℕ → Label → Says → Type 0
@@ -64,10 +66,16 @@ point_of names x = record { name = slice_index_or names x []; side = Alone }
 form : (names : List (List ℕ)) (x : ℕ) (says : Says) (y : Option ℕ) (label : Label) → HasName names x → AreWords (says_words says) → AreWords (since_words names y)
     → rule_read (point_of names x) (says_words says ++ since_words names y ++ label_words (literals label)) ≡ Ok (rule (rule_of names x says y label))
     → IsReadBack names x y label says
-form names x says y label named said since read = record {
-  cut = rule_back names x says y label named said since;
-  read = rule_line (slice_index_or names x []) (says_words says ++ since_words names y ++ label_words (literals label)) named ∙ read;
-}
+form names x says y label named said since read =
+    let name : List ℕ = slice_index_or names x [] in
+    let behind : Words = says_words says ++ since_words names y ++ label_words (literals label) in
+    let words : AreWords behind = rule_are names x says y label named said since in
+    let first : IsWritten (spelling name) = spelled_is_written name named in
+    record {
+      written = one_more (spelling name) behind first words;
+      cut = written_back (spelling name) behind first words;
+      read = rule_line name behind named ∙ read;
+    }
 
 abbrev chosen : Bool → Bool → ℤ → ℤ → Says
 chosen same none a b = if same then (if none then Together else Between (from_to a b)) else if none then Within (ticks b) else Between (from_to a b)

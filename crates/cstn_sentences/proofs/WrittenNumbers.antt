@@ -42,7 +42,7 @@ uncut p byte text all other = at (cut_at byte text) refl
 pub and_both : (a b : Bool) → (a && b) ≡ true → (a ≡ true) × (b ≡ true)
 and_both a b e = grind arith
 
-free_of : (p : ℕ → Bool) (byte : ℕ) (text : List ℕ) → list_all p text ≡ true → p byte ≡ false → All (λ b. b ≢ byte) text
+pub free_of : (p : ℕ → Bool) (byte : ℕ) (text : List ℕ) → list_all p text ≡ true → p byte ≡ false → All (λ b. b ≢ byte) text
 free_of p byte [] all other = All-nil (λ b. b ≢ byte)
 free_of p byte (b ∷ text) all other =
     let parts = and_both (p b) (list_all p text) all in

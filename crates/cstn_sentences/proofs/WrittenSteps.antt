@@ -22,13 +22,13 @@ use Rattle.cstn_sentences.specs.Spelling.{name_of, spelling, is_letter}
 use Rattle.cstn_sentences.specs.Spans.{after, time_read}
 use Rattle.cstn_sentences.specs.Grammar.{Words, Rest, Read, past, begins_by, one, nothing_yet, rest_read, reaction_read, letter_of as letter_read, letter_or_word, observed_prop, with_reaction, observed_read, step_read, line_read}
 use Rattle.cstn_sentences.specs.Printed.{span_word, label_words, reaction_words, observed_words, step_words, deadline_words}
-use Rattle.cstn_sentences.specs.WrittenWords.{IsOneWord, IsReadAs}
+use Rattle.cstn_sentences.specs.WrittenWords.{IsWritten, IsReadAs}
 use Rattle.cstn_sentences.specs.Sentences.{ticks, literals, observed_after, observed_of, observed_at, step_of}
 use Rattle.cstn_sentences.proofs.SpelledNames.{name_back}
 use Rattle.cstn_sentences.proofs.WrittenNumbers.{time_back}
 use Rattle.cstn_sentences.proofs.WrittenRests.{IsLiteral, label_alone}
 use Rattle.cstn_sentences.proofs.WrittenLines.{label_literals, no_after, one_read, deadline_line}
-use Rattle.cstn_sentences.proofs.OneWord.{spelled_is_word, words_back}
+use Rattle.cstn_sentences.proofs.SpelledWords.{spelled_is_written, written_back}
 use Rattle.cstn_sentences.proofs.LineWords.{plain_word, span_is_word, AreWords, one_more, no_words}
 use Rattle.cstn_sentences.proofs.RuleWords.{label_is, observed_are}
 
@@ -112,16 +112,23 @@ point_back m names x well named =
     let seen : IsObservedRead observed (literals label) =
     at_point m.base.reaction (slice_index_or m.base.observes x None) (literals label) (λ p e. (well.letters x p (record { what = e }), well.soon x p (record { what = e }))) in
     let behind : Words = observed_words observed ++ label_words (literals label) in
-    let words : AreWords behind = All-append IsOneWord (observed_words observed) (label_words (literals label)) seen.words (label_is label) in
+    let words : AreWords behind = All-append IsWritten (observed_words observed) (label_words (literals label)) seen.words (label_is label) in
+    let first : IsWritten (codes "step") = plain_word (codes "step") (omega arith) refl refl refl in
+    let later : AreWords (spelling name ∷ behind) = one_more (spelling name) behind (spelled_is_written name named) words in
     record {
-      cut = words_back (codes "step") (spelling name ∷ behind) (plain_word (codes "step") (omega arith) refl refl refl) (one_more (spelling name) behind (spelled_is_word name named) words);
+      written = one_more (codes "step") (spelling name ∷ behind) first later;
+      cut = written_back (codes "step") (spelling name ∷ behind) first later;
       read = step_line name observed (literals label) named seen.back (label_literals label);
     }
 
 -- the line of the deadline is read back
 pub deadline_back : (n : ℕ) → is_sized (pos n) ≡ true → IsReadAs (deadline_words (ticks (pos n))) (deadline (ticks (pos n)))
-deadline_back n sized = record {
-  cut = words_back (codes "deadline") (span_word (ticks (pos n)) ∷ []) (plain_word (codes "deadline") (omega arith) refl refl refl)
-      (one_more (span_word (ticks (pos n))) [] (span_is_word (pos n) sized) no_words);
-  read = deadline_line n sized;
-}
+deadline_back n sized =
+    let number : List ℕ = span_word (ticks (pos n)) in
+    let first : IsWritten (codes "deadline") = plain_word (codes "deadline") (omega arith) refl refl refl in
+    let later : AreWords (number ∷ []) = one_more number [] (span_is_word (pos n) sized) no_words in
+    record {
+      written = one_more (codes "deadline") (number ∷ []) first later;
+      cut = written_back (codes "deadline") (number ∷ []) first later;
+      read = deadline_line n sized;
+    }

@@ -1,11 +1,11 @@
 //! What is written is read back, and says what it says. The calls do nothing: their contracts are the laws.
 
-ghost use Rattle.std.specs.Prelude.{◌≡◌, ◌≤◌, ◌≤ℤ◌, ◌++◌, ◌∷◌, [], ℕ, ℤ, pos, List, All, Option, Some, true, flat_map, slice_index_or};
+ghost use Rattle.std.specs.Prelude.{◌≡◌, ◌≤◌, ◌≤ℤ◌, ◌++◌, ◌∷◌, [], ℕ, ℤ, pos, List, All, Option, Some, true, flat_map, length, map, slice_index_or};
 ghost use Rattle.cstn_label.specs.Labels.{Label};
 ghost use Rattle.cstn_lift.specs.Labelled.{Labelled};
-ghost use Rattle.cstn_net.specs.Networks.{Network, Constraint, Observes, IsValue, IsWellFormed};
+ghost use Rattle.cstn_net.specs.Networks.{Network, Constraint, Observes, IsValue, IsWellFormed, count};
 ghost use Rattle.cstn_net.specs.Strategies.{Schedule, IsKnown};
-ghost use Rattle.cstn_text.specs.Names.{IsName};
+ghost use Rattle.cstn_text.specs.Names.{IsName, AreNames};
 ghost use Rattle.cstn_sentences.specs.declared.lines.Says.{Says};
 ghost use Rattle.cstn_sentences.specs.Grammar.{Words};
 ghost use Rattle.cstn_sentences.specs.Judged.{is_sized};
@@ -13,17 +13,17 @@ ghost use Rattle.cstn_sentences.specs.Lines.{deadline, step, rule};
 ghost use Rattle.cstn_sentences.specs.Meaning.{Moment_after, bounds_of, since_origin, constraints_of};
 ghost use Rattle.cstn_sentences.specs.Moments.{tick_of, IsSaid, MeetsEach};
 ghost use Rattle.cstn_sentences.specs.Printed.{spaced, span_word, deadline_words, step_words, rule_words};
-ghost use Rattle.cstn_sentences.specs.Sentences.{ticks, step_of, is_pair, pair_rule, alone_rule};
+ghost use Rattle.cstn_sentences.specs.Sentences.{ticks, step_of, is_pair, pair_rule, alone_rule, sentences};
 ghost use Rattle.cstn_sentences.specs.Spans.{span_read};
 ghost use Rattle.cstn_sentences.specs.Spelling.{name_of, spelling};
-ghost use Rattle.cstn_sentences.specs.Words.{words_of};
-ghost use Rattle.cstn_sentences.specs.WrittenWords.{IsOneWord, IsReadAs};
+ghost use Rattle.cstn_sentences.specs.Words.{words_of, lines_of};
+ghost use Rattle.cstn_sentences.specs.WrittenWords.{IsOneWord, IsWritten, IsReadAs, line_bytes, network_lines};
 
 /// The spelling of a name is one word, which is read as that name.
-#[tactic(auto, using(crate::proofs::SpelledNames::name_back, crate::proofs::OneWord::spelled_is_word))]
+#[tactic(auto, using(crate::proofs::SpelledNames::name_back))]
 pub fn names_are_read_back()
     ensures back { (name : List ℕ) → IsName name → name_of (spelling name) ≡ Some name }
-    ensures word { (name : List ℕ) → IsName name → IsOneWord (spelling name) }
+    ensures word { (name : List ℕ) → IsName name → IsWritten (spelling name) }
 {}
 
 /// Words with one space between them are read as these words.
@@ -48,6 +48,13 @@ pub fn lines_are_read_back()
         → IsReadAs (rule_words (alone_rule names c)) (rule (alone_rule names c)) }
     ensures pair { (names : List (List ℕ)) (c d : Constraint) → IsName (slice_index_or names c.from []) → IsName (slice_index_or names c.to []) → IsValue c.most
         → IsValue d.most → is_pair c d ≡ true → IsReadAs (rule_words (pair_rule names c d)) (rule (pair_rule names c d)) }
+{}
+
+/// The sentences of a network are cut into its lines; what stands behind the last LF is empty.
+#[tactic(auto, using(crate::proofs::TextLines::sentences_cut))]
+pub fn sentences_are_cut_into_lines()
+    ensures { (m : Labelled) (names : List (List ℕ)) → IsWellFormed m.base → AreNames names → length names ≡ count m.base
+        → lines_of (sentences m names) ≡ map line_bytes (network_lines m names) ++ ([] ∷ []) }
 {}
 
 /// Where the constraints of a rule are met, what it says of its time-point holds, by the moments that it counts from. The moment
