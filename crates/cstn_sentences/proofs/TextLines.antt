@@ -67,7 +67,7 @@ step_at : (m : Labelled) (names : List (List ℕ)) (x : ℕ) (has : Bool) → Is
 step_at m names x true well named = All-cons IsStepRead (step_of m names x) [] (point_back m names x well named) (All-nil IsStepRead)
 step_at m names x false well named = All-nil IsStepRead
 
-pub steps_are : (m : Labelled) (names : List (List ℕ)) (n : ℕ) → IsWellFormed m.base → AreNamed names n → All IsStepRead (steps_below m names n)
+steps_are : (m : Labelled) (names : List (List ℕ)) (n : ℕ) → IsWellFormed m.base → AreNamed names n → All IsStepRead (steps_below m names n)
 unfolding steps_below
 steps_are m names zero well named = All-nil IsStepRead
 steps_are m names (suc n) well named =
@@ -94,7 +94,7 @@ next_is : (names : List (List ℕ)) (c : Constraint) (cs : List Constraint) → 
 next_is names c [] one all = alone_back names c one.from one.to one.value
 next_is names c (d ∷ cs) one all = next_at names c d (is_pair c d) refl one (All-head (IsNamed names) d cs all)
 
-pub rules_are : (names : List (List ℕ)) (skip : ℕ) (cs : List Constraint) → All (IsNamed names) cs → All IsRuleRead (rules_after names skip cs)
+rules_are : (names : List (List ℕ)) (skip : ℕ) (cs : List Constraint) → All (IsNamed names) cs → All IsRuleRead (rules_after names skip cs)
 unfolding rules_after
 rules_are names skip [] all = All-nil IsRuleRead
 rules_are names zero (c ∷ cs) all =
@@ -143,7 +143,7 @@ deadline_sized : (n : ℕ) → n ≤ most_deadline → is_sized (pos n) ≡ true
 deadline_sized n h = grind arith
 
 -- each time-point has a name
-pub all_named : (m : Labelled) (names : List (List ℕ)) → AreNames names → length names ≡ count m.base → AreNamed names (count m.base)
+all_named : (m : Labelled) (names : List (List ℕ)) → AreNames names → length names ≡ count m.base → AreNamed names (count m.base)
 all_named m names ok each x inside = All-get_or IsName names x [] (omega (arith, inside, each)) ok.each
 
 -- the sentences of a network are cut into its lines; the last one, behind the last LF, is empty

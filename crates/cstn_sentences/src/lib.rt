@@ -22,7 +22,7 @@ mod writing;
 
 pub use errors::PlanError;
 pub use laws::{
-    lines_are_read_back, names_are_read_back, sentences_are_cut_into_lines, sentences_say_what_they_say,
+    lines_are_accepted, lines_are_read_back, names_are_read_back, sentences_are_cut_into_lines, sentences_say_what_they_say,
     ticks_are_read_back, words_are_read_back,
 };
 pub use lines::{Name, Word};
