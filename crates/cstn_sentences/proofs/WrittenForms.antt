@@ -75,9 +75,16 @@ form names x says y label named said since numbered read =
     record {
       written = one_more (spelling name) behind first words;
       short = omega (
-        arith, length-append (spelling name) (spaced behind), first.few, spaced_both (says_words says ++ since_words names y) (label_words (literals label)),
-        spaced_both (says_words says) (since_words names y), words_few (says_words says) said, words_few (since_words names y) since,
-        says_count says, since_count names y, label_few label,
+        arith,
+        length-append (spelling name) (spaced behind),
+        first.few,
+        spaced_both (says_words says ++ since_words names y) (label_words (literals label)),
+        spaced_both (says_words says) (since_words names y),
+        words_few (says_words says) said,
+        words_few (since_words names y) since,
+        says_count says,
+        since_count names y,
+        label_few label,
       );
       cut = written_back (spelling name) behind first words;
       read = rule_line name behind named ∙ read;

@@ -131,8 +131,13 @@ point_back m names x well named =
     record {
       written = one_more (codes "step") (spelling name ∷ behind) first later;
       short = omega (
-        arith, length-append (spelling name) (spaced behind), (spelled_is_written name named).few, spaced_both (observed_words observed) (label_words (literals label)),
-        words_few (observed_words observed) seen.words, seen.count, label_few label,
+        arith,
+        length-append (spelling name) (spaced behind),
+        (spelled_is_written name named).few,
+        spaced_both (observed_words observed) (label_words (literals label)),
+        words_few (observed_words observed) seen.words,
+        seen.count,
+        label_few label,
       );
       cut = written_back (codes "step") (spelling name ∷ behind) first later;
       numbered = seen.timely;

@@ -51,7 +51,6 @@ pub fn lines_are_read_back()
 {}
 
 /// A line that is read so is accepted as what it says, whatever its number is.
-#[tactic(auto, using(crate::proofs::JudgedLines::line_back))]
 pub fn lines_are_accepted()
     ensures { (n : ℕ) (words : Words) (line : Line) → IsReadAs words line → line_of n (line_bytes words) ≡ Ok line }
 {}
