@@ -19,9 +19,11 @@ pub mod SpelledWords
 pub mod WrittenRests
 pub mod WrittenLines
 pub mod LineWords
+pub mod LineLengths
 pub mod RuleWords
 pub mod WrittenSteps
 pub mod WrittenForms
 pub mod TextLines
+pub mod JudgedLines
 -- What sentences say of moments.
 pub mod MomentLemmas

@@ -40,33 +40,33 @@ label_is a = label_are (literals a) (literals_have a 52 (omega arith))
 -- ---- what is said
 
 after_is : AreWords (codes "after" ∷ [])
-after_is = one_more (codes "after") [] (plain_word (codes "after") (omega arith) refl refl refl) no_words
+after_is = one_more (codes "after") [] (plain_word (codes "after") (omega arith) (omega arith) refl refl refl) no_words
 
 pub at_are : (r : Range) → IsWritten (range_word r) → AreWords (says_words (At r))
-at_are r one = one_more (codes "at") (range_word r ∷ []) (plain_word (codes "at") (omega arith) refl refl refl) (one_more (range_word r) [] one no_words)
+at_are r one = one_more (codes "at") (range_word r ∷ []) (plain_word (codes "at") (omega arith) (omega arith) refl refl refl) (one_more (range_word r) [] one no_words)
 
 pub by_are : (v : ℤ) → is_sized v ≡ true → AreWords (says_words (By (ticks v)))
 by_are v sized =
-    one_more (codes "by") (span_word (ticks v) ∷ []) (plain_word (codes "by") (omega arith) refl refl refl) (one_more (span_word (ticks v)) [] (span_is_word v sized) no_words)
+    one_more (codes "by") (span_word (ticks v) ∷ []) (plain_word (codes "by") (omega arith) (omega arith) refl refl refl) (one_more (span_word (ticks v)) [] (span_is_word v sized) no_words)
 
 pub between_are : (r : Range) → IsWritten (range_word r) → AreWords (says_words (Between r))
 between_are r one = one_more (range_word r) (codes "after" ∷ []) one after_is
 
 pub by_after_are : (v : ℤ) → is_sized v ≡ true → AreWords (says_words (ByAfter (ticks v)))
 by_after_are v sized =
-    one_more (codes "by") (span_word (ticks v) ∷ codes "after" ∷ []) (plain_word (codes "by") (omega arith) refl refl refl)
+    one_more (codes "by") (span_word (ticks v) ∷ codes "after" ∷ []) (plain_word (codes "by") (omega arith) (omega arith) refl refl refl)
     (one_more (span_word (ticks v)) (codes "after" ∷ []) (span_is_word v sized) after_is)
 
 pub within_are : (v : ℤ) → is_sized v ≡ true → AreWords (says_words (Within (ticks v)))
 within_are v sized =
-    one_more (codes "within") (span_word (ticks v) ∷ codes "after" ∷ []) (plain_word (codes "within") (omega arith) refl refl refl)
+    one_more (codes "within") (span_word (ticks v) ∷ codes "after" ∷ []) (plain_word (codes "within") (omega arith) (omega arith) refl refl refl)
     (one_more (span_word (ticks v)) (codes "after" ∷ []) (span_is_word v sized) after_is)
 
 pub not_before_are : AreWords (says_words NotBefore)
 not_before_are = after_is
 
 pub together_are : AreWords (says_words Together)
-together_are = one_more (codes "with") [] (plain_word (codes "with") (omega arith) refl refl refl) no_words
+together_are = one_more (codes "with") [] (plain_word (codes "with") (omega arith) (omega arith) refl refl refl) no_words
 
 -- ---- rules
 
@@ -90,10 +90,10 @@ reaction_are n sized = at (n == 1)
     at : (lone : Bool) → AreWords (if lone then [] else codes "after" ∷ span_word (ticks (pos n)) ∷ [])
     at true = no_words
     at false =
-        one_more (codes "after") (span_word (ticks (pos n)) ∷ []) (plain_word (codes "after") (omega arith) refl refl refl)
+        one_more (codes "after") (span_word (ticks (pos n)) ∷ []) (plain_word (codes "after") (omega arith) (omega arith) refl refl refl)
         (one_more (span_word (ticks (pos n))) [] (span_is_word (pos n) sized) no_words)
 
 pub observed_are : (n p : ℕ) → is_sized (pos n) ≡ true → p < 52 → AreWords (observed_words (Some (observed_after n p)))
 observed_are n p sized small =
-    one_more (codes "observes") ((letter_of p ∷ []) ∷ reaction_words (ticks (pos n))) (plain_word (codes "observes") (omega arith) refl refl refl)
+    one_more (codes "observes") ((letter_of p ∷ []) ∷ reaction_words (ticks (pos n))) (plain_word (codes "observes") (omega arith) (omega arith) refl refl refl)
     (one_more (letter_of p ∷ []) (reaction_words (ticks (pos n))) (letter_is_word p small) (reaction_are n sized))

@@ -1,5 +1,5 @@
 -- The spelling of a name is one word.
-use Rattle.std.proofs.Common.{◌≡◌, ◌≢◌, ℕ, zero, suc, ◌<◌, ◌≤◌, ◌/◌, ◌%◌, Bool, true, false, List, [], ◌∷◌, ◌++◌, length, get_or, refl, ap, sym, subst, ◌∙◌, arith, append-nil, ⊎_elim, ◌⊎◌}
+use Rattle.std.proofs.Common.{◌≡◌, ◌≢◌, ℕ, zero, suc, ◌<◌, ◌≤◌, ◌/◌, ◌%◌, Bool, true, false, List, [], ◌∷◌, ◌++◌, length, length-append, ◌*◌, get_or, refl, ap, sym, subst, ◌∙◌, arith, append-nil, ⊎_elim, ◌⊎◌}
 use Rattle.std.specs.Prelude.{◌==◌, ◌||◌, ◌&&◌, nat_le, nat_lt, All, flat_map}
 use Rattle.std.specs.List.{list_any, list_all}
 use Rattle.std.specs.Fmt.{digit_glyph}
@@ -14,7 +14,7 @@ use Rattle.cstn_text.specs.Names.{IsName}
 use Rattle.cstn_text.specs.PrintedNames.{is_plain_byte, printed_byte, printed_name}
 use Rattle.cstn_text.specs.Parts.{IsOnePart}
 use Rattle.cstn_text.proofs.PartLemmas.{name_part}
-use Rattle.cstn_text.proofs.PrintedNameLemmas.{printed_utf8}
+use Rattle.cstn_text.proofs.PrintedNameLemmas.{printed_utf8, name_length}
 use Rattle.cstn_sentences.specs.Spelling.{begins_with, needs_quotes, quoted_byte, quoted, spelling}
 use Rattle.cstn_sentences.specs.Words.{words_of, is_closed}
 use Rattle.cstn_sentences.specs.Grammar.{Words}
@@ -42,6 +42,7 @@ bare_written name is e =
     let first : begins_with 34 (printed_name name) ≡ false = first_bare name bare.0 in
     record {
       one = part_word (printed_name name) part first (no_comment name bare.1);
+      few = omega (arith, is.few, (name_length name).1);
       utf8 = printed_utf8 name (IsUtf8-from_is_utf8 name is.utf8);
       lone = high_lone (printed_name name) part.high;
       closed = no_quote_closed (printed_name name) first;
@@ -76,6 +77,20 @@ quoted_shown name =
     list_all-append (λ c. nat_le 32 c) (34 ∷ flat_map quoted_byte name) (34 ∷ [])
     ∙ ap (λ (x : Bool). x && true) (inner_shown name)
 
+byte_few : (b : ℕ) (space quote plain : Bool) → (b == 32) ≡ space → (b == 34) ≡ quote → is_plain_byte b ≡ plain → length (quoted_byte b) ≤ 3
+byte_few b true quote plain s q p = rw s (omega arith)
+byte_few b false true plain s q p = rw (s, q) (omega arith)
+byte_few b false false true s q p = rw (s, q, p) (omega arith)
+byte_few b false false false s q p = rw (s, q, p) (omega arith)
+
+inner_few : (name : List ℕ) → length (flat_map quoted_byte name) ≤ 3 * length name
+inner_few [] = omega arith
+inner_few (b ∷ name) =
+    omega (arith, length-append (quoted_byte b) (flat_map quoted_byte name), byte_few b (b == 32) (b == 34) (is_plain_byte b) refl refl refl, inner_few name)
+
+quoted_few : (name : List ℕ) → length name ≤ 64 → length (quoted name) ≤ 194
+quoted_few name few = omega (arith, few, inner_few name, length-append (flat_map quoted_byte name) (34 ∷ []))
+
 or_true : (a : Bool) → (a || true) ≡ true
 or_true a = grind arith
 
@@ -101,7 +116,7 @@ high_bytes_stay (b ∷ bytes) high =
     ap (λ (bs : List ℕ). bs ++ flat_map quoted_byte bytes) (high_stays b (high 0 (omega arith)))
     ∙ ap (λ (bs : List ℕ). b ∷ bs) (high_bytes_stay bytes (λ k inside. high (suc k) (omega arith)))
 
-small_text : (text : List ℕ) → list_all (λ b. nat_lt b 128) text ≡ true → IsAscii text
+pub small_text : (text : List ℕ) → list_all (λ b. nat_lt b 128) text ≡ true → IsAscii text
 small_text [] all i = omega arith
 small_text (b ∷ text) all zero = let h : nat_lt b 128 ≡ true = (and_both (nat_lt b 128) (list_all (λ c. nat_lt c 128) text) all).0 in grind (arith, h)
 small_text (b ∷ text) all (suc i) = small_text text (and_both (nat_lt b 128) (list_all (λ c. nat_lt c 128) text) all).1 i
@@ -136,6 +151,7 @@ quoted_utf8 name text =
 quoted_written : (name : List ℕ) → IsName name → IsWritten (quoted name)
 quoted_written name is = record {
   one = quoted_is_word name;
+  few = quoted_few name is.few;
   utf8 = quoted_utf8 name (IsUtf8-from_is_utf8 name is.utf8);
   lone = free_of (λ b. nat_le 32 b) 10 (quoted name) (quoted_shown name) refl;
   closed = quoted_closed name;

@@ -8,7 +8,7 @@ use Rattle.std.specs.Str.Parse.{digits_value}
 use Rattle.std.proofs.lemmas.Bool.{true≢false}
 use Rattle.std.proofs.lemmas.List.Elements.{All-nil, All-cons}
 use Rattle.std.proofs.lemmas.List.Folds.{list_all-append}
-use Rattle.std.proofs.lemmas.Fmt.{digits_decimal, decimal_nonempty}
+use Rattle.std.proofs.lemmas.Fmt.{digits_decimal, decimal_nonempty, length-decimal-le}
 use Rattle.cstn_markup.specs.Bytes.{◌>>=◌, when}
 use Rattle.cstn_text.specs.Cuts.{cut_at}
 use Rattle.cstn_text.specs.Numbers.{is_numeral}
@@ -41,6 +41,9 @@ uncut p byte text all other = at (cut_at byte text) refl
 
 pub and_both : (a b : Bool) → (a && b) ≡ true → (a ≡ true) × (b ≡ true)
 and_both a b e = grind arith
+
+pub three_true : (a b c : Bool) → a ≡ true → b ≡ true → c ≡ true → ((a && b) && c) ≡ true
+three_true a b c x y z = rw (x, y, z) refl
 
 pub free_of : (p : ℕ → Bool) (byte : ℕ) (text : List ℕ) → list_all p text ≡ true → p byte ≡ false → All (λ b. b ≢ byte) text
 free_of p byte [] all other = All-nil (λ b. b ≢ byte)
@@ -122,6 +125,14 @@ span_bytes (negsuc n) sized = let few : suc n ≤ most_ticks = grind (arith, siz
 pub span_some : (v : ℤ) → is_sized v ≡ true → 1 ≤ length (span_word (ticks v))
 span_some (pos n) sized = let few : n ≤ most_ticks = grind (arith, sized) in omega (arith, decimal_nonempty n (small_enough n few))
 span_some (negsuc n) sized = omega arith
+
+pub span_few : (v : ℤ) → is_sized v ≡ true → length (span_word (ticks v)) ≤ 11
+span_few (pos n) sized =
+    let few : n ≤ most_ticks = grind (arith, sized) in
+    omega (arith, length-decimal-le 10 n (omega arith) (omega (arith, few)) (small_enough n few))
+span_few (negsuc n) sized =
+    let few : suc n ≤ most_ticks = grind (arith, sized) in
+    omega (arith, length-decimal-le 10 (suc n) (omega arith) (omega (arith, few)) (small_enough (suc n) few))
 
 -- a range that begins with a number of ticks is cut behind that
 range_cut : (v : ℤ) (most : List ℕ) → is_sized v ≡ true → cut_at 46 (span_word (ticks v) ++ (codes ".." ++ most)) ≡ Some (span_word (ticks v), 46 ∷ most)

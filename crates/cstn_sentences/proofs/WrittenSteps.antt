@@ -1,6 +1,6 @@
 -- Steps are read from their lines.
-use Rattle.std.proofs.Common.{◌≡◌, ℕ, ◌<◌, ◌≤◌, Bool, true, false, List, [], ◌∷◌, ◌++◌, refl, ap, ◌∙◌, arith, Option, Some, None}
-use Rattle.std.specs.Prelude.{◌==◌, All, slice_index_or, codes, Result, Ok, if◌then◌else◌, pos}
+use Rattle.std.proofs.Common.{length, length-append, ◌≡◌, ℕ, ◌<◌, ◌≤◌, Bool, true, false, List, [], ◌∷◌, ◌++◌, refl, ap, ◌∙◌, arith, Option, Some, None}
+use Rattle.std.specs.Prelude.{nat_lt, nat_le, ◌&&◌, ◌==◌, All, slice_index_or, codes, Result, Ok, if◌then◌else◌, pos}
 use Rattle.std.specs.Option.{option_map}
 use Rattle.cstn_markup.specs.Bytes.{when}
 use Rattle.std.proofs.lemmas.List.Elements.{All-append}
@@ -16,20 +16,21 @@ use Rattle.cstn_sentences.specs.declared.lines.Span.{Span}
 use Rattle.cstn_sentences.specs.declared.lines.Literal.{Literal}
 use Rattle.cstn_sentences.specs.declared.lines.Observed.{Observed}
 use Rattle.cstn_sentences.specs.declared.lines.Expects.TheVariants.{If}
-use Rattle.cstn_sentences.specs.Judged.{is_sized}
+use Rattle.cstn_sentences.specs.Judged.{is_sized, is_timely}
 use Rattle.cstn_sentences.specs.Lines.{Step, step, deadline}
 use Rattle.cstn_sentences.specs.Spelling.{name_of, spelling, is_letter}
 use Rattle.cstn_sentences.specs.Spans.{after, time_read}
 use Rattle.cstn_sentences.specs.Grammar.{Words, Rest, Read, past, begins_by, one, nothing_yet, rest_read, reaction_read, letter_of as letter_read, letter_or_word, observed_prop, with_reaction, observed_read, step_read, line_read}
-use Rattle.cstn_sentences.specs.Printed.{span_word, label_words, reaction_words, observed_words, step_words, deadline_words}
+use Rattle.cstn_sentences.specs.Printed.{spaced, span_word, label_words, reaction_words, observed_words, step_words, deadline_words}
 use Rattle.cstn_sentences.specs.WrittenWords.{IsWritten, IsReadAs}
 use Rattle.cstn_sentences.specs.Sentences.{ticks, literals, observed_after, observed_of, observed_at, step_of}
 use Rattle.cstn_sentences.proofs.SpelledNames.{name_back}
-use Rattle.cstn_sentences.proofs.WrittenNumbers.{time_back}
+use Rattle.cstn_sentences.proofs.WrittenNumbers.{time_back, span_few}
 use Rattle.cstn_sentences.proofs.WrittenRests.{IsLiteral, label_alone}
 use Rattle.cstn_sentences.proofs.WrittenLines.{label_literals, no_after, one_read, deadline_line}
 use Rattle.cstn_sentences.proofs.SpelledWords.{spelled_is_written, written_back}
 use Rattle.cstn_sentences.proofs.LineWords.{plain_word, span_is_word, AreWords, one_more, no_words}
+use Rattle.cstn_sentences.proofs.LineLengths.{spaced_both, words_few, label_few}
 use Rattle.cstn_sentences.proofs.RuleWords.{label_is, observed_are}
 
 -- ---- what is observed
@@ -91,16 +92,28 @@ few_ticks n h = omega (arith, h)
 record IsObservedRead (observed : Option Observed) (ls : List Literal) : Type 0 where
   back : IsObservedBack observed ls
   words : AreWords (observed_words observed)
+  count : length (observed_words observed) ≤ 4
+  timely : is_timely observed ≡ true
 
 small_sized : (n : ℕ) → n ≤ most_reaction → is_sized (pos n) ≡ true
 small_sized n h = grind arith
 
-at_point : (reaction : ℕ → ℕ) (o : Option ℕ) (ls : List Literal) → ((p : ℕ) → o ≡ Some p → (p < 52) × (reaction p ≤ most_reaction)) → IsObservedRead (option_map (observed_of reaction) o) ls
-at_point reaction None ls fits = record { back = nothing_observed ls; words = no_words }
+observed_count : (n p : ℕ) → length (observed_words (Some (observed_after n p))) ≤ 4
+observed_count n p = at (n == 1)
+  where
+    at : (lone : Bool) → length (codes "observes" ∷ (letter_of p ∷ []) ∷ (if lone then [] else codes "after" ∷ span_word (ticks (pos n)) ∷ [])) ≤ 4
+    at true = omega arith
+    at false = omega arith
+
+reaction_timely : (n : ℕ) → 0 < n → n ≤ most_reaction → (nat_lt 0 n && nat_le n most_reaction) ≡ true
+reaction_timely n some few = grind arith
+
+at_point : (reaction : ℕ → ℕ) (o : Option ℕ) (ls : List Literal) → ((p : ℕ) → o ≡ Some p → (p < 52) × (reaction p ≤ most_reaction) × (0 < reaction p)) → IsObservedRead (option_map (observed_of reaction) o) ls
+at_point reaction None ls fits = record { back = nothing_observed ls; words = no_words; count = omega arith; timely = refl }
 at_point reaction (Some p) ls fits =
     let small : p < 52 = (fits p refl).0 in
     let few : reaction p ≤ most_reaction = (fits p refl).1 in
-    record { back = observed_back (reaction p) p ls (few_ticks (reaction p) few) small; words = observed_are (reaction p) p (small_sized (reaction p) few) small }
+    record { back = observed_back (reaction p) p ls (few_ticks (reaction p) few) small; words = observed_are (reaction p) p (small_sized (reaction p) few) small; count = observed_count (reaction p) p; timely = reaction_timely (reaction p) (fits p refl).2 few }
 
 -- the step of a time-point is read back
 pub point_back : (m : Labelled) (names : List (List ℕ)) (x : ℕ) → IsWellFormed m.base → IsName (slice_index_or names x [])
@@ -110,14 +123,24 @@ point_back m names x well named =
     let observed : Option Observed = observed_at m.base x in
     let label : Label = label_in m.labels x in
     let seen : IsObservedRead observed (literals label) =
-    at_point m.base.reaction (slice_index_or m.base.observes x None) (literals label) (λ p e. (well.letters x p (record { what = e }), well.soon x p (record { what = e }))) in
+    at_point m.base.reaction (slice_index_or m.base.observes x None) (literals label) (λ p e. (well.letters x p (record { what = e }), well.soon x p (record { what = e }), well.network.reacts x p (record { what = e }))) in
     let behind : Words = observed_words observed ++ label_words (literals label) in
     let words : AreWords behind = All-append IsWritten (observed_words observed) (label_words (literals label)) seen.words (label_is label) in
-    let first : IsWritten (codes "step") = plain_word (codes "step") (omega arith) refl refl refl in
+    let first : IsWritten (codes "step") = plain_word (codes "step") (omega arith) (omega arith) refl refl refl in
     let later : AreWords (spelling name ∷ behind) = one_more (spelling name) behind (spelled_is_written name named) words in
     record {
       written = one_more (codes "step") (spelling name ∷ behind) first later;
+      short = omega (
+        arith,
+        length-append (spelling name) (spaced behind),
+        (spelled_is_written name named).few,
+        spaced_both (observed_words observed) (label_words (literals label)),
+        words_few (observed_words observed) seen.words,
+        seen.count,
+        label_few label,
+      );
       cut = written_back (codes "step") (spelling name ∷ behind) first later;
+      numbered = seen.timely;
       read = step_line name observed (literals label) named seen.back (label_literals label);
     }
 
@@ -125,10 +148,12 @@ point_back m names x well named =
 pub deadline_back : (n : ℕ) → is_sized (pos n) ≡ true → IsReadAs (deadline_words (ticks (pos n))) (deadline (ticks (pos n)))
 deadline_back n sized =
     let number : List ℕ = span_word (ticks (pos n)) in
-    let first : IsWritten (codes "deadline") = plain_word (codes "deadline") (omega arith) refl refl refl in
+    let first : IsWritten (codes "deadline") = plain_word (codes "deadline") (omega arith) (omega arith) refl refl refl in
     let later : AreWords (number ∷ []) = one_more number [] (span_is_word (pos n) sized) no_words in
     record {
       written = one_more (codes "deadline") (number ∷ []) first later;
+      short = omega (arith, length-append number [], span_few (pos n) sized);
       cut = written_back (codes "deadline") (number ∷ []) first later;
+      numbered = sized;
       read = deadline_line n sized;
     }

@@ -1,6 +1,6 @@
 //! What is written is read back, and says what it says. The calls do nothing: their contracts are the laws.
 
-ghost use Rattle.std.specs.Prelude.{◌≡◌, ◌≤◌, ◌≤ℤ◌, ◌++◌, ◌∷◌, [], ℕ, ℤ, pos, List, All, Option, Some, true, flat_map, length, map, slice_index_or};
+ghost use Rattle.std.specs.Prelude.{◌≡◌, ◌≤◌, ◌≤ℤ◌, ◌++◌, ◌∷◌, [], ℕ, ℤ, pos, List, All, Option, Some, Ok, true, flat_map, length, map, slice_index_or};
 ghost use Rattle.cstn_label.specs.Labels.{Label};
 ghost use Rattle.cstn_lift.specs.Labelled.{Labelled};
 ghost use Rattle.cstn_net.specs.Networks.{Network, Constraint, Observes, IsValue, IsWellFormed, count};
@@ -8,8 +8,8 @@ ghost use Rattle.cstn_net.specs.Strategies.{Schedule, IsKnown};
 ghost use Rattle.cstn_text.specs.Names.{IsName, AreNames};
 ghost use Rattle.cstn_sentences.specs.declared.lines.Says.{Says};
 ghost use Rattle.cstn_sentences.specs.Grammar.{Words};
-ghost use Rattle.cstn_sentences.specs.Judged.{is_sized};
-ghost use Rattle.cstn_sentences.specs.Lines.{deadline, step, rule};
+ghost use Rattle.cstn_sentences.specs.Judged.{is_sized, line_of};
+ghost use Rattle.cstn_sentences.specs.Lines.{Line, deadline, step, rule};
 ghost use Rattle.cstn_sentences.specs.Meaning.{Moment_after, bounds_of, since_origin, constraints_of};
 ghost use Rattle.cstn_sentences.specs.Moments.{tick_of, IsSaid, MeetsEach};
 ghost use Rattle.cstn_sentences.specs.Printed.{spaced, span_word, deadline_words, step_words, rule_words};
@@ -48,6 +48,11 @@ pub fn lines_are_read_back()
         → IsReadAs (rule_words (alone_rule names c)) (rule (alone_rule names c)) }
     ensures pair { (names : List (List ℕ)) (c d : Constraint) → IsName (slice_index_or names c.from []) → IsName (slice_index_or names c.to []) → IsValue c.most
         → IsValue d.most → is_pair c d ≡ true → IsReadAs (rule_words (pair_rule names c d)) (rule (pair_rule names c d)) }
+{}
+
+/// A line that is read so is accepted as what it says, whatever its number is.
+pub fn lines_are_accepted()
+    ensures { (n : ℕ) (words : Words) (line : Line) → IsReadAs words line → line_of n (line_bytes words) ≡ Ok line }
 {}
 
 /// The sentences of a network are cut into its lines; what stands behind the last LF is empty.

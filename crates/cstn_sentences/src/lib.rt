@@ -22,8 +22,8 @@ mod writing;
 
 pub use errors::PlanError;
 pub use laws::{
-    lines_are_read_back, names_are_read_back, sentences_are_cut_into_lines, sentences_say_what_they_say,
-    ticks_are_read_back, words_are_read_back,
+    lines_are_accepted, lines_are_read_back, names_are_read_back, sentences_are_cut_into_lines,
+    sentences_say_what_they_say, ticks_are_read_back, words_are_read_back,
 };
 pub use lines::{Name, Word};
 pub use reading::read;
