@@ -202,12 +202,20 @@ labels_of() {
   esac
 }
 
+# Why a plan in sentences is refused, in words, with its line and a mark under the word in question.
+tell_plan() {
+  refusal=$("$program" plan "$1" ${deadline:+--deadline "$deadline"} 2>/dev/null </dev/null)
+  REFUSAL=$refusal PLAN=$(shown "$1") LC_ALL=C awk -f "$top/tools/refused.awk" "$top/tools/sentences.txt" - <"$1" |
+    while IFS= read -r told; do say "$told"; done
+}
+
 # Why a document is refused: for its labels, or for another fault.
 tell_document() {
   said=
   deadline=$(deadline_of "$@")
   case $1 in
-    check | run | follow | save | replay | closed | closedcheck | tight) said=refused ;;
+    plan) tell_plan "$2"; return ;;
+    check | run | follow | save | replay | closed | closedcheck | tight | sentences) said=refused ;;
     *) each_file ask_save "$@" ;;
   esac
   case $said in

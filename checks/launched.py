@@ -1,0 +1,178 @@
+"""Plans in sentences where the script `cstn` takes a document, which checks/plans holds: what it writes, and why it is refused.
+
+Where the program has no command `plan` yet, a stub that asks the model of deciders/ stands in for it.
+"""
+import hashlib
+import os
+import random
+import shutil
+import subprocess
+import sys
+
+from runs import DOCUMENT, GOOD, PROGRAM, READ_FAULT, SECONDS, TOP, WORDS, check, run
+
+sys.path.append(os.path.join(TOP, "deciders"))
+
+from drawn_plans import Text
+from sentences import AUTOMATON, KEYWORDS, words_of
+
+NOTHING_TO_RUN = 13
+STUB = f"""#!{sys.executable} -B
+import os, sys
+sys.path.insert(0, {os.path.join(TOP, "deciders")!r})
+words = sys.argv[1:]
+if words[:1] == ["plan"]:
+    from sentences import main
+    if len(words) == 4 and not words[3].isdigit():
+        sys.exit(print("words") or 2)
+    try:
+        sys.exit(main(words))
+    except OSError:
+        sys.exit(print("read fault") or 5)
+os.execv({PROGRAM!r}, [{PROGRAM!r}, *words])
+"""
+
+# Why texts are refused, in words, with the line and the mark.
+SHOWN = (
+    ("deadline 9\nstep X if b\nstep Y if b !l", "line 3: here may stand and, or nothing more", "step Y if b !l", "            ^^"),
+    ("step \"Zürich é\" if", "line 1: here may stand a letter, a word for one, or not", "step \"Zürich é\" if ", "                   ^"),
+    ("step Log book # a", "line 1: here may stand observes, if, or nothing more; a name with a space stands in quotes", "step Log book # a",
+     "         ^^^^"),
+    ("X by -3", "line 1: here may stand after", "X by -3 ", "        ^"),
+    ("step \"X", "line 1: this quote has no end", "step \"X", "     ^^"),
+    ("step X\nX by 5\nX at 6..5", "line 3: a number is above 1000000000, a range ends before it begins, a reaction isn't from 1 to 1000, "
+     "or a clock is above 23:59", "X at 6..5", None),
+    ("step X\n\nstep X", "line 3: line 1 has a step X already", "step X", "     ^"),
+    ("task T 1\nstep T.end", "line 2: line 1 has a step T.end already", "step T.end", "     ^^^^^"),
+    ("deadline 9\ndeadline 9", "line 2: the deadline was said above", "deadline 9", "^^^^^^^^"),
+    ("step X observes damage as d\nstep Y observes harm as d", "line 2: this letter has another word already", "step Y observes harm as d",
+     "                        ^"),
+    ("step X observes damage as d\nstep Y observes damage as e", "line 2: this word stands for another letter already",
+     "step Y observes damage as e", "                ^^^^^^"),
+    ("step X if p and not p", "line 1: the letter of p stands twice in the label", "step X if p and not p", "                    ^"),
+    ("step X\nX after \"a b\"", "line 2: no line says step a%20b, or task a%20b", "X after \"a b\"", "        ^^^^^"),
+    ("step X\nX after end of X", "line 2: X is a step, and no task", "X after end of X", "               ^"),
+    ("task Z 5", "line 1: the start, Z, is no task", "task Z 5", "     ^"),
+    ("step X\nX after result of p", "line 2: no step observes p", "X after result of p", "                  ^"),
+    ("step X if damage", "line 1: damage stands for no letter: no step observes damage as a letter", "step X if damage", "          ^^^^^^"),
+    ("step X", "no line says the deadline: write deadline and a time, or say --deadline N", None, None),
+    ("deadline 9\nstep P observes p\nstep Q observes p", "P (line 2) and Q (line 3) both observe p", None, None),
+    ("deadline 9\nstep X if p", "the label of X (line 2) names p, which no step observes", None, None),
+    ("deadline 9\nstep \x1b[2J\n", "line 2: here may stand a name; one with a space, or that is a keyword, stands in quotes", "step ?[2J", "     ^^^^"),
+)
+
+
+class Checkout:
+    """A folder in which the script `cstn` starts the program, or the stub, as one that was built."""
+
+    def __init__(self, folder):
+        self.path, self.temporary = folder.at("checkout"), folder.at("temporary")
+        for path in ("tools", "crates/cstn/out", "crates/cstn/src"):
+            os.makedirs(self.at(path))
+        os.makedirs(self.temporary)
+        shutil.copy(os.path.join(TOP, "cstn"), self.at("cstn"))
+        for name in ("checksum", "commands.txt", "hints.sh", "plans.sh", "refused.awk", "sentences.txt"):
+            os.symlink(os.path.join(TOP, "tools", name), self.at("tools", name))
+        program = self.at("crates/cstn/out/cstn")
+        if run(["plan", TOP])[0] != WORDS:
+            shutil.copy(PROGRAM, program)
+        else:
+            self.put("crates/cstn/out/cstn", STUB)
+            os.chmod(program, 0o755)
+        self.put("crates.txt", "cstn:\n")
+        self.put("crates/cstn/src/main.rt", "")
+        with open(program, "rb") as file:
+            made = hashlib.sha256(file.read()).hexdigest()
+        sources = subprocess.run([self.at("tools/checksum")], stdout=subprocess.PIPE, text=True, check=True).stdout
+        self.put("crates/cstn/out/made-from", f"sources {sources}program {made}\n")
+
+    def at(self, *names):
+        return os.path.join(self.path, *names)
+
+    def put(self, name, text):
+        with open(self.at(name), "w", encoding="utf-8") as file:
+            file.write(text)
+        return self.at(name)
+
+    def called(self, *words, live="", **env):
+        """The status of the script, what it writes, and what it says on standard error."""
+        done = subprocess.run([self.at("cstn"), *words], input=live.encode(), stdout=subprocess.PIPE, stderr=subprocess.PIPE, timeout=SECONDS,
+                              env={**os.environ, "TMPDIR": self.temporary, **env}, cwd=self.path, check=False)
+        return done.returncode, done.stdout, done.stderr.decode()
+
+
+def taken(folder):
+    """A plan stands where a command takes a document: the answers are those for its document, with nothing left behind."""
+    here, names = Checkout(folder), ("test-and-visit", "clinical-pathway", "mission")
+    visit, pathway, mission = (os.path.join(TOP, "examples", f"{name}.graphml") for name in names)
+    as_plan = {path: path.replace(".graphml", ".plan") for path in (visit, pathway, mission)}
+    proof = folder.put("proof", run(["check", mission, "--deadline", "80"])[1])
+    odd = [here.put(name, "deadline 9\nstep X\nX by 5\n") for name in ("a=b.plan", "-x.plan", "a b'.plan")]
+    for words, live in (
+        (["check", visit], ""), (["check", mission, "--deadline", "80"], ""), (["run", visit], "moment 0\nsee p true\nmoment 10\n"),
+        (["follow", pathway, "--cap", "99"], "did 5 Sample\nnext\n"), (["edit", visit], "add Test Z -3 -\ncheck\n"), (["conflict", pathway], ""),
+        (["host", "--deadline", "90", "--cap", "500", mission, visit, mission], "open 1 0\non 1 due\n"), (["replay", mission, proof, "--deadline", "80"], ""),
+        (["check", visit, "--cap", "0"], ""), (["check", visit, "--deadline", "five"], ""), (["check", visit, "--cap"], ""), (["save", pathway], ""),
+        (["host", *[visit] * 7], "open 1 6\n"),
+    ):
+        wanted = run(words, live)
+        for env in ({}, {"CSTN_NO_BUILD": "1"}):
+            status, wrote, told = here.called(*(as_plan.get(it, it) for it in words), live=live, **env)
+            check(f"{words[0]} of a plan {env}", (status, wrote, bool(told) and not env and status < 2), (*wanted, False))
+    for path in odd:
+        check(f"a plan called {os.path.basename(path)}", here.called("check", os.path.basename(path))[:2], (GOOD, b"yes 2\n"))
+    check("a plan that is no file", here.called("check", "none.plan"), (READ_FAULT, b"read fault\n", "cstn: there is no file none.plan\n"))
+    status, wrote, told = here.called("host", *[as_plan[visit]] * 8)
+    check("eight plans", (status, wrote, told.split(":")[1]), (NOTHING_TO_RUN, b"", " at most seven plans in sentences can be named at a time"))
+    check("what is left behind", os.listdir(here.temporary), [])
+
+
+def shown(folder):
+    """A plan that is refused ends the script with 3, in all commands, and its line is shown with a mark under the word."""
+    here = Checkout(folder)
+    for text, why, line, mark in SHOWN:
+        path = here.put("f.plan", text)
+        with open(path, "rb") as file:
+            wanted = subprocess.run([here.at("crates/cstn/out/cstn"), "plan", path], stdout=subprocess.PIPE, check=False).stdout
+        said = "".join(f"cstn: {it}\n" for it in (f"f.plan, {why}", line and f"  {line}", mark and f"  {mark}") if it)
+        for words, env in ((["check"], {}), (["follow"], {"CSTN_NO_BUILD": "1"}), (["plan"], {})):
+            check(f"{text!r} by {words} {env}", here.called(*words, "f.plan", live="now 0\n", **env), (DOCUMENT, wanted, said))
+    check("what is left behind", os.listdir(here.temporary), [])
+
+
+def places():
+    """The table of tools/sentences.txt: for each place what may stand there in words, and where words lead."""
+    with open(os.path.join(TOP, "tools", "sentences.txt"), encoding="utf-8") as table:
+        rows = [line.rstrip("\n").split(" | ") for line in table if not line.startswith("#")]
+    return {name: (says, dict(it.split(":") for it in (leads or [""])[0].split())) for name, says, *leads in rows}
+
+
+def place_behind(table, words):
+    place = "line"
+    for word in words:
+        leads = table[place][1]
+        kinds = [word.text] if not word.quoted else []
+        kinds += ["LETTER"] if len(word.text) == 1 and word.text.isalpha() else ["NEGATIVE"] if word.text[0] == "-" else []
+        place = next((leads[it] for it in kinds if it in leads), leads.get("*"))
+    return place
+
+
+def told_places(_):
+    """What may stand at a place, as the script says it, is what the model takes there: the same keywords, other words, an end."""
+    table, seen = places(), set()
+    for number in range(400):
+        for line in Text(random.Random(number)).lines():
+            words = words_of(line.encode())
+            if AUTOMATON.reading(words)[0] is None:
+                continue
+            for count in range(len(words) + 1):
+                place = place_behind(table, words[:count])
+                awaited, (says, leads) = AUTOMATON.awaited(words[:count]), table[place]
+                seen.add(place)
+                found = {it for it in leads if it in KEYWORDS}, bool(leads.keys() - KEYWORDS), "nothing" in says
+                wanted = {it for it in awaited if it in KEYWORDS}, any(it and it not in KEYWORDS for it in awaited), "" in awaited
+                check(f"{line!r} behind {count} words", found, wanted)
+    check("places that were seen", seen, set(table))
+
+
+LAUNCHED = (taken, shown, told_places)
