@@ -13,8 +13,9 @@ from unittest import mock
 
 from cstn.draw.command import run as run_draw
 from cstn.errors import NoProgram
-from cstn.explain.asking import Stopped, program
+from cstn.explain.asking import program
 from cstn.explain.command import run as run_explain
+from cstn.explain.stopped import Stopped
 from cstn.program import find
 
 from .cases import Case, placed, read_cases

@@ -10,7 +10,7 @@ from xml.etree import ElementTree
 
 from cstn.draw.command import main
 from cstn.draw.svg import width
-from cstn.explain.asking import Stopped
+from cstn.explain.stopped import Stopped
 from cstn.program import find
 
 EXAMPLES = Path(__file__).resolve().parents[2] / "examples"

@@ -14,10 +14,11 @@ import re
 import sys
 from dataclasses import dataclass, field
 
-from ..explain.asking import Asked, Stopped, read_once
+from ..explain.asking import Asked, read_once
 from ..explain.looks import looks
 from ..explain.names import harmless
-from .clock import Clock, read_clock
+from ..explain.spoken import Clock, read_clock
+from ..explain.stopped import Stopped
 from .gantt import draw_cases
 from .network import draw_network
 from .now import draw_now

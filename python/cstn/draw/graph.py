@@ -7,7 +7,7 @@ from dataclasses import dataclass, field
 
 from ..explain.networks import Network, literals, ticks
 from ..explain.shapes import Marks
-from .clock import Clock
+from ..explain.spoken import Clock
 from .plans import Blame, Plan
 
 

@@ -4,7 +4,7 @@ import subprocess
 from dataclasses import dataclass
 from typing import Any
 
-from ..explain.asking import Stopped
+from ..explain.stopped import Stopped
 
 INCH = 72
 SECONDS = 300

@@ -2,14 +2,15 @@
 import re
 from dataclasses import dataclass, field
 
-from ..explain.asking import Asked, Stopped, ids_of
+from ..explain.asking import Asked, ids_of
 from ..explain.cases import Case, ask_latest, cases_of, played
 from ..explain.documents import Reader
 from ..explain.networks import Network, literals, written
 from ..explain.refusals import tell_refused
 from ..explain.refutations import Refutation
+from ..explain.spoken import Clock
+from ..explain.stopped import Stopped
 from ..explain.trees import MOST_IN_WORDS, size
-from .clock import Clock
 from .tasks import Task, tasks_of
 
 

@@ -2,11 +2,12 @@
 import re
 from dataclasses import dataclass, field
 
-from ..explain.asking import Asked, Stopped, kept
+from ..explain.asking import Asked, kept
 from ..explain.cases import Case, ask_latest, cases_of
 from ..explain.following import Heard
 from ..explain.names import printed
 from ..explain.networks import Network
+from ..explain.stopped import Stopped
 from ..explain.trees import MOST_IN_WORDS, size
 from .chains import Link, chain_of
 

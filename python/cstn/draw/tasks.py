@@ -2,9 +2,9 @@
 import re
 from dataclasses import dataclass
 
-from ..explain.asking import Stopped
 from ..explain.names import printed, shown
 from ..explain.networks import Network
+from ..explain.stopped import Stopped
 
 BEGINS = ("begin", "begins", "start", "starts", "open", "up")
 ENDS = ("end", "ends", "done", "finish", "stop", "close", "down")

@@ -18,6 +18,7 @@ from .names import typed
 from .networks import Network, literals, plain_copy, written
 from .refutations import Refutation, missing_ticks, steps_of
 from .shapes import Data, Marks, Tree
+from .stopped import Stopped
 from .tries import CHECKS_OF_A_LIMIT, MOST_LIMITS, Live
 from .trees import tree_of
 
@@ -30,14 +31,6 @@ MOST_TRIED = 50000
 # A second of checks at worst: their number times the bounds that each derives, times the constraints that end at one
 # time-point; or times the pairs of bounds that are looked at for each, which are no more than its letters have labels.
 CHAINS, PAIRS = 10**7, 4 * 10**11
-
-
-class Stopped(Exception):
-    """Why there is no answer, with the status."""
-
-    def __init__(self, status: int, why: str) -> None:
-        super().__init__(why)
-        self.status = status
 
 
 @contextlib.contextmanager

@@ -6,6 +6,7 @@ tree or `follow` says.
     ./cstn explain --step NAME FILE [--deadline N] [--json]
     ./cstn explain --plain FILE [--deadline N]
 
+With --start HH:MM moments are times too: tick 0 is then, and a tick is a minute, or the seconds of --tick SECONDS.
 PROOF is what a no wrote, of `check`, `run`, `closed`, `tree`, `conflict` or `tight`, or the tree of a yes, or what
 `follow` wrote; or it is `-`, the standard input; or one answer of `follow`, as 'blame 2 5'. With --only nothing of the
 network is listed before it, but what of FILE was passed over. docs/commands.md says under `./cstn explain` what each
@@ -21,7 +22,7 @@ import os
 import re
 import sys
 
-from .asking import Asked, Stopped, read_once
+from .asking import Asked, read_once
 from .conflicts import tell_sets
 from .documents import Reader, tell_passed_over
 from .following import is_answer, is_followed
@@ -32,7 +33,9 @@ from .proofs import tell_judged_tree, tell_refutation
 from .refusals import tell_refused
 from .sessions import tell_session
 from .shapes import Data
+from .spoken import Clock, Spoken, read_clock
 from .steps import tell_float, tell_step
+from .stopped import Stopped
 from .trees import MOST_IN_WORDS, size
 
 ASKED = ("--plain", "--tree", "--conflict", "--tight", "--float", "--step")
@@ -43,7 +46,8 @@ def tell_proof(asked: Asked, text: str) -> tuple[int, Data, list[str]]:
     `tight` wrote, it begins with the least deadline."""
     least = re.match(r"least (\d{1,7})\n", text)
     if least:
-        lines = [f"With the deadline {least[1]} the plan can be carried out, and with none before it."]
+        at = Spoken.moment(int(least[1]))
+        lines = [f"With the deadline {at} the plan can be carried out, and with none before it."]
         if least[1] == "0":
             return 0, {"answer": "least", "least": 0}, lines
         asked.net.deadline = int(least[1]) - 1
@@ -115,7 +119,7 @@ def tell_conflict(asked: Asked) -> tuple[int, Data, list[str]]:
 def tell_verdict(asked: Asked) -> tuple[str, list[str]]:
     """Whether the plan can be carried out, as the program says it and in words, unless that takes too many bounds."""
     said = asked.answer_at("check", cap=asked.cap(1))[1].split("\n")[0]
-    by = f"by its deadline, {asked.net.deadline}"
+    by = f"by its deadline, {Spoken.moment(asked.net.deadline)}"
     if said.startswith("yes"):
         return said, [f"Yes: the plan can be carried out {by}, whatever is observed."]
     if said.startswith("no"):
@@ -150,15 +154,27 @@ def tell_refusal(saved: str, status: int, reader: Reader) -> tuple[int, Data, li
     return status, {"answer": saved.strip(), "passed_over": passed, "says": says}, [*lines, saved.strip(), *says]
 
 
+def taken_out(words: list[str], name: str) -> tuple[list[str], list[str]]:
+    """An option with its value, where it is there, and the other words."""
+    if name not in words:
+        return [], words
+    at = words.index(name)
+    return words[at : at + 2], words[:at] + words[at + 2 :]
+
+
+def clock_of(words: list[str]) -> tuple[Clock, list[str]]:
+    """The clock by which moments are said, and the words without its options."""
+    start, words = taken_out(words, "--start")
+    tick, words = taken_out(words, "--tick")
+    return read_clock(*(" ".join(it[1:]) or "none" if it else None for it in (start, tick))), words
+
+
 def parsed(words: list[str]) -> tuple[str, list[str], list[str], bool, bool]:
     """What is asked for, the further words, the option, whether without the network, and whether as data."""
-    option, asked, alone, as_data = [], "", "--only" in words, "--json" in words
-    words = [it for it in words if it not in ("--only", "--json")]
-    if "--deadline" in words:
-        at = words.index("--deadline")
-        option, words = words[at : at + 2], words[:at] + words[at + 2 :]
-        if not re.fullmatch("[0-9]{1,7}", "".join(option[1:])):
-            raise Stopped(2, "N is a number from 0 to 1000000, in ticks")
+    asked, alone, as_data = "", "--only" in words, "--json" in words
+    option, words = taken_out([it for it in words if it not in ("--only", "--json")], "--deadline")
+    if option and not re.fullmatch("[0-9]{1,7}", "".join(option[1:])):
+        raise Stopped(2, "N is a number from 0 to 1000000, in ticks")
     if words[:1] and words[0] in ASKED:
         asked, words = words[0][2:], words[1:]
     if asked == "step":
@@ -216,6 +232,7 @@ def tell(asked: Asked, command: str, text: str | None, alone: bool) -> tuple[int
 
 
 def main(words: list[str]) -> int:
+    Spoken.clock, words = clock_of(words)
     command, words, option, alone, as_data = parsed(words)
     text = text_of(words)
     least = re.match(r"least (\d{1,7})\n", text or "")

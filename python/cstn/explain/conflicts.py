@@ -9,23 +9,24 @@ from .tries import instead, least_values
 
 def tell_giving_way(asked: Asked, constraints: list[Data],
                     others: list[Data]) -> tuple[list[Data], list[str], tuple[int, str] | None]:
-    """How far each upper limit of a conflict set, twelve at most, would have to give way alone, as data and in words,
+    """How far each limit of a conflict set, twelve at most, would have to give way alone, as data and in words,
     with another set mended.
 
     Behind them the first limit without which there is still a no, with the document that has this one and the other
     set mended, or none.
     """
     found, lines, vain, text = [], [], None, without(asked.saved, ids_of(others) - ids_of(constraints))
-    values = {it["constraint"]: it["at_most"] for it in constraints if it["constraint"] is not None}
-    with kept(text) as copy, asked.live(copy, [], 0, sum(it > 0 for it in values.values())) as live:
+    values = {it["constraint"]: it["at_most"] for it in constraints
+              if it["constraint"] is not None and (it["at_most"] > 0 or it["from"] != it["to"])}
+    with kept(text) as copy, asked.live(copy, [], 0, sum(it != 0 for it in values.values())) as live:
         for it in least_values(live, values, asked.net.deadline, asked.later_for(values)):
             found.append(it.data())
             lines.append(f"constraint {asked.net.called(it.number)}: {instead(it, asked.net.deadline)}")
-            if it.said is False and not vain and not it.is_later:
+            if it.said is False and not vain and not it.is_later and it.value > 0:
                 vain = it.number, without(text, {it.number})
     if lines:
         mended = ", and the other set is mended" if others else ""
-        lines.insert(0, f"Where one of these limits alone gives way{mended}, the least value with which the plan can "
+        lines.insert(0, f"Where one of these limits alone gives way{mended}, the nearest value with which the plan can "
                         "be carried out:")
     return found, lines, vain
 

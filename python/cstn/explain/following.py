@@ -8,6 +8,7 @@ from collections.abc import Callable, Iterator
 from .names import printed, shown
 from .networks import Network, constraint, counts_where, ticks
 from .shapes import Data, Marks
+from .spoken import Spoken
 
 # The answers that are put into words.
 ANSWER = re.compile(r"next (?P<next>[0-9]{1,10})(?: do (?P<do>[^ ]+(?: [^ ]+)*?))?(?: wait (?P<wait>[A-Za-z]+))?|"
@@ -131,11 +132,11 @@ def tell_next(net: Network, answer: re.Match[str], heard: Heard) -> Data:
     points = [placed(net, printed(name)) for name in (answer["do"] or "").split(" ") if name]
     if points:
         names = " and ".join(words for _, words in points)
-        says.append(f"At {moment} {names} {'is' if len(points) == 1 else 'are'} to be executed.")
+        says.append(f"At {Spoken.moment(int(moment))} {names} {'is' if len(points) == 1 else 'are'} to be executed.")
     for letter in answer["wait"] or "":
         point, words = placed(net, net.observers[letter])
         told = told_of(net, point["name"], heard)
-        says.append(f"At {moment} the outcome of {letter} is awaited: {words} observes it{told}.")
+        says.append(f"At {Spoken.moment(int(moment))} the outcome of {letter} is awaited: {words} observes it{told}.")
         awaited.append({"letter": letter, "observer": point["name"], "line": point["line"]})
     do = [point for point, _ in points]
     return {"answer": "next", "moment": int(moment), "do": do, "wait": awaited, "says": says}
@@ -144,7 +145,7 @@ def tell_next(net: Network, answer: re.Match[str], heard: Heard) -> Data:
 def tell_by(net: Network, answer: re.Match[str]) -> Data:
     """Until when a time-point can wait, as data and in words."""
     point, words = placed(net, printed(answer["name"]))
-    says = [f"{words} can wait until {int(answer['by'])}, and no longer."]
+    says = [f"{words} can wait until {Spoken.moment(int(answer['by']))}, and no longer."]
     return {"answer": "by", "moment": int(answer["by"]), **point, "says": says}
 
 

@@ -5,6 +5,7 @@ from collections.abc import Iterator
 
 from .names import commented, plain, quoted, shown
 from .shapes import Data, Marks
+from .spoken import Spoken
 
 PLAIN = """<!-- A copy without labels on time-points, to be checked and edited. \
 Carry out the document itself, by `run`: the copy
@@ -209,9 +210,9 @@ def constraint(source: str, target: str, most: int, label: str) -> str:
     if source == target:
         says = f"{one} at most {most} after itself, which " + ("cannot be" if most < 0 else "always holds")
     elif target == "Z" and most <= 0:
-        says = f"{one} at {-most} or later"
+        says = f"{one} at {Spoken.moment(-most)} or later"
     elif source == "Z" and most >= 0:
-        says = f"{other} at {most} or earlier"
+        says = f"{other} at {Spoken.moment(most)} or earlier"
     elif most < 0:
         says = f"{one} at least {ticks(-most)} after {other}"
     elif most > 0:
@@ -228,7 +229,7 @@ FOR_A_LABEL = (" (for a label of the document that was copied, as its comment sa
 def network_in_words(net: Network) -> list[str]:
     """The deadline, the time-points, what is observed, the labels and the constraints, a line for each."""
     names = ", ".join(shown(name) for name in net.names)
-    lines = [f"The deadline is {net.deadline}. {len(net.names)} time-points: {names}."]
+    lines = [f"The deadline is {Spoken.moment(net.deadline)}. {len(net.names)} time-points: {names}."]
     lines += [f"{shown(name)} tells {letter}, which is known {ticks(net.reaction(name))} later."
               for name, letter in net.observed.items()]
     lines += [f"{shown(name)} is executed only{where(label)[1:]}." for name, label in net.labels.items()]

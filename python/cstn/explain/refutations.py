@@ -5,6 +5,7 @@ import re
 from .names import printed, shown
 from .networks import FOR_A_LABEL, Network, constraint, literals, ticks, where
 from .shapes import Data
+from .spoken import Spoken
 
 STEP = re.compile(r"\d+ (base|chain|wait) ")
 LONGEST_TURN = 24
@@ -118,7 +119,7 @@ class Refutation:
 
     def until(self, name: str) -> str:
         """Until when the outcome of an observer is awaited that was done, in words."""
-        return "after the deadline" if self.done[name] > self.net.deadline else str(self.done[name])
+        return "after the deadline" if self.done[name] > self.net.deadline else Spoken.moment(self.done[name])
 
     def is_of_what_was_done(self, used: str | int) -> bool:
         """Whether what steps use, an observer or a constraint, rests on the moment of an observer that was done."""
@@ -172,7 +173,7 @@ class Refutation:
         rule, (name, least, label) = parts[1], parts[-3:]
         name = printed(name)
         self.last = self.bounds[number] = (name, int(least), label)
-        says, letter = f"{shown(name)} at {least} or later{where(label)}", net.observed.get(name)
+        says, letter = f"{shown(name)} at {Spoken.moment(int(least))} or later{where(label)}", net.observed.get(name)
         if rule == "base":
             was_done = "it was done, and stands early in what `rest` wrote"
             return f"{says}: {was_done if name in self.done else 'nothing is executed before 0'}"
@@ -255,7 +256,7 @@ def accepted_no(refutation: Refutation, text: str, missing: tuple[Data, list[str
     if blamed:
         lines.append("There may be other such sets: check again after each change. The steps that refute this one:")
     name, _, label = refutation.last
-    end = "the start is at 0" if name == "Z" else f"the deadline is {net.limit(name)}"
+    end = "the start is at 0" if name == "Z" else f"the deadline is {Spoken.moment(net.limit(name))}"
     lines += [*steps, f"But {end}, so no plan can be carried out{where(label)}."]
     if any(refutation.turns) and not lacks:
         lines.append("The turns go on until they meet the deadline or a constraint. Where `tight` with a larger "

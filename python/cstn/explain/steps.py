@@ -1,9 +1,11 @@
 """A plan by its steps: what each waits for, what waits for it, when it comes, and how long it can wait."""
-from .asking import Asked, Stopped
+from .asking import Asked
 from .cases import Case, ask_latest, cases_of
 from .names import printed, shown
 from .networks import Network, constraint, counts_where, literals, ticks, where
 from .shapes import Data
+from .spoken import Spoken
+from .stopped import Stopped
 from .trees import MOST_IN_WORDS, size
 
 MOST_GROUPS = 12
@@ -36,10 +38,11 @@ def when(groups: list[Data]) -> list[str]:
     """When a step comes, in words."""
     lines = []
     for it in groups[:MOST_GROUPS]:
-        says = f"at {it['at']}"
+        says = f"at {Spoken.moment(it['at'])}"
         if it["until"] is not None:
             left = it["until"] - it["at"]
-            says += f", and it can wait until {it['until']}, {ticks(left)} more" if left else ", and it cannot wait"
+            until = Spoken.moment(it["until"])
+            says += f", and it can wait until {until}, {ticks(left)} more" if left else ", and it cannot wait"
         if len(groups) > 1:
             count = len(it["cases"])
             says += f" ({count} cases, as{where(it['cases'][0])[1:]})" if count > 1 else \
@@ -114,11 +117,11 @@ def spread(groups: list[Data]) -> str:
     """The moments of a step and how long it can wait, from the least to the most."""
     moments = sorted({it["at"] for it in groups})
     lefts = sorted({it["until"] - it["at"] for it in groups if it["until"] is not None})
-    says = f"at {moments[0]}" + (f" to {moments[-1]}" if len(moments) > 1 else "")
+    says = f"at {Spoken.moment(moments[0])}" + (f" to {Spoken.moment(moments[-1])}" if len(moments) > 1 else "")
     if not lefts:
         return says
     tightest = min((it for it in groups if it["until"] is not None), key=lambda it: int(it["until"] - it["at"]))
-    left = f"{ticks(lefts[0])}, until {tightest['until']}"
+    left = f"{ticks(lefts[0])}, until {Spoken.moment(tightest['until'])}"
     if len(lefts) == 1:
         return f"{says}; {left}" if len(groups) == 1 else f"{says}; {ticks(lefts[0])} in each case"
     return f"{says}; {left}{where(tightest['cases'][0])}; up to {ticks(lefts[-1])} in others"

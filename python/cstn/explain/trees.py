@@ -4,6 +4,7 @@ from collections.abc import Iterator
 from .names import printed, shown
 from .networks import Network, constraint, literals, ticks
 from .shapes import Marks, Tree
+from .spoken import Spoken
 
 # A tree has this many lines at most, times what is looked at for each.
 MOST_OF_A_LOOK = 20000
@@ -50,7 +51,7 @@ def tree_in_words(items: Tree, depth: int = 0) -> list[str]:
             continue
         names = [shown(name) + unknown_in_words(item["before"].get(name, [])) for name in item["names"]]
         left_out = ", ".join(shown(name) for name in item["left_out"])
-        words.append(f"{indent}at {item['at']}: {', '.join(names) or 'nothing; left out: ' + left_out}")
+        words.append(f"{indent}at {Spoken.moment(item['at'])}: {', '.join(names) or 'nothing; left out: ' + left_out}")
     return words
 
 

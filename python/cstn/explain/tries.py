@@ -63,8 +63,11 @@ def nearest(met: Callable[[int], bool | None], fails: int, holds: int) -> tuple[
 
 
 class Least(NamedTuple):
-    """The least value of a limit that does, or none; whether a yes stands with the deadline as its value, or none where
-    that is not known; whether it took a later deadline; and whether it is sure that no lesser one does."""
+    """The least value of a limit that does, or none; whether a yes stands with the greatest value that was tried, or
+    none where that is not known; whether it took a later deadline; and whether it is sure that no lesser one does.
+
+    The value of an "at least" is below 0, and the greatest that is tried is 0.
+    """
 
     number: int
     value: int
@@ -79,11 +82,12 @@ class Least(NamedTuple):
 
 
 def least_values(live: Live, values: dict[int, int], deadline: int, later: int | None) -> Iterator[Least]:
-    """For each limit of a value above 0, twelve at most, the least value with which a yes stands if all else stays.
-    Where there is none up to the deadline, and a later one is named, it is tried with that."""
-    for number, value in [it for it in values.items() if it[1] > 0][:MOST_LIMITS]:
-        found = least_value(live, number, value, deadline)
-        if later is not None and found.least is None and found.said is False:
+    """For each limit of a value other than 0, those above 0 first and twelve at most, the least value with which a
+    yes stands if all else stays. Where there is none up to the deadline, and a later one is named, it is tried with
+    that."""
+    for number, value in sorted((it for it in values.items() if it[1]), key=lambda it: it[1] < 0)[:MOST_LIMITS]:
+        found = least_value(live, number, value, deadline if value > 0 else 0)
+        if later is not None and found.least is None and found.said is False and value > 0:
             live.say(f"deadline {later}")
             again = least_value(live, number, value, later)
             live.say(f"deadline {deadline}")
@@ -91,19 +95,21 @@ def least_values(live: Live, values: dict[int, int], deadline: int, later: int |
         yield found
 
 
-def least_value(live: Live, number: int, value: int, deadline: int) -> Least:
-    """The least value of a limit up to a deadline; the limit has its own value again afterwards."""
+def least_value(live: Live, number: int, value: int, greatest: int) -> Least:
+    """The least value of a limit, up to the greatest; the limit has its own value again afterwards."""
     def met(tried: int) -> bool | None:
         return live.is_met(f"change {number} {tried}")
 
-    said = met(deadline) if deadline > value else False
-    least, is_sure = nearest(met, value, deadline) if said else (None, True)
+    said = met(greatest) if greatest > value else False
+    least, is_sure = nearest(met, value, greatest) if said else (None, True)
     live.say(f"change {number} {value}")
     return Least(number, value, least, said, is_sure=is_sure)
 
 
 def instead(found: Least, deadline: int) -> str:
     """The least value of a limit that would do, in words."""
+    if found.value < 0:
+        return instead_at_least(found)
     if found.least is not None:
         says = f"{found.least} in place of {found.value}{', with a later deadline' if found.is_later else ''}"
         return says if found.is_sure else f"{says}; whether a little less would do is not known"
@@ -111,6 +117,16 @@ def instead(found: Least, deadline: int) -> str:
         return f"not tried, since the deadline, {deadline}, limits as much: say a later one by `--deadline N`"
     if found.said is False:
         return f"none up to the deadline, {deadline}: without this limit there is still a no, for another reason"
+    return "not known, since a check could not be ended"
+
+
+def instead_at_least(found: Least) -> str:
+    """How much of an "at least" would do, in words."""
+    if found.least is not None:
+        says = f"at least {-found.least} in place of {-found.value}"
+        return says if found.is_sure else f"{says}; whether a little more would do is not known"
+    if found.said is False:
+        return f"at least {-found.value}, and none down to 0 would do"
     return "not known, since a check could not be ended"
 
 

@@ -1,9 +1,11 @@
-"""Moments as people read them: ticks, or the time of a clock."""
+"""Moments as people read them: ticks, or the times of a clock."""
+from __future__ import annotations
+
 import math
 import re
 from dataclasses import dataclass
 
-from ..explain.asking import Stopped
+from .stopped import Stopped
 
 DAY = 86400
 STEPS = (1, 2, 5, 10, 15, 20, 30, 60, 120, 300, 600, 900, 1200, 1800, 3600, 7200, 10800, 14400, 21600, 43200, DAY)
@@ -67,3 +69,14 @@ def read_clock(start: str | None, tick: str | None) -> Clock:
         return Clock()
     hours, minutes, seconds = (int(it or 0) for it in found.groups())
     return Clock(3600 * hours + 60 * minutes + seconds, int(tick or 60))
+
+
+class Spoken:
+    """How the words of an answer say moments."""
+
+    clock = Clock()
+
+    @classmethod
+    def moment(cls, tick: int) -> str:
+        """A moment in words: where there is a clock its time, and behind it the tick."""
+        return str(tick) if cls.clock.start is None else f"{cls.clock.says(tick)} ({tick})"
