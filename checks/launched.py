@@ -13,8 +13,11 @@ from runs import DOCUMENT, GOOD, PROGRAM, READ_FAULT, SECONDS, TOP, WORDS, check
 
 sys.path.append(os.path.join(TOP, "deciders"))
 
-from drawn_plans import Text
-from sentences import AUTOMATON, KEYWORDS, words_of
+sys.path.append(os.path.join(TOP, "python"))
+
+from cstn.said import said as said_in
+from drawn_plans import Text, drawn_text
+from sentences import AUTOMATON, KEYWORDS, Reader, Refused, heard_in, words_of
 
 NOTHING_TO_RUN = 13
 STUB = f"""#!{sys.executable} -B
@@ -62,6 +65,15 @@ SHOWN = (
 )
 
 
+EXPLAINED = """Yes: the plan can be carried out by its deadline, 360, whatever is observed.
+The deadline is 360. 5 time-points: Z, Sample, Antibiotic, Review, Discharge.
+Sample tells infection (i), which is known 60 ticks later.
+Antibiotic is executed only where infection (i) is true.
+0 (line 7: Sample by 15): Sample at 15 or earlier
+1 (line 8: Antibiotic 65..90 after Sample if infection): Antibiotic at least 65 ticks after Sample, where infection (i) is true
+"""
+
+
 class Checkout:
     """A folder in which the script `cstn` starts the program, or the stub, as one that was built."""
 
@@ -70,6 +82,7 @@ class Checkout:
         for path in ("tools", "crates/cstn/out", "crates/cstn/src"):
             os.makedirs(self.at(path))
         os.makedirs(self.temporary)
+        os.symlink(os.path.join(TOP, "python"), self.at("python"))
         shutil.copy(os.path.join(TOP, "cstn"), self.at("cstn"))
         for name in ("checksum", "commands.txt", "hints.sh", "plans.sh", "refused.awk", "sentences.txt"):
             os.symlink(os.path.join(TOP, "tools", name), self.at("tools", name))
@@ -79,6 +92,7 @@ class Checkout:
         else:
             self.put("crates/cstn/out/cstn", STUB)
             os.chmod(program, 0o755)
+        self.env = {name: value for name, value in os.environ.items() if name not in ("CSTN", "CSTN_NO_BUILD")} | {"TMPDIR": self.temporary}
         self.put("crates.txt", "cstn:\n")
         self.put("crates/cstn/src/main.rt", "")
         with open(program, "rb") as file:
@@ -97,7 +111,7 @@ class Checkout:
     def called(self, *words, live="", **env):
         """The status of the script, what it writes, and what it says on standard error."""
         done = subprocess.run([self.at("cstn"), *words], input=live.encode(), stdout=subprocess.PIPE, stderr=subprocess.PIPE, timeout=SECONDS,
-                              env={**os.environ, "TMPDIR": self.temporary, **env}, cwd=self.path, check=False)
+                              env={**self.env, **env}, cwd=self.path, check=False)
         return done.returncode, done.stdout, done.stderr.decode()
 
 
@@ -140,6 +154,26 @@ def shown(folder):
     check("what is left behind", os.listdir(here.temporary), [])
 
 
+def explained(folder):
+    """`explain` names constraints by the lines of a plan, and says why one is refused; each drawn plan has as many lines named."""
+    here = Checkout(folder)
+    status, wrote, told = here.called("explain", os.path.join(TOP, "examples", "clinical-pathway.plan"))
+    check("explain", (status, wrote.decode().startswith(EXPLAINED), told), (GOOD, True, ""))
+    text, why, line, mark = SHOWN[0]
+    here.put("f.plan", text)
+    said = "".join(f"cstn: {it}\n" for it in (f"f.plan, {why}", f"  {line}", f"  {mark}"))
+    check("explain of a plan that is refused", here.called("explain", "f.plan"), (DOCUMENT, f"plan line 3 word 5\nline 3: {line}\n".encode(), said))
+    for number in range(500):
+        text = drawn_text(random.Random(number))
+        try:
+            heard = heard_in(text)
+            network = Reader(heard).network(9)
+        except Refused:
+            continue
+        found, words = said_in(text), {letter: word for word, letter in heard.letters.items()}
+        check(f"what the lines of plan {number} say", (len(found.rows), len(found.says), found.words), (*[len(network.constraints)] * 2, words))
+
+
 def places():
     """The table of tools/sentences.txt: for each place what may stand there in words, and where words lead."""
     with open(os.path.join(TOP, "tools", "sentences.txt"), encoding="utf-8") as table:
@@ -175,4 +209,4 @@ def told_places(_):
     check("places that were seen", seen, set(table))
 
 
-LAUNCHED = (taken, shown, told_places)
+LAUNCHED = (taken, shown, explained, told_places)

@@ -209,6 +209,16 @@ tell_plan() {
     while IFS= read -r told; do say "$told"; done
 }
 
+# Of each plan in sentences among the words why it is refused, if it is.
+tell_refused_plans() {
+  deadline=$(deadline_of "$@")
+  for word in "$@"; do
+    case $word in
+      *.plan) [ ! -f "$word" ] || "$program" plan "$word" ${deadline:+--deadline "$deadline"} >/dev/null 2>&1 </dev/null || tell_plan "$word" ;;
+    esac
+  done
+}
+
 # Why a document is refused: for its labels, or for another fault.
 tell_document() {
   said=

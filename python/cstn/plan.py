@@ -4,7 +4,7 @@ from __future__ import annotations
 import hashlib
 import re
 from collections.abc import Iterable, Sequence
-from dataclasses import dataclass
+from dataclasses import dataclass, replace
 from functools import cached_property
 from pathlib import Path
 from typing import Self
@@ -13,6 +13,7 @@ from cstn import program as programs
 from cstn.answers import Verdict
 from cstn.errors import Unavailable
 from cstn.names import Label, literals
+from cstn.said import said
 from cstn.sentences import sentences
 
 ENTITY = re.compile(r"&(amp|lt|gt|quot|#\d+);")
@@ -80,9 +81,19 @@ class Plan:
         return cls(document, deadline, steps, limits, found, hashlib.sha256(text.encode()).hexdigest(), program)
 
     @classmethod
+    def of_sentences(cls, text: bytes, *, deadline: int | None = None, program: str | None = None) -> Self:
+        """Reads a plan in sentences: its document is the one that the program writes of it, and each limit says what
+        its line says. Raises `BadDocument`, `NoProgram`, `Unavailable`."""
+        _, document = programs.ask("plan", text, programs.options(deadline, None), program=program)
+        plan = cls.read(document.encode(), deadline=deadline, program=program)
+        limits = tuple(replace(limit, says=says) for limit, says in zip(plan.limits, said(text).says, strict=True))
+        return replace(plan, limits=limits)
+
+    @classmethod
     def load(cls, path: str | Path, *, deadline: int | None = None, program: str | None = None) -> Self:
-        """Reads the document of a file."""
-        return cls.read(Path(path).read_bytes(), deadline=deadline, program=program)
+        """Reads the document of a file, or its plan in sentences if its name ends in `.plan`."""
+        read = cls.of_sentences if Path(path).suffix == ".plan" else cls.read
+        return read(Path(path).read_bytes(), deadline=deadline, program=program)
 
     def check(self, *, cap: int = programs.CAP, seconds: float | None = programs.SECONDS) -> Verdict:
         """Whether the plan can be carried out, whatever is observed. Raises `OutOfTime`."""

@@ -136,7 +136,8 @@ def tell_next(net: Network, answer: re.Match[str], heard: Heard) -> Data:
     for letter in answer["wait"] or "":
         point, words = placed(net, net.observers[letter])
         told = told_of(net, point["name"], heard)
-        says.append(f"At {Spoken.moment(int(moment))} the outcome of {letter} is awaited: {words} observes it{told}.")
+        says.append(f"At {Spoken.moment(int(moment))} the outcome of {Spoken.letter(letter)} is awaited: {words} "
+                    f"observes it{told}.")
         awaited.append({"letter": letter, "observer": point["name"], "line": point["line"]})
     do = [point for point, _ in points]
     return {"answer": "next", "moment": int(moment), "do": do, "wait": awaited, "says": says}

@@ -60,8 +60,8 @@ def tied(net: Network, numbers: list[int]) -> list[str]:
 def waits_of(net: Network, name: str) -> list[str]:
     """The outcomes that the label of a step asks for."""
     found = [(letter, net.observers[letter], value) for letter, value in literals(net.labels.get(name, "")).items()]
-    return [f"its label: {letter} is to be {str(value).lower()}, and is known {ticks(net.reaction(observer))} after "
-            f"{shown(observer)}" for letter, observer, value in found]
+    return [f"its label: {Spoken.letter(letter)} is to be {str(value).lower()}, and is known "
+            f"{ticks(net.reaction(observer))} after {shown(observer)}" for letter, observer, value in found]
 
 
 def waiting_for(net: Network, name: str) -> list[str]:
@@ -69,8 +69,8 @@ def waiting_for(net: Network, name: str) -> list[str]:
     letter = net.observed.get(name)
     names = [shown(other) for other in net.names if letter and letter in net.executed[other]]
     if len(names) < 2:
-        return [f"the label of {it}, which asks for {letter}" for it in names]
-    return [f"the labels of {', '.join(names)}, which ask for {letter}"]
+        return [f"the label of {it}, which asks for {Spoken.letter(letter or '')}" for it in names]
+    return [f"the labels of {', '.join(names)}, which ask for {Spoken.letter(letter or '')}"]
 
 
 def tell_step(asked: Asked, called: str) -> tuple[int, Data, list[str]]:
@@ -86,7 +86,7 @@ def tell_step(asked: Asked, called: str) -> tuple[int, Data, list[str]]:
     cases, why = told_cases(asked)
     groups, label = moments_of(cases, name), net.labels.get(name, "")
     letter = net.observed.get(name)
-    told = f" It tells {letter}, which is known {ticks(net.reaction(name))} later." if letter else ""
+    told = f" It tells {Spoken.letter(letter)}, which is known {ticks(net.reaction(name))} later." if letter else ""
     lines = [f"{net.told_at(name, 'id')} is executed {'only' + where(label)[1:] if label else 'in every case'}.{told}",
              *(f"It comes {it}." for it in when(groups))]
     lines += [NO_MOMENTS.format(why)] if why else []
