@@ -1,7 +1,8 @@
-"""The tables of checks/plans: worked plans and their networks, each refusal, the examples, and drawn texts and networks."""
+"""The tables of checks/plans: worked plans, each refusal, the examples, and drawn texts and networks."""
 import os
 import random
 import sys
+import time
 
 from runs import DOCUMENT, GOOD, TOP, WORDS, check, compact, examples, run
 
@@ -12,6 +13,7 @@ from drawn_plans import drawn_network, drawn_text
 from sentences import Refused, network_said, plan, sentences
 
 PLAN = DOCUMENT
+MARK = b"\xef\xbb\xbf"
 
 
 def has(command):
@@ -79,7 +81,8 @@ MEANT = (
     ("step X / step Y / X 1..2 after Y and Z", ["X", "Y"], ["X->Y -1", "Y->X 2", "X->Z -1", "Z->X 2"]),
     ("step X / Z with X", ["X"], ["Z->X 0", "X->Z 0"]),
     ("step Z observes p after 3 / step X if not p", ["Z:p:3", "X:::!p"], []),
-    ("step P observes p / step X / X after P if p and not p1 / step Q observes p1 as q", ["P:p", "X", "Q:q"], ["X->P 0 p!q"]),
+    ("step P observes p / step X / X after P if p and not p1 / step Q observes p1 as q", ["P:p", "X", "Q:q"],
+     ["X->P 0 p!q"]),
     ("step P observes p after 4 / step X / X 2..5 after result of p", ["P:p:4", "X"], ["X->P -6", "P->X 9"]),
     ("step P observes p / step X / X with result of p", ["P:p", "X"], ["X->P -1", "P->X 1"]),
     ("step P observes p / step X / X by -1 after result of p", ["P:p", "X"], ["P->X 0"]),
@@ -90,13 +93,15 @@ MEANT = (
      ["T.end->T -3", "T->T.end 3", "X->T.end 0", "T->Z -1", "Z->T.end 5", "X->T.end 2"]),
     ("task T 3 / step X / X after start of T / end of T at 1.. / start of T by 5 / T.end after X", ["T", "T.end", "X"],
      ["T.end->T -3", "T->T.end 3", "X->T 0", "T.end->Z -1", "Z->T 5", "T.end->X 0"]),
-    ("step S observes damage as d after 0:05 / task T 3..4 / step X / X within 2 after result of damage and T / T by 8 / T after S / "
+    ("step S observes damage as d after 0:05 / task T 3..4 / step X / "
+     "X within 2 after result of damage and T / T by 8 / T after S / "
      "end of T 1.. after start of T if not damage / X with S", ["S:d:5", "T", "T.end", "X"],
-     ["T.end->T -3", "T->T.end 4", "X->S -5", "S->X 7", "X->T.end 0", "T.end->X 2", "Z->T.end 8", "T->S 0", "T.end->T -1 !d", "X->S 0",
-      "S->X 0"]),
+     ["T.end->T -3", "T->T.end 4", "X->S -5", "S->X 7", "X->T.end 0", "T.end->X 2", "Z->T.end 8", "T->S 0",
+      "T.end->T -1 !d", "X->S 0", "S->X 0"]),
     ("step \"Log book\" / step \"A B\"", ["Log book", "A B"], []),
     ("step \"step\"#a comment / \"step\" by 5\t\r", ["step"], ["Z->step 5"]),
-    ("step 5 / 5 5 after 5 / step 1..2 / 1..2 1..2 after 5", ["5", "1..2"], ["5->5 -5", "5->5 5", "1..2->5 -1", "5->1..2 2"]),
+    ("step 5 / 5 5 after 5 / step 1..2 / 1..2 1..2 after 5", ["5", "1..2"],
+     ["5->5 -5", "5->5 5", "1..2->5 -1", "5->1..2 2"]),
     ("step X # step Z / step Y", ["X", "Y"], []),
     ("step X#Y / X#Y by 1", ["X#Y"], ["Z->X#Y 1"]),
     ("step \"#1\" / step 50%25 / step A%09B / step \"it's%22\"", ["#1", "50%", "A&#9;B", "it's&quot;"], []),
@@ -113,60 +118,149 @@ CLOCKS = (
     ("deadline 10:00 / task T 0:30..1:00", 600, ["T", "T.end"], ["T.end->T -30", "T->T.end 60"]),
 )
 
-# Rows: the lines behind `deadline 9`, and why they are refused.
-REFUSED = (
-    ("X ..30 after Y", "line 2 word 2"),
-    ("X by -3", "line 2 word 4"),
-    ("step Log book", "line 2 word 3"),
-    ("step X / X at five", "line 3 word 3"),
-    ("step X if b / step Y if b !l", "line 3 word 5"),
-    ("step X observes damage", "line 2 word 5"),
-    ("step \"X\"", "line 2 word 2"),
-    ("step Log%20book", "line 2 word 2"), ("step \"Log%20book\"", "line 2 word 2"), ("step a%22b", "line 2 word 2"),
-    ("step a%4", "line 2 word 2"), ("step a%41", "line 2 word 2"), ("step a%0a", "line 2 word 2"), ("step %FF", "line 2 word 2"),
-    ("step \"\"", "line 2 word 2"), ("step " + 65 * "x", "line 2 word 2"), ("step " + 33 * "é", "line 2 word 2"),
-    ("step at", "line 2 word 2"), ("Step X", "line 2 word 2"), ("step", "line 2 word 2"), ("\"step\" X", "line 2 word 2"),
-    ("step X observes", "line 2 word 4"), ("step X observes 5", "line 2 word 4"), ("step X observes p as d", "line 2 word 5"),
-    ("step X observes damage as", "line 2 word 6"), ("step X observes damage as 5", "line 2 word 6"),
-    ("step X observes p after", "line 2 word 6"), ("step X observes p after -1", "line 2 word 6"), ("step X if", "line 2 word 4"),
-    ("step X if p observes p", "line 2 word 5"), ("step X if not", "line 2 word 5"), ("step X if p and", "line 2 word 6"),
-    ("step X if " + 65 * "x", "line 2 word 4"), ("step X if \"p\"", "line 2 word 4"),
-    ("task T", "line 2 word 3"), ("task T after X", "line 2 word 3"), ("task T 3..4 5", "line 2 word 4"),
-    ("deadline", "line 2 word 2"), ("deadline -1", "line 2 word 2"), ("deadline 07", "line 2 word 2"), ("deadline 0:60", "line 2 word 2"),
-    ("deadline 10000:00", "line 2 word 2"), ("deadline 9 9", "line 2 word 3"), ("start", "line 2 word 2"), ("start 5", "line 2 word 2"),
-    ("X", "line 2 word 2"), ("X at", "line 2 word 3"), ("X at -0", "line 2 word 3"), ("X at 1...2", "line 2 word 3"),
-    ("X at 1..2..3", "line 2 word 3"), ("X at 1 ..2", "line 2 word 4"), ("X within -1 after Y", "line 2 word 3"),
-    ("X within 5 Y", "line 2 word 4"), ("X after", "line 2 word 3"), ("X after Y and", "line 2 word 5"), ("X after Y Y", "line 2 word 4"),
-    ("X after result", "line 2 word 4"), ("X after result of", "line 2 word 5"), ("X after result of 5", "line 2 word 5"),
-    ("X 5 with Y", "line 2 word 3"), ("end of", "line 2 word 3"), ("end X", "line 2 word 2"), ("result of p after X", "line 2 word 1"),
-    ("start of X", "line 2 word 4"), ("and", "line 2 word 1"), ("X at 5 after Y", "line 2 word 4"), ("X at +5", "line 2 word 3"),
-    ("step \"X", "line 2 word 0"), ("step \"X # \" \"", "line 2 word 0"), (4097 * "#", "line 2 word 0"), ("# " + "\0", "deadline X"),
-    ("step X / X at 6..5", "line 3 range"), ("step X / X 6..5 after X", "line 3 range"), ("task T 6..5", "line 2 range"),
-    ("X by 1000000001", "line 2 range"), ("X at -1000000001..", "line 2 range"), ("X by 99999999999999999999", "line 2 range"),
-    ("step X observes p after 0", "line 2 range"), ("step X observes p after 1001", "line 2 range"), ("start 24:00", "line 2 range"),
-    ("start 9999:59", "line 2 range"), ("X at 6..5", "line 2 name X"), ("deadline 1000000001", "line 2 range"),
-    ("step X / X at 6..5 if damage", "line 3 range"),
-    ("step P observes p after 1000 / P by 999999000 after result of p / P by 999999001 after result of p", "line 4 range"),
-    ("step P observes p after 1000 / P by 999999001 after result of p if damage", "line 3 letter damage"),
-    ("deadline 9", "line 2 twice deadline"), ("start 1:00 / start 1:00", "line 3 twice start"), ("step X / step X", "line 3 twice X"),
-    ("task T 1 / step T.end", "line 3 twice T.end"), ("step T.end / task T 1", "line 3 twice T.end"), ("step T / task T 1", "line 3 twice T"),
-    ("step Z / step Z", "line 3 twice Z"), ("step Z / task Z 5", "line 3 twice Z"), ("step \"a b\" / step \"a b\"", "line 3 twice a%20b"),
-    ("task Z 5", "line 2 name Z"), ("task " + 61 * "x" + " 5", "line 2 name " + 61 * "x"), ("task " + 31 * "é" + " 5", "line 2 name " + 31 * "é"),
-    ("step X observes damage as d / step Y observes damage as e", "line 3 twice damage"),
-    ("step X observes damage as d / step Y observes harm as d", "line 3 twice d"),
-    ("step X observes damage as d / step Y observes damage as d", "N7 d X Y"),
-    ("step X if p and p", "line 2 twice p"), ("step X if p and not p", "line 2 twice p"), ("step X if harm and p and harm", "line 2 twice harm"),
-    ("X by 5 if p and p", "line 2 twice p"), ("step X observes damage as d if damage and d", "line 2 twice d"),
-    ("step X / Y at 5", "line 3 name Y"), ("step X / X after Y", "line 3 name Y"), ("step X / end of X by 3", "line 3 name X"),
-    ("step X / X after start of X", "line 3 name X"), ("task T 1 / end of T.end by 3", "line 3 name T.end"), ("end of Z by 3", "line 2 name Z"),
-    ("step X / X after \"a b\" and Y", "line 3 name a%20b"), ("Y at 6..5 / step X / step X", "line 4 twice X"),
-    ("step X if damage", "line 2 letter damage"), ("step X / X after result of p", "line 3 letter p"),
-    ("step X / X after result of damage if harm", "line 3 letter damage"), ("step X / X after Y if harm", "line 3 name Y"),
-    ("step X / X 5 after X if p", "N6 p"), ("step X / X after X if q and p and A", "N6 A"),
-    ("step X observes p / step Y observes p / X after result of p", "N7 p X Y"), ("step X if p", "L3 X p"), ("step Z if p", "L1"),
-    ("step X if q and p", "L3 X p"), ("step P observes p if p", "L4 P"), ("step P observes p if q / step Q observes q if p", "L4 P"),
-    ("step P observes p / step Q observes q if p / step X if q and not p", "L5 X"), ("step X / step Y if p / X by 1 if q", "N6 q"),
+# The lines behind `deadline 9`, and why they are refused.
+REFUSED = r"""
+X ..30 after Y => line 2 word 2
+X by -3 => line 2 word 4
+step Log book => line 2 word 3
+step X / X at five => line 3 word 3
+step X if b / step Y if b !l => line 3 word 5
+step X observes damage => line 2 word 5
+step "X" => line 2 word 2
+step Log%20book => line 2 word 2
+step "Log%20book" => line 2 word 2
+step a%22b => line 2 word 2
+step a%4 => line 2 word 2
+step a%41 => line 2 word 2
+step a%0a => line 2 word 2
+step %FF => line 2 word 2
+step "" => line 2 word 2
+step xxxxxxxxxxxxxxxxxxxxxxxxxxxxxxxxxxxxxxxxxxxxxxxxxxxxxxxxxxxxxxxxx => line 2 word 2
+step ééééééééééééééééééééééééééééééééé => line 2 word 2
+step at => line 2 word 2
+Step X => line 2 word 2
+step => line 2 word 2
+"step" X => line 2 word 2
+step X observes => line 2 word 4
+step X observes 5 => line 2 word 4
+step X observes p as d => line 2 word 5
+step X observes damage as => line 2 word 6
+step X observes damage as 5 => line 2 word 6
+step X observes p after => line 2 word 6
+step X observes p after -1 => line 2 word 6
+step X if => line 2 word 4
+step X if p observes p => line 2 word 5
+step X if not => line 2 word 5
+step X if p and => line 2 word 6
+step X if xxxxxxxxxxxxxxxxxxxxxxxxxxxxxxxxxxxxxxxxxxxxxxxxxxxxxxxxxxxxxxxxx => line 2 word 4
+step X if "p" => line 2 word 4
+task T => line 2 word 3
+task T after X => line 2 word 3
+task T 3..4 5 => line 2 word 4
+deadline => line 2 word 2
+deadline -1 => line 2 word 2
+deadline 07 => line 2 word 2
+deadline 0:60 => line 2 word 2
+deadline 10000:00 => line 2 word 2
+deadline 9 9 => line 2 word 3
+start => line 2 word 2
+start 5 => line 2 word 2
+X => line 2 word 2
+X at => line 2 word 3
+X at -0 => line 2 word 3
+X at 1...2 => line 2 word 3
+X at 1..2..3 => line 2 word 3
+X at 1 ..2 => line 2 word 4
+X within -1 after Y => line 2 word 3
+X within 5 Y => line 2 word 4
+X after => line 2 word 3
+X after Y and => line 2 word 5
+X after Y Y => line 2 word 4
+X after result => line 2 word 4
+X after result of => line 2 word 5
+X after result of 5 => line 2 word 5
+X 5 with Y => line 2 word 3
+end of => line 2 word 3
+end X => line 2 word 2
+result of p after X => line 2 word 1
+start of X => line 2 word 4
+and => line 2 word 1
+X at 5 after Y => line 2 word 4
+X at +5 => line 2 word 3
+step "X => line 2 word 0
+step "X # " " => line 2 word 0
+step X / X at 6..5 => line 3 range
+step X / X 6..5 after X => line 3 range
+task T 6..5 => line 2 range
+X by 1000000001 => line 2 range
+X at -1000000001.. => line 2 range
+X by 99999999999999999999 => line 2 range
+step X observes p after 0 => line 2 range
+step X observes p after 1001 => line 2 range
+start 24:00 => line 2 range
+start 9999:59 => line 2 range
+X at 6..5 => line 2 name X
+deadline 1000000001 => line 2 range
+step X / X at 6..5 if damage => line 3 range
+step P observes p after 1000 / P by 999999000 after result of p / P by 999999001 after result of p => line 4 range
+step P observes p after 1000 / P by 999999001 after result of p if damage => line 3 letter damage
+deadline 9 => line 2 twice deadline
+start 1:00 / start 1:00 => line 3 twice start
+step X / step X => line 3 twice X
+task T 1 / step T.end => line 3 twice T.end
+step T.end / task T 1 => line 3 twice T.end
+step T / task T 1 => line 3 twice T
+step Z / step Z => line 3 twice Z
+step Z / task Z 5 => line 3 twice Z
+step "a b" / step "a b" => line 3 twice a%20b
+task Z 5 => line 2 name Z
+step X observes damage as d / step Y observes damage as e => line 3 twice damage
+step X observes damage as d / step Y observes harm as d => line 3 twice d
+step X observes damage as d / step Y observes damage as d => N7 d X Y
+step X if p and p => line 2 twice p
+step X if p and not p => line 2 twice p
+step X if harm and p and harm => line 2 twice harm
+X by 5 if p and p => line 2 twice p
+step X observes damage as d if damage and d => line 2 twice d
+step X / Y at 5 => line 3 name Y
+step X / X after Y => line 3 name Y
+step X / end of X by 3 => line 3 name X
+step X / X after start of X => line 3 name X
+task T 1 / end of T.end by 3 => line 3 name T.end
+end of Z by 3 => line 2 name Z
+step X / X after "a b" and Y => line 3 name a%20b
+Y at 6..5 / step X / step X => line 4 twice X
+step X if damage => line 2 letter damage
+step X / X after result of p => line 3 letter p
+step X / X after result of damage if harm => line 3 letter damage
+step X / X after Y if harm => line 3 name Y
+step X / X 5 after X if p => N6 p
+step X / X after X if q and p and A => N6 A
+step X observes p / step Y observes p / X after result of p => N7 p X Y
+step X if p => L3 X p
+step Z if p => L1
+step X if q and p => L3 X p
+step P observes p if p => L4 P
+step P observes p if q / step Q observes q if p => L4 P
+step P observes p / step Q observes q if p / step X if q and not p => L5 X
+step X / step Y if p / X by 1 if q => N6 q
+"""
+LONG_WORD = 65 * "x"
+LONGER_LINES = (
+    (f"step {LONG_WORD}", "line 2 word 2"),
+    (f"step X if {LONG_WORD}", "line 2 word 4"),
+    (4097 * "#", "line 2 word 0"),
+    (f"task {61 * 'x'} 5", f"line 2 name {61 * 'x'}"),
+    (f"task {31 * 'é'} 5", f"line 2 name {31 * 'é'}"),
+    ("step P observes p after 1000 / P by 999999000 after result of p / "
+     "P by 999999001 after result of p", "line 4 range"),
 )
+
+
+def refused_rows():
+    """The rows above, each with why it is refused."""
+    yield from (row.split(" => ") for row in REFUSED.strip().split("\n"))
+    yield from LONGER_LINES
 
 
 def worked(folder):
@@ -183,28 +277,32 @@ def worked(folder):
     origin = run(["save", folder.put("f", compact(["Z"], [])), "--deadline", "0"])
     for name, text, option_, wanted in (
         ("nothing", b"", None, (PLAN, b"plan deadline\n")), ("nothing, by a deadline", b"", 0, origin),
-        ("a byte order mark", b"\xef\xbb\xbfdeadline 0", None, origin), ("two byte order marks", 2 * b"\xef\xbb\xbf" + b"deadline 0", None, (PLAN, b"plan line 1 word 3\n")),
-        ("another deadline", b"deadline 5", 0, origin), ("another deadline, and a wrong line", b"deadline five", 0, (PLAN, b"plan line 1 word 2\n")),
-        ("a late deadline", b"deadline 1000001", None, (PLAN, b"plan N4 1000001\n")), ("bytes", b"deadline 5\n\xff", None, (PLAN, b"plan line 2 word 0\n")),
-        ("a line of 4,096 bytes", b"deadline 0\n" + 4096 * b"#" + b"\n", None, origin), ("CR", b"deadline 0\r\n\r\n", None, origin),
-        ("8,388,608 bytes", b"deadline 0\n" + 8_388_597 * b"\n", None, origin), ("a byte more", b"deadline 0\n" + 8_388_598 * b"\n", None, (PLAN, b"plan long\n")),
+        ("a byte order mark", MARK + b"deadline 0", None, origin),
+        ("two byte order marks", 2 * MARK + b"deadline 0", None, (PLAN, b"plan line 1 word 3\n")),
+        ("another deadline", b"deadline 5", 0, origin),
+        ("another deadline, and a wrong line", b"deadline five", 0, (PLAN, b"plan line 1 word 2\n")),
+        ("a late deadline", b"deadline 1000001", None, (PLAN, b"plan N4 1000001\n")),
+        ("bytes", b"deadline 5\n\xff", None, (PLAN, b"plan line 2 word 0\n")),
+        ("a line of 4,096 bytes", b"deadline 0\n" + 4096 * b"#" + b"\n", None, origin),
+        ("CR", b"deadline 0\r\n\r\n", None, origin),
+        ("8,388,608 bytes", b"deadline 0\n" + 8_388_597 * b"\n", None, origin),
+        ("a byte more", b"deadline 0\n" + 8_388_598 * b"\n", None, (PLAN, b"plan long\n")),
     ):
         check(name, plans.plan(name, text, option_), wanted)
 
 
 def refused(folder):
     plans = Plans(folder)
-    for rows, why in REFUSED:
-        if why == "deadline X":
-            check(rows, plans.plan(rows, text_of(rows))[0], GOOD)
-        else:
-            check(rows, plans.plan(rows, text_of(rows)), (PLAN, f"plan {why}\n".encode()))
-    many = "".join(f"step S{number}\n" for number in range(1_023))
+    for rows, why in refused_rows():
+        check(rows, plans.plan(rows, text_of(rows)), (PLAN, f"plan {why}\n".encode()))
+    check("a NUL in a comment", plans.plan("a NUL", b"deadline 9\n# \0\n")[0], GOOD)
+    many, each = "".join(f"step S{number}\n" for number in range(1_023)), " and ".join(18 * ["X"])
     for name, text, why in (
         ("1,024 time-points", many, ""), ("1,025 time-points", many + "step X\n", "N1"),
-        ("16,384 constraints", 8_192 * "Z with Z\n", ""), ("16,385 constraints", 8_192 * "Z with Z\n" + "Z by 0\n", "N3"),
+        ("16,384 constraints", 8_192 * "Z with Z\n", ""),
+        ("16,385 constraints", 8_192 * "Z with Z\n" + "Z by 0\n", "N3"),
         ("many by labels", "step P observes p\nstep X if p\n" + 8_192 * "Z with Z\n", "L6"),
-        ("many by one line", "".join(f"step S{number}\n" for number in range(20)) + 911 * ("Z after " + " and ".join(f"S{number % 20}" for number in range(18)) + "\n"), "N3"),
+        ("many by one line", f"step X\n{911 * f'Z after {each}{chr(10)}'}", "N3"),
     ):
         found = plans.plan(name, b"deadline 9\n" + text.encode())
         check(name, found if why else found[0], (PLAN, f"plan {why}\n".encode()) if why else GOOD)
@@ -222,7 +320,33 @@ def examples_as_plans(folder):
         check(f"{name}: there and back", plans.plan(name, said), saved)
 
 
-TABLES = (worked, refused, examples_as_plans)
+# What a text may cost: its name, the text, and the seconds, ten times what is promised.
+LONG = 8_388_000
+DEAR = (
+    ("1,024 steps and 16,384 constraints", "deadline 9\n" + "".join(f"step S{number}\n" for number in range(1_023))
+     + "".join(f"S{number % 1_023} 0..9 after S{number * 7 % 1_023}\n" for number in range(8_192)), 0.5),
+    ("8 MB of comments", "deadline 9\n" + f"# {4_000 * 'x'}\n" * (LONG // 4_003), 5),
+    ("8 MB of lines without words", "deadline 9\n" + (LONG - 11) * "\n", 5),
+    ("8 MB of one name", "deadline 9\nstep X\n" + f"X after {' and '.join(500 * ['X'])}\n" * 2_780, 5),
+    ("8 MB of words that stand for no letter",
+     "deadline 9\nstep X\n" + f"X by 5 if {' and '.join(f'w{n}' for n in range(400))}\n" * 2_390, 5),
+    ("8 MB of steps", "deadline 9\n" + "".join(f"step {'x' * 40}{number}\n" for number in range(160_000)), 5),
+)
+
+
+def costs_of_texts(folder):
+    """Texts at the limits are read in time, by the program."""
+    plans = Plans(folder)
+    for name, text, most in DEAR if plans.has_plan else ():
+        assert len(text) <= LONG, (name, len(text))
+        begun = time.monotonic()
+        run(["plan", folder.put("f", text)])
+        spent = time.monotonic() - begun
+        check(f"{name}: {spent:.3f} s", spent < most, True)
+        print(f"plans: {name}: {spent:.3f} s")
+
+
+TABLES = (worked, refused, examples_as_plans, costs_of_texts)
 
 
 def kind_of(words):
@@ -245,7 +369,7 @@ def trials(count):
                 plans.sentences(f"network {number}", as_document(network))
 
     def texts(folder):
-        """A text is refused, or says a network that its sentences say too. The program takes and refuses that network so too."""
+        """A text is refused, or says a network that its sentences say too. The program takes it likewise."""
         plans, outcomes = Plans(folder), {}
         for number in range(count):
             draw = random.Random(number)
@@ -258,8 +382,10 @@ def trials(count):
                 check(f"text {number}: there and back", plan(sentences(network)), network)
             if number % 20 == 0 and (status == GOOD or wrote[5:6] in b"NL"):
                 document = as_document(network_said(text))
-                wanted = (GOOD, document) if status == GOOD else (DOCUMENT, f"document {'X10' if wrote[5:6] == b'N' else 'X12'} ".encode() + wrote[5:])
+                kind = b"X10" if wrote[5:6] == b"N" else b"X12"
+                wanted = (GOOD, document) if status == GOOD else (DOCUMENT, b"document " + kind + b" " + wrote[5:])
                 check(f"text {number}: its document", run(["save", folder.put("f", document)]), wanted)
-        print("plans: drawn texts:", ", ".join(f"{why} {times}" for why, times in sorted(outcomes.items(), key=lambda it: -it[1])))
+        told = sorted(outcomes.items(), key=lambda it: -it[1])
+        print("plans: drawn texts:", ", ".join(f"{why} {times}" for why, times in told))
 
     return there_and_back, texts

@@ -134,6 +134,7 @@ EXAMPLES = {
     "clinical-pathway.graphml": ([], 5, 195),
     "emergency-department.graphml": ([], 40, 195),
     "insurance-claim.graphml": (["--deadline", "48"], 8, 34),
+    "lift-repair.graphml": ([], 11, 245),
     "mission.graphml": ([], 6, 81),
     "night.graphml": ([], 52, 460),
     "stroke.graphml": ([], 5, 150),

@@ -1,11 +1,11 @@
-"""Networks and texts that are drawn: what a network says in sentences is a plan of it, and a text is a plan or is refused."""
+"""Drawn networks and texts: what a network says in sentences is a plan of it, and a text is a plan or is refused."""
 from random import Random
 
 from documents import Network, Point, fault
 from sentences import KEYWORDS, spelled
 
-NAMES = ("X", "Y", "S", "T", "T.end", "Log book", 'a"b', '"', "#1", "50%", "%20", "5", "1..2", "-3", "A\tB", "end", "of", "Zürich", "p", "damage",
-         "é" * 32, "\x01" * 64, "x" * 64, " ", "Z ", "a#b", "<&>'", "\x7f", "10:00", "…", "𝔸")
+NAMES = ("X", "Y", "S", "T", "T.end", "Log book", 'a"b', '"', "#1", "50%", "%20", "5", "1..2", "-3", "A\tB", "end",
+         "of", "Zürich", "p", "damage", "é" * 32, "\x01" * 64, "x" * 64, " ", "Z ", "a#b", "<&>'", "\x7f", "10:00", "…", "𝔸")
 LETTERS = "pqrdAz"
 WORDS = ("damage", "harm", "d2", "x-y", "later_on")
 
@@ -95,15 +95,20 @@ class Text:
         if not self.often(chance if self.letters or self.words else chance / 20):
             return ""
         words = [self.proposition() for _ in range(self.one(1, 1, 1, 2))]
-        return " if " + " and ".join(self.one("", "not ") + word for word in (words if self.often(0.05) else set(words)))
+        words = words if self.often(0.05) else sorted(set(words))
+        return " if " + " and ".join(self.one("", "not ") + word for word in words)
 
     def refs(self) -> str:
-        return " and ".join(f"result of {self.proposition()}" if self.often(0.2) and (self.letters or self.words) else self.point()
-                            for _ in range(self.one(1, 1, 1, 2, 3)))
+        return " and ".join(self.ref() for _ in range(self.one(1, 1, 1, 2, 3)))
+
+    def ref(self) -> str:
+        return f"result of {self.proposition()}" if self.often(0.2) and (self.letters or self.words) else self.point()
 
     def time(self) -> str:
-        return self.one("0", "5", str(self.draw.randrange(99)), f"{self.draw.randrange(26)}:{self.draw.randrange(60):02}", "06:00",
-                        *["1000000000"] * self.often(0.1), *["1000000001", "18446744073709551616", "05", "5:5"] * self.often(0.01))
+        clock = f"{self.draw.randrange(26)}:{self.draw.randrange(60):02}"
+        large, wrong = ["1000000000"], ["1000000001", "18446744073709551616", "05", "5:5"]
+        return self.one("0", "5", str(self.draw.randrange(99)), clock, "06:00", *large * self.often(0.1),
+                        *wrong * self.often(0.01))
 
     def span(self) -> str:
         return self.one("", "", "", "-") + self.time()
@@ -111,10 +116,12 @@ class Text:
     def range(self) -> str:
         low, high = sorted((self.draw.randrange(30), self.draw.randrange(30)), reverse=self.often(0.02))
         between = f"{self.time()}..{self.time()}" if self.often(0.1) else f"0:{low + 10}..0:{high + 30}"
-        return self.one(self.time(), f"{low}..{high}", f"{low}..", self.span(), f"-{high + 1}..{low}", f"{self.span()}..", between)
+        return self.one(self.time(), f"{low}..{high}", f"{low}..", self.span(), f"-{high + 1}..{low}",
+                        f"{self.span()}..", between)
 
     def observes(self, told: str) -> str:
-        return f" observes {told}" + (f" after {self.one('1', '5', '0:10', '1000', *['0', '1001'] * self.often(0.05))}" if self.often(0.4) else "")
+        reaction = self.one("1", "5", "0:10", "1000", *["0", "1001"] * self.often(0.05))
+        return f" observes {told}" + (f" after {reaction}" if self.often(0.4) else "")
 
     def steps_told(self) -> list[str]:
         told = [*self.letters, *(f"{word} as {letter}" for word, letter in self.words.items())]
@@ -128,9 +135,10 @@ class Text:
         return lines
 
     def line(self) -> str:
-        return self.one(f"{self.point()} at {self.range()}", f"{self.point()} by {self.time()}", f"{self.point()} {self.range()} after {self.refs()}",
-                        f"{self.point()} by {self.span()} after {self.refs()}", f"{self.point()} within {self.time()} after {self.refs()}",
-                        f"{self.point()} after {self.refs()}", f"{self.point()} with {self.refs()}") + self.label(0.3)
+        says = self.one(f"at {self.range()}", f"by {self.time()}", f"{self.range()} after {self.refs()}",
+                        f"by {self.span()} after {self.refs()}", f"within {self.time()} after {self.refs()}",
+                        f"after {self.refs()}", f"with {self.refs()}")
+        return f"{self.point()} {says}{self.label(0.3)}"
 
     def lines(self) -> list[str]:
         lines = [*self.steps_told(), *(self.line() for _ in range(self.draw.randrange(8)))]
@@ -160,8 +168,8 @@ def damaged(draw: Random, lines: list[str]) -> list[str]:
         return [*lines, lines[place]]
     else:
         text = lines[place]
-        cut = draw.randrange(len(text) + 1)
-        return [*lines[:place], text[:cut] + draw.choice('ab1 .:-#"%,\t\r\0é') + text[cut + draw.randrange(2):], *lines[place + 1:]]
+        cut, sign = draw.randrange(len(text) + 1), draw.choice('ab1 .:-#"%,\t\r\0é')
+        return [*lines[:place], text[:cut] + sign + text[cut + draw.randrange(2):], *lines[place + 1:]]
     return [*lines[:place], " ".join(words), *lines[place + 1:]]
 
 
@@ -176,4 +184,10 @@ def drawn_text(draw: Random) -> bytes:
     if draw.random() < 0.02 and data:
         place = draw.randrange(len(data))
         data = data[:place] + bytes([draw.randrange(128, 256)]) + data[place + 1:]
-    return data
+    return data if draw.random() < 0.98 else drawn_bytes(draw)
+
+
+def drawn_bytes(draw: Random) -> bytes:
+    """Bytes of any kind, most of them such as plans have."""
+    signs = b' \n\n\t"#.:-0159XYpq%' + b"step if and at by after task of end "
+    return bytes(draw.choice(signs) if draw.random() < 0.98 else draw.randrange(256) for _ in range(draw.randrange(80)))

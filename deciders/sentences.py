@@ -200,7 +200,7 @@ class Automaton:
         return behind
 
     def one_of(self, symbol: str, behind: set[int], how: str) -> set[int]:
-        """The states with which a symbol begins, where these are behind it; more than one, or none, if `how` says so."""
+        """The states with which a symbol begins, with these behind it; `how` says whether it may lack or repeat."""
         if how == "*":
             again = set(behind)
             again |= self.one_of(symbol, again, "")

@@ -52,6 +52,15 @@ def when(groups: list[Data]) -> list[str]:
     return [*lines, f"and {more} more"] if more > 0 else lines
 
 
+def soonest(groups: list[Data]) -> list[str]:
+    """In words the least moment by which a step can be had in every case, where it comes at several. No plan has a step
+    earlier in a case than this one."""
+    moments = sorted({it["at"] for it in groups})
+    if len(moments) < 2:
+        return []
+    return [f"Wherever it is executed, it can be had by {Spoken.moment(moments[-1])}, and by no earlier moment."]
+
+
 def tied(net: Network, numbers: list[int]) -> list[str]:
     """Some constraints in words."""
     return [f"{net.called(it)}: {constraint(*net.constraints[it])}{counts_where(net, it)}" for it in numbers]
@@ -88,7 +97,7 @@ def tell_step(asked: Asked, called: str) -> tuple[int, Data, list[str]]:
     letter = net.observed.get(name)
     told = f" It tells {Spoken.letter(letter)}, which is known {ticks(net.reaction(name))} later." if letter else ""
     lines = [f"{net.told_at(name, 'id')} is executed {'only' + where(label)[1:] if label else 'in every case'}.{told}",
-             *(f"It comes {it}." for it in when(groups))]
+             *(f"It comes {it}." for it in when(groups)), *soonest(groups)]
     lines += [NO_MOMENTS.format(why)] if why else []
     for head, words in (("It waits for:", tied(net, sides["waits"]) + waits_of(net, name)),
                         ("What waits for it:", tied(net, sides["waited_for"]) + waiting_for(net, name)),
