@@ -1,10 +1,11 @@
-"""Plans in sentences where the script `cstn` takes a document, which checks/plans holds: what it writes, and why it is refused.
+"""Plans in sentences where the script `cstn` takes a document: what it writes, and why one is refused; for checks/plans.
 
 Where the program has no command `plan` yet, a stub that asks the model of deciders/ stands in for it.
 """
 import hashlib
 import os
 import random
+import re
 import shutil
 import subprocess
 import sys
@@ -35,42 +36,115 @@ if words[:1] == ["plan"]:
 os.execv({PROGRAM!r}, [{PROGRAM!r}, *words])
 """
 
-# Why texts are refused, in words, with the line and the mark.
-SHOWN = (
-    ("deadline 9\nstep X if b\nstep Y if b !l", "line 3: here may stand and, or nothing more", "step Y if b !l", "            ^^"),
-    ("step \"Zürich é\" if", "line 1: here may stand a letter, a word for one, or not", "step \"Zürich é\" if ", "                   ^"),
-    ("step Log book # a", "line 1: here may stand observes, if, or nothing more; a name with a space stands in quotes", "step Log book # a",
-     "         ^^^^"),
-    ("X by -3", "line 1: here may stand after", "X by -3 ", "        ^"),
-    ("step \"X", "line 1: this quote has no end", "step \"X", "     ^^"),
-    ("step X\nX by 5\nX at 6..5", "line 3: a number is above 1000000000, a range ends before it begins, a reaction isn't from 1 to 1000, "
-     "or a clock is above 23:59", "X at 6..5", None),
-    ("step X\n\nstep X", "line 3: line 1 has a step X already", "step X", "     ^"),
-    ("task T 1\nstep T.end", "line 2: line 1 has a step T.end already", "step T.end", "     ^^^^^"),
-    ("deadline 9\ndeadline 9", "line 2: the deadline was said above", "deadline 9", "^^^^^^^^"),
-    ("step X observes damage as d\nstep Y observes harm as d", "line 2: this letter has another word already", "step Y observes harm as d",
-     "                        ^"),
-    ("step X observes damage as d\nstep Y observes damage as e", "line 2: this word stands for another letter already",
-     "step Y observes damage as e", "                ^^^^^^"),
-    ("step X if p and not p", "line 1: the letter of p stands twice in the label", "step X if p and not p", "                    ^"),
-    ("step X\nX after \"a b\"", "line 2: no line says step a%20b, or task a%20b", "X after \"a b\"", "        ^^^^^"),
-    ("step X\nX after end of X", "line 2: X is a step, and no task", "X after end of X", "               ^"),
-    ("task Z 5", "line 1: the start, Z, is no task", "task Z 5", "     ^"),
-    ("step X\nX after result of p", "line 2: no step observes p", "X after result of p", "                  ^"),
-    ("step X if damage", "line 1: damage stands for no letter: no step observes damage as a letter", "step X if damage", "          ^^^^^^"),
-    ("step X", "no line says the deadline: write deadline and a time, or say --deadline N", None, None),
-    ("deadline 9\nstep P observes p\nstep Q observes p", "P (line 2) and Q (line 3) both observe p", None, None),
-    ("deadline 9\nstep X if p", "the label of X (line 2) names p, which no step observes", None, None),
-    ("deadline 9\nstep \x1b[2J\n", "line 2: here may stand a name; one with a space, or that is a keyword, stands in quotes", "step ?[2J", "     ^^^^"),
-)
+# Texts, with `/` between the lines; why each is refused, in words; and the line with the mark, where one is shown.
+SHOWN = r"""
+deadline 9 / step X if b / step Y if b !l
+line 3: here may stand and, or nothing more
+step Y if b !l
+            ^^
+
+step "Zürich é" if
+line 1: here may stand a letter, a word for one, or not
+step "Zürich é" if
+                   ^
+
+step Log book # a
+line 1: here may stand observes, if, or nothing more; a name with a space stands in quotes
+step Log book # a
+         ^^^^
+
+X by -3
+line 1: here may stand after
+X by -3
+        ^
+
+step "X
+line 1: this quote has no end
+step "X
+     ^^
+
+step X / X by 5 / X at 6..5
+line 3: a number is above 1000000000, a range ends before it begins, a reaction isn't from 1 to 1000, or a clock is above 23:59
+X at 6..5
+
+step X /  / step X
+line 3: line 1 has a step X already
+step X
+     ^
+
+task T 1 / step T.end
+line 2: line 1 has a step T.end already
+step T.end
+     ^^^^^
+
+deadline 9 / deadline 9
+line 2: the deadline was said above
+deadline 9
+^^^^^^^^
+
+step X observes damage as d / step Y observes harm as d
+line 2: this letter has another word already
+step Y observes harm as d
+                        ^
+
+step X observes damage as d / step Y observes damage as e
+line 2: this word stands for another letter already
+step Y observes damage as e
+                ^^^^^^
+
+step X if p and not p
+line 1: the letter of p stands twice in the label
+step X if p and not p
+                    ^
+
+step X / X after "a b"
+line 2: no line says step a%20b, or task a%20b
+X after "a b"
+        ^^^^^
+
+step X / X after end of X
+line 2: X is a step, and no task
+X after end of X
+               ^
+
+task Z 5
+line 1: the start, Z, is no task
+task Z 5
+     ^
+
+step X / X after result of p
+line 2: no step observes p
+X after result of p
+                  ^
+
+step X if damage
+line 1: damage stands for no letter: no step observes damage as a letter
+step X if damage
+          ^^^^^^
+
+step X
+no line says the deadline: write deadline and a time, or say --deadline N
+
+deadline 9 / step P observes p / step Q observes p
+P (line 2) and Q (line 3) both observe p
+
+deadline 9 / step X if p
+the label of X (line 2) names p, which no step observes
+"""
 
 
-EXPLAINED = """Yes: the plan can be carried out by its deadline, 360, whatever is observed.
-The deadline is 360. 5 time-points: Z, Sample, Antibiotic, Review, Discharge.
-Sample tells infection (i), which is known 60 ticks later.
+def rows_shown():
+    """The rows above; and one whose line has a sign that a screen obeys."""
+    for block in SHOWN.strip().split("\n\n"):
+        text, *said = block.split("\n")
+        yield text.replace(" / ", "\n"), said
+    keyword = "line 2: here may stand a name; one with a space, or that is a keyword, stands in quotes"
+    yield "deadline 9\nstep \x1b[2J\n", [keyword, "step ?[2J", "     ^^^^"]
+
+
+EXPLAINED = """Sample tells infection (i), which is known 60 ticks later.
 Antibiotic is executed only where infection (i) is true.
 0 (line 7: Sample by 15): Sample at 15 or earlier
-1 (line 8: Antibiotic 65..90 after Sample if infection): Antibiotic at least 65 ticks after Sample, where infection (i) is true
 """
 
 
@@ -92,7 +166,9 @@ class Checkout:
         else:
             self.put("crates/cstn/out/cstn", STUB)
             os.chmod(program, 0o755)
-        self.env = {name: value for name, value in os.environ.items() if name not in ("CSTN", "CSTN_NO_BUILD")} | {"TMPDIR": self.temporary}
+        self.env = {**os.environ, "TMPDIR": self.temporary}
+        for name in ("CSTN", "CSTN_NO_BUILD"):
+            self.env.pop(name, None)
         self.put("crates.txt", "cstn:\n")
         self.put("crates/cstn/src/main.rt", "")
         with open(program, "rb") as file:
@@ -110,68 +186,83 @@ class Checkout:
 
     def called(self, *words, live="", **env):
         """The status of the script, what it writes, and what it says on standard error."""
-        done = subprocess.run([self.at("cstn"), *words], input=live.encode(), stdout=subprocess.PIPE, stderr=subprocess.PIPE, timeout=SECONDS,
-                              env={**self.env, **env}, cwd=self.path, check=False)
+        done = subprocess.run([self.at("cstn"), *words], input=live.encode(), stdout=subprocess.PIPE,
+                              stderr=subprocess.PIPE, timeout=SECONDS, env={**self.env, **env}, cwd=self.path,
+                              check=False)
         return done.returncode, done.stdout, done.stderr.decode()
 
 
 def taken(folder):
-    """A plan stands where a command takes a document: the answers are those for its document, with nothing left behind."""
+    """A plan stands where a command takes a document: the answers are those for its document, and no file is left."""
     here, names = Checkout(folder), ("test-and-visit", "clinical-pathway", "mission")
     visit, pathway, mission = (os.path.join(TOP, "examples", f"{name}.graphml") for name in names)
     as_plan = {path: path.replace(".graphml", ".plan") for path in (visit, pathway, mission)}
     proof = folder.put("proof", run(["check", mission, "--deadline", "80"])[1])
     odd = [here.put(name, "deadline 9\nstep X\nX by 5\n") for name in ("a=b.plan", "-x.plan", "a b'.plan")]
     for words, live in (
-        (["check", visit], ""), (["check", mission, "--deadline", "80"], ""), (["run", visit], "moment 0\nsee p true\nmoment 10\n"),
-        (["follow", pathway, "--cap", "99"], "did 5 Sample\nnext\n"), (["edit", visit], "add Test Z -3 -\ncheck\n"), (["conflict", pathway], ""),
-        (["host", "--deadline", "90", "--cap", "500", mission, visit, mission], "open 1 0\non 1 due\n"), (["replay", mission, proof, "--deadline", "80"], ""),
-        (["check", visit, "--cap", "0"], ""), (["check", visit, "--deadline", "five"], ""), (["check", visit, "--cap"], ""), (["save", pathway], ""),
+        (["check", visit], ""),
+        (["check", mission, "--deadline", "80"], ""),
+        (["check", visit, "--cap", "0"], ""),
+        (["check", visit, "--deadline", "five"], ""),
+        (["check", visit, "--cap"], ""),
+        (["save", pathway], ""),
+        (["conflict", pathway], ""),
+        (["replay", mission, proof, "--deadline", "80"], ""),
+        (["run", visit], "moment 0\nsee p true\nmoment 10\n"),
+        (["follow", pathway, "--cap", "99"], "did 5 Sample\nnext\n"),
+        (["edit", visit], "add Test Z -3 -\ncheck\n"),
+        (["host", "--deadline", "90", "--cap", "500", mission, visit, mission], "open 1 0\non 1 due\n"),
         (["host", *[visit] * 7], "open 1 6\n"),
     ):
         wanted = run(words, live)
         for env in ({}, {"CSTN_NO_BUILD": "1"}):
             status, wrote, told = here.called(*(as_plan.get(it, it) for it in words), live=live, **env)
-            check(f"{words[0]} of a plan {env}", (status, wrote, bool(told) and not env and status < 2), (*wanted, False))
-    for path in odd:
-        check(f"a plan called {os.path.basename(path)}", here.called("check", os.path.basename(path))[:2], (GOOD, b"yes 2\n"))
-    check("a plan that is no file", here.called("check", "none.plan"), (READ_FAULT, b"read fault\n", "cstn: there is no file none.plan\n"))
+            is_loud = bool(told) and (bool(env) or status < 2)
+            check(f"{words[0]} of a plan {env}", (status, wrote, is_loud), (*wanted, False))
+    for name in map(os.path.basename, odd):
+        check(f"a plan called {name}", here.called("check", name)[:2], (GOOD, b"yes 2\n"))
+    found = here.called("check", "none.plan")
+    check("a plan that is no file", found, (READ_FAULT, b"read fault\n", "cstn: there is no file none.plan\n"))
     status, wrote, told = here.called("host", *[as_plan[visit]] * 8)
-    check("eight plans", (status, wrote, told.split(":")[1]), (NOTHING_TO_RUN, b"", " at most seven plans in sentences can be named at a time"))
+    check("eight plans", (status, wrote, "at most seven plans" in told), (NOTHING_TO_RUN, b"", True))
     check("what is left behind", os.listdir(here.temporary), [])
 
 
+def as_said(lines):
+    """What the script says on standard error of the plan f.plan that is refused."""
+    why, *shows = lines
+    return "".join(f"cstn: {it}\n" for it in (f"f.plan, {why}", *(f"  {line}" for line in shows)))
+
+
 def shown(folder):
-    """A plan that is refused ends the script with 3, in all commands, and its line is shown with a mark under the word."""
+    """A plan that is refused ends the script with 3, in all commands, and its line is shown with the mark."""
     here = Checkout(folder)
-    for text, why, line, mark in SHOWN:
-        path = here.put("f.plan", text)
-        with open(path, "rb") as file:
-            wanted = subprocess.run([here.at("crates/cstn/out/cstn"), "plan", path], stdout=subprocess.PIPE, check=False).stdout
-        said = "".join(f"cstn: {it}\n" for it in (f"f.plan, {why}", line and f"  {line}", mark and f"  {mark}") if it)
-        for words, env in ((["check"], {}), (["follow"], {"CSTN_NO_BUILD": "1"}), (["plan"], {})):
-            check(f"{text!r} by {words} {env}", here.called(*words, "f.plan", live="now 0\n", **env), (DOCUMENT, wanted, said))
+    for text, lines in rows_shown():
+        words = [here.at("crates/cstn/out/cstn"), "plan", here.put("f.plan", text)]
+        wanted = DOCUMENT, subprocess.run(words, stdout=subprocess.PIPE, check=False).stdout, as_said(lines)
+        for command, env in (("check", {}), ("follow", {"CSTN_NO_BUILD": "1"}), ("plan", {})):
+            check(f"{text!r} by {command} {env}", here.called(command, "f.plan", live="now 0\n", **env), wanted)
     check("what is left behind", os.listdir(here.temporary), [])
 
 
 def explained(folder):
-    """`explain` names constraints by the lines of a plan, and says why one is refused; each drawn plan has as many lines named."""
-    here = Checkout(folder)
+    """`explain` names constraints by the lines of a plan, and says why one is refused; so it does of drawn plans."""
+    here, (text, lines) = Checkout(folder), next(rows_shown())
     status, wrote, told = here.called("explain", os.path.join(TOP, "examples", "clinical-pathway.plan"))
-    check("explain", (status, wrote.decode().startswith(EXPLAINED), told), (GOOD, True, ""))
-    text, why, line, mark = SHOWN[0]
+    check("explain", (status, EXPLAINED in wrote.decode(), told), (GOOD, True, ""))
     here.put("f.plan", text)
-    said = "".join(f"cstn: {it}\n" for it in (f"f.plan, {why}", f"  {line}", f"  {mark}"))
-    check("explain of a plan that is refused", here.called("explain", "f.plan"), (DOCUMENT, f"plan line 3 word 5\nline 3: {line}\n".encode(), said))
+    wrote = f"plan line 3 word 5\nline 3: {lines[1]}\n".encode()
+    check("explain of a plan that is refused", here.called("explain", "f.plan"), (DOCUMENT, wrote, as_said(lines)))
     for number in range(500):
         text = drawn_text(random.Random(number))
         try:
             heard = heard_in(text)
-            network = Reader(heard).network(9)
+            count = len(Reader(heard).network(9).constraints)
         except Refused:
             continue
         found, words = said_in(text), {letter: word for word, letter in heard.letters.items()}
-        check(f"what the lines of plan {number} say", (len(found.rows), len(found.says), found.words), (*[len(network.constraints)] * 2, words))
+        told = len(found.rows), len(found.says), found.words
+        check(f"what the lines of plan {number} say", told, (count, count, words))
 
 
 def places():
@@ -186,13 +277,14 @@ def place_behind(table, words):
     for word in words:
         leads = table[place][1]
         kinds = [word.text] if not word.quoted else []
-        kinds += ["LETTER"] if len(word.text) == 1 and word.text.isalpha() else ["NEGATIVE"] if word.text[0] == "-" else []
+        kinds += ["LETTER"] if re.fullmatch("[A-Za-z]", word.text) else []
+        kinds += ["NEGATIVE"] if word.text[0] == "-" else []
         place = next((leads[it] for it in kinds if it in leads), leads.get("*"))
     return place
 
 
 def told_places(_):
-    """What may stand at a place, as the script says it, is what the model takes there: the same keywords, other words, an end."""
+    """What may stand at a place, as the script says it, is what the model takes: keywords, other words, an end."""
     table, seen = places(), set()
     for number in range(400):
         for line in Text(random.Random(number)).lines():
@@ -203,8 +295,8 @@ def told_places(_):
                 place = place_behind(table, words[:count])
                 awaited, (says, leads) = AUTOMATON.awaited(words[:count]), table[place]
                 seen.add(place)
-                found = {it for it in leads if it in KEYWORDS}, bool(leads.keys() - KEYWORDS), "nothing" in says
-                wanted = {it for it in awaited if it in KEYWORDS}, any(it and it not in KEYWORDS for it in awaited), "" in awaited
+                found = KEYWORDS & leads.keys(), bool(leads.keys() - KEYWORDS), "nothing" in says
+                wanted = KEYWORDS & set(awaited), any(it not in KEYWORDS for it in awaited if it), "" in awaited
                 check(f"{line!r} behind {count} words", found, wanted)
     check("places that were seen", seen, set(table))
 

@@ -191,7 +191,7 @@ function show(    before, behind, size) {
   before = substr(line, 1, line_place[mark] - 1)
   behind = substr(line, line_place[mark])
   if (!mark || mark > line_words) { before = line; behind = "" }
-  if (mark > line_words) sub(/[ \t\r]*$/, " ", before)
+  if (mark > line_words) sub(/[ \t\r]*$/, "", before)
   before = harmless(before)
   behind = harmless(behind)
   if (mark && length(before) > 120) { before = substr(before, length(before) - 80); sub(/^[\200-\277]+/, "", before); before = ".. " before }
@@ -200,7 +200,7 @@ function show(    before, behind, size) {
   if (!mark) return
   size = mark > line_words ? 1 : wide(line_text[mark])
   if (size > wide(behind) && behind != "") size = wide(behind)
-  printf "  %*s", wide(before), ""
+  printf "  %*s", wide(before) + (mark > line_words), ""
   while (size--) printf "^"
   print ""
 }
