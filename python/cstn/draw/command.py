@@ -122,13 +122,13 @@ def clock_of_plan(asked: Asked, files: contextlib.ExitStack, clock: Clock) -> Cl
     Spoken.clock = clock
     if refused := take_plan(asked, files):
         raise Stopped(refused[0], "\n".join(refused[2]))
-    found, Spoken.clock, Spoken.words = Spoken.clock, Clock(), {}
+    found, Spoken.clock = Spoken.clock, Clock()
     return found
 
 
 def main(words: list[str]) -> str:
     """What is written for the words."""
-    request = parsed(words)
+    request, Spoken.words = parsed(words), {}
     clock: Clock = read_clock(request.options.get("--start"), request.options.get("--tick"))
     deadline = request.options.get("--deadline")
     with contextlib.ExitStack() as files:

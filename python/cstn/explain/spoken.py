@@ -84,6 +84,11 @@ class Spoken:
         return str(tick) if cls.clock.start is None else f"{cls.clock.says(tick)} ({tick})"
 
     @classmethod
+    def word(cls, letter: str) -> str:
+        """The word for a letter, or else the letter."""
+        return cls.words.get(letter, letter)
+
+    @classmethod
     def letter(cls, letter: str) -> str:
         """A letter in words: its word, and behind it the letter."""
         return f"{cls.words[letter]} ({letter})" if letter in cls.words else letter
