@@ -137,12 +137,13 @@ class Network:
 
     @functools.cached_property
     def marks(self) -> dict[str, list[Marks]]:
-        """For each time-point the labels of the constraints that say when it may come, after or before another."""
+        """For each time-point the labels of the constraints that say when it may come, after another, not before it, or
+        some ticks after it at most."""
         found: dict[str, dict[str, Marks]] = {}
         for number, (source, target, most, _) in enumerate(self.constraints):
             if number not in self.never:
-                marks = self.forces[number]
-                found.setdefault(source if most < 0 else target, {})[written(marks)] = marks
+                marks, waits = self.forces[number], most < 0 or most == 0 and source != "Z"
+                found.setdefault(source if waits else target, {})[written(marks)] = marks
         return {name: list(each.values()) for name, each in found.items()}
 
     def unknown(self, name: str, known: Marks) -> list[str]:
