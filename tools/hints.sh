@@ -15,6 +15,7 @@ tell_command() {
 tell_commands() {
   echo "./cstn COMMAND ..: exact forms, answers and statuses are in docs/commands.md"
   each_command tell_command
+  echo "FILE may be a plan in sentences in place of a document, if its name ends in .plan"
   echo "./cstn --version says more: which program is taken, and what it was made from; ./cstn --program writes where it is"
   echo "./cstn explain FILE [PROOF] says a document, a no, a tree or what follow answers in words, what of FILE was passed over, and why it is refused"
   echo "./cstn draw network FILE, draw cases FILE, draw now FILE SESSION and draw --html FILE write pictures of a plan: docs/draw.md"
