@@ -5,6 +5,14 @@ ghost use Rattle.cstn_label.specs.Words.{has_bit};
 // How many bits a word has.
 const BITS: u32 = 64;
 
+/// Whether bit i is set.
+pub fn has_bit(word: u64, i: u32) -> bool
+    requires { i < 64 }
+    ensures { result ≡ has_bit word i }
+{
+    word >> i & 1 == 1
+}
+
 /// The word with bit i set where `on` is true, and clear where it is false.
 pub fn with_bit(word: u64, i: u32, on: bool) -> u64
     requires { i < 64 }
@@ -23,6 +31,13 @@ pub fn first_bits(count: u32) -> u64
         return u64::MAX;
     }
     (1 << count) - 1
+}
+
+/// The word with every bit set, or with none.
+pub fn all_or_none(on: bool) -> u64
+    ensures { (k : ℕ) → k < 64 → has_bit result k ≡ on }
+{
+    if on { u64::MAX } else { 0 }
 }
 
 /// The bits of a word that aren't set in another.

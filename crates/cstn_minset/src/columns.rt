@@ -1,5 +1,4 @@
-ghost use Rattle.std.specs.Prelude.{◌≡◌, ◌<◌, ◌≤◌, ◌++◌, ◌∷◌, [], ◌==◌, Some, length, slice_get, slice_index_or};
-ghost use Rattle.cstn_minset.specs.declared.columns.Record.{Record as TheRecord};
+ghost use Rattle.std.specs.Prelude.{◌≡◌, ◌<◌, ◌≤◌, ◌++◌, ◌∷◌, [], ◌==◌, length, slice_index_or};
 ghost use Rattle.std.specs.List.{swap_remove};
 ghost use Rattle.cstn_label.specs.Labels.{IsMarked, IsWithin};
 ghost use Rattle.cstn_label.specs.Read.{marks};
@@ -9,7 +8,7 @@ use crate::bits::first_bits;
 use crate::literals::Literals;
 use crate::sheet::Sheet;
 use arrayvec::ArrayVec;
-use cstn_label::{Label, Prop, joined_is_the_least_above, labels_are_their_marks};
+use cstn_label::{Label, Prop};
 use std::marker::Model;
 
 /// A label and a least value, kept under the number of a slot.
@@ -30,125 +29,116 @@ impl Default for Record {
     }
 }
 
-/// Up to 64 records in no order, and the marks of their labels side by side. So the records whose labels are within another, or
+/// What a page keeps of a record beside the marks of its label.
+#[derive(Clone, Copy, Debug, PartialEq, Eq)]
+struct Kept {
+    least: i32,
+    slot: u32,
+}
+
+impl Default for Kept {
+    fn default() -> Kept {
+        Kept { least: 0, slot: 0 }
+    }
+}
+
+/// Up to 64 records in no order, with their labels as the words of a sheet. So the records whose labels are within another, or
 /// that another is within, are found in a few steps for all of them.
 #[derive(Drop)]
 pub struct Columns {
-    records: ArrayVec<Record, 64>,
+    kept: ArrayVec<Kept, 64>,
     sheet: Sheet,
-    // A label within which all labels of the records are.
-    used: Literals,
-}
-
-impl Model for Columns {
-    ghost use Rattle.cstn_minset.specs.Columns.{Listing, AreColumns};
-
-    ghost Value = { Listing };
-
-    ghost view = { λ c. record { items = c.records.items } };
-
-    ghost invariant = { λ c. AreColumns c.records.items c.sheet c.used };
 }
 
 impl Columns {
     /// No record.
     pub fn empty() -> Columns
-        ensures { result.items ≡ [] }
     {
         Columns {
-            records: ArrayVec::new(),
+            kept: ArrayVec::new(),
             sheet: Sheet::empty(),
-            used: Literals::of(Label::empty()),
         }
     }
 
     /// How many records there are.
     pub fn len(&self) -> usize
-        ensures value { result ≡ length self.now.items }
-        ensures few { result ≤ 64 }
     {
-        self.records.len()
+        self.kept.len()
     }
 
     /// Whether there is no record.
     pub fn is_empty(&self) -> bool
-        ensures { result ≡ (length self.now.items == 0) }
     {
-        self.records.is_empty()
+        self.kept.is_empty()
     }
 
-    /// The records.
-    pub fn as_slice(&self) -> &[Record]
-        ensures value { result.now ≡ self.now.items }
-        ensures few { length result.now ≤ 64 }
+    /// A record.
+    pub fn record(&self, index: u32) -> Record
     {
-        self.records.as_slice()
+        Record {
+            label: self.sheet.label(index),
+            least: self.least(index),
+            slot: self.slot(index),
+        }
     }
 
     /// The least value of a record.
     pub fn least(&self, index: u32) -> i32
-        requires { index < length self.now.items }
-        ensures { (r : TheRecord) → slice_get self.now.items index ≡ Some r → result ≡ r.least }
     {
-        self.records.as_slice()[index as usize].least
+        self.kept.as_slice()[index as usize].least
     }
 
-    /// The records alone.
-    pub fn into_records(self) -> ArrayVec<Record, 64>
-        ensures { result.items ≡ self.items }
+    /// The slot of a record.
+    pub fn slot(&self, index: u32) -> u32
     {
-        self.records
+        self.kept.as_slice()[index as usize].slot
     }
 
     /// Adds a record.
     pub fn push(&mut self, added: Record)
-        requires room { length self.old.items < 64 }
-        ensures items { self.new.items ≡ self.old.items ++ added ∷ [] }
     {
-        joined_is_the_least_above();
-        let place = self.records.len() as u32;
-        self.sheet.replace(Label::empty(), added.label, place);
-        self.used = self.used.join(&Literals::of(added.label));
-        self.records.push(added);
+        self.sheet.put(&Literals::of(added.label), self.kept.len() as u32);
+        self.kept.push(Kept {
+            least: added.least,
+            slot: added.slot,
+        });
     }
 
     /// Takes a record out; the last one takes its place.
-    pub fn swap_remove(&mut self, index: usize) -> Record
-        requires inside { index < length self.old.items }
-        ensures value { result ≡ slice_index_or self.old.items index result }
-        ensures items { self.new.items ≡ swap_remove self.old.items index result }
+    pub fn swap_remove(&mut self, index: usize)
     {
-        let last = self.records.len() - 1;
-        let records = self.records.as_slice();
-        let taken = records[index];
-        let moved = records[last];
-        self.sheet.replace(taken.label, moved.label, index as u32);
-        self.sheet.replace(moved.label, Label::empty(), last as u32);
-        self.records.swap_remove(index)
+        let last = self.kept.len() - 1;
+        self.sheet.take(index as u32, last as u32);
+        self.kept.swap_remove(index);
+    }
+
+    // The places of the records.
+    fn front(&self) -> u64
+    {
+        first_bits(self.kept.len() as u32)
     }
 
     /// The records whose label is within this one, as bits.
     pub fn within(&self, label: &Literals) -> u64
-        ensures { AreThose (λ r. IsWithin (marks r.label) (marks label.now)) self.now.items result }
     {
-        labels_are_their_marks();
-        let front = first_bits(self.records.len() as u32);
-        self.sheet.within(front, &self.used, label)
+        self.sheet.within(self.front(), label)
     }
 
     /// The records within whose label this one is, as bits.
     pub fn above(&self, label: &Literals) -> u64
-        ensures { AreThose (λ r. IsWithin (marks label.now) (marks r.label)) self.now.items result }
     {
-        labels_are_their_marks();
-        let front = first_bits(self.records.len() as u32);
-        self.sheet.above(front, label)
+        self.sheet.above(self.front(), label)
     }
 
     /// The records whose label marks p, as bits.
     pub fn marking(&self, p: Prop) -> u64
-        ensures { AreThose (λ r. IsMarked (marks r.label) p.index) self.now.items result }
     {
         self.sheet.marking(p)
+    }
+
+    /// Whether a record may mark p.
+    pub fn may_mark(&self, p: Prop) -> bool
+    {
+        self.sheet.may_mark(p)
     }
 }

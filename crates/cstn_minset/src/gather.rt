@@ -1,9 +1,8 @@
 //! Looking through one row of records for all that may be of use, and not for one alone.
-ghost use Rattle.std.specs.Prelude.{◌≡◌, ◌⊎◌, ◌<◌, ◌≤◌, ◌+◌, ◌++◌, ◌∷◌, [], ◌<ℤ◌, ◌≤ℤ◌, pos, ℕ, List, Some, IfSome, All, false, true, length, slice_get, slice_index_or, vec_capacity};
+ghost use Rattle.std.specs.Prelude.{◌≡◌, ◌⊎◌, ◌<◌, ◌≤◌, ◌+◌, ◌++◌, ◌∷◌, [], ◌<ℤ◌, ◌≤ℤ◌, pos, ℕ, List, Some, IfSome, All, false, length, slice_get, vec_capacity};
 ghost use Rattle.std.specs.List.{Contains};
 ghost use Rattle.cstn_label.specs.Read.{marks};
-ghost use Rattle.cstn_label.specs.Labels.{IsMarked, without};
-ghost use Rattle.cstn_label.specs.Words.{has_bit};
+ghost use Rattle.cstn_label.specs.Labels.{IsMarked};
 ghost use Rattle.cstn_minset.specs.declared.columns.Record.{Record as TheRecord};
 ghost use Rattle.cstn_minset.specs.Pages.{IsPage, held};
 ghost use Rattle.cstn_minset.specs.Columns.{AreThose};
@@ -20,11 +19,11 @@ use cstn_label::{Label, NodeId, Prop};
 pub fn greatest_within(rows: &Rows, node: NodeId, label: Label) -> i32
     ensures { (result ≡ pos 0) ⊎ ((k i : ℕ) × (r : TheRecord) × IsRecordAt rows.now.pages node.0 k i r × IsRecordOf (marks label) result r) }
 {
-    let literals = Literals::of(label);
+    let label = Literals::of(label);
     let mut greatest = 0;
     let mut place = rows.first(node.0 as u32);
     while let Some(number) = place {
-        greatest = greatest_on_page(rows.page(number), &literals, greatest);
+        greatest = greatest_on_page(rows.page(number), &label, greatest);
         place = rows.next(number);
     }
     greatest
@@ -32,63 +31,19 @@ pub fn greatest_within(rows: &Rows, node: NodeId, label: Label) -> i32
 
 // The greatest least value of a record of a page whose label is within this one, or the floor where that is lower.
 fn greatest_on_page(page: &Page, label: &Literals, floor: i32) -> i32
-    ensures { (result ≡ floor) ⊎ ((i : ℕ) × (r : TheRecord) × (slice_get page.now.records.items i ≡ Some r) × IsRecordOf (marks label.now) result r) }
+    ensures { (result ≡ floor) ⊎ ((i : ℕ) × (r : TheRecord) × (slice_get page.now.records.items i ≡ Some r) × IsRecordOf (marks label) result r) }
 {
     if page.high <= floor {
         return floor;
     }
-    greatest_among(page, page.records.within(label), floor)
-}
-
-// The greatest least value of a record of a page whose bit is set, or the floor where that is lower.
-fn greatest_among(page: &Page, bits: u64, floor: i32) -> i32
-    requires { (i : ℕ) → has_bit bits i ≡ true → i < length page.now.records.items }
-    ensures { (result ≡ floor) ⊎ ((i : ℕ) × (r : TheRecord) × (slice_get page.now.records.items i ≡ Some r) × (has_bit bits i ≡ true) × (r.least ≡ result)) }
-{
+    let within = page.records.within(label);
     let mut greatest = floor;
     let mut from = 0;
-    while let Some(i) = first_bit_from(bits, from) {
+    while let Some(i) = first_bit_from(within, from) {
         greatest = higher(greatest, page.records.least(i));
         from = i + 1;
     }
     greatest
-}
-
-/// For each proposition, the greatest least value of a record of the row whose label is within this one and doesn't mark it, or 0
-/// where that is lower. It is 0 also for those that the label doesn't mark.
-pub fn greatest_without(rows: &Rows, node: NodeId, label: Label) -> [i32; 52]
-    ensures { (p : ℕ) → p < 52 → (slice_index_or result p (pos 0) ≡ pos 0) ⊎ ((k i : ℕ) × (r : TheRecord) × IsRecordAt rows.now.pages node.0 k i r
-        × IsRecordOf (without (marks label) p) (slice_index_or result p (pos 0)) r) }
-{
-    let literals = Literals::of(label);
-    let mut greatest = [0; 52];
-    let mut place = rows.first(node.0 as u32);
-    while let Some(number) = place {
-        raise_on_page(rows.page(number), label, &literals, &mut greatest);
-        place = rows.next(number);
-    }
-    greatest
-}
-
-// Raises each of these to the greatest least value of a record of a page whose label is within this one and doesn't mark the
-// proposition, where that is higher.
-fn raise_on_page(page: &Page, label: Label, literals: &Literals, greatest: &mut [i32; 52])
-    requires { literals.now ≡ label }
-    ensures { (p : ℕ) → p < 52 → (slice_index_or greatest.new p (pos 0) ≡ slice_index_or greatest.old p (pos 0))
-        ⊎ ((i : ℕ) × (r : TheRecord) × (slice_get page.now.records.items i ≡ Some r) × IsRecordOf (without (marks label) p) (slice_index_or greatest.new p (pos 0)) r) }
-{
-    let within = page.records.within(literals);
-    if within == 0 {
-        return;
-    }
-    let mut index = 0;
-    while let Some(p) = label.first_marked_from(index) {
-        let at = p.index as usize;
-        let unmarked = bits_without(within, page.records.marking(p));
-        let floor = greatest[at];
-        greatest[at] = greatest_among(page, unmarked, floor);
-        index = p.index + 1;
-    }
 }
 
 /// What is looked for in a row: the records with least values above the floor, and among them those whose labels mark the
@@ -124,25 +79,13 @@ fn add_slots_above(page: &Page, sought: Above, found: &mut Vec<u32>)
     if page.high <= sought.floor {
         return;
     }
-    let records = page.records.as_slice();
     let marking = marking_if_given(&page.records, sought.marking);
     let mut from = 0;
     while let Some(i) = first_bit_from(marking, from) {
-        let kept = records[i as usize];
-        add_if_above(kept, sought.floor, found);
+        if sought.floor < page.records.least(i) {
+            found.push_reserved(page.records.slot(i));
+        }
         from = i + 1;
-    }
-}
-
-// Adds the slot of a record whose least value is above the floor.
-fn add_if_above(kept: Record, floor: i32, found: &mut Vec<u32>)
-    requires room { length found.old.items < vec_capacity found.old }
-    ensures added { floor <ℤ kept.least → found.new.items ≡ found.old.items ++ kept.slot ∷ [] }
-    ensures passed { kept.least ≤ℤ floor → found.new.items ≡ found.old.items }
-    ensures capacity { vec_capacity found.new ≡ vec_capacity found.old }
-{
-    if floor < kept.least {
-        found.push_reserved(kept.slot);
     }
 }
 
@@ -173,5 +116,43 @@ pub fn row_marks(rows: &Rows, node: NodeId, p: Prop) -> bool
 fn page_marks(page: &Page, p: Prop) -> bool
     ensures { result ≡ false → IsNoneOn page.now (λ r. IsMarked (marks r.label) p.index) }
 {
-    page.records.marking(p) != 0
+    page.records.may_mark(p)
+}
+
+/// For each proposition, the greatest least value of a record of the row whose label is within this one and doesn't mark it, or 0.
+pub fn greatest_without(rows: &Rows, node: NodeId, label: Label) -> [i32; 52]
+{
+    let label = Literals::of(label);
+    let mut greatest = [0; 52];
+    let mut place = rows.first(node.0 as u32);
+    while let Some(number) = place {
+        raise_on_page(rows.page(number), &label, &mut greatest);
+        place = rows.next(number);
+    }
+    greatest
+}
+
+fn raise_on_page(page: &Page, label: &Literals, greatest: &mut [i32; 52])
+{
+    let within = page.records.within(label);
+    if within == 0 {
+        return;
+    }
+    let mut index = 0;
+    while let Some(p) = label.label().first_marked_from(index) {
+        let unmarked = bits_without(within, page.records.marking(p));
+        greatest[p.index as usize] = greatest_among(page, unmarked, greatest[p.index as usize]);
+        index = p.index + 1;
+    }
+}
+
+fn greatest_among(page: &Page, bits: u64, floor: i32) -> i32
+{
+    let mut greatest = floor;
+    let mut from = 0;
+    while let Some(i) = first_bit_from(bits, from) {
+        greatest = higher(greatest, page.records.least(i));
+        from = i + 1;
+    }
+    greatest
 }

@@ -16,6 +16,7 @@ mod places;
 mod rows;
 mod scan;
 mod sheet;
+mod side;
 
 pub use bits::{first_bit_from, with_bit};
 pub use laws::{placing_leaves_what_nothing_later_dominates, walks_meet_each_once};

@@ -49,7 +49,7 @@ impl Page {
     }
 
     /// Takes a record out; the last one takes its place.
-    pub fn take(&mut self, index: usize) -> Record
+    pub fn take(&mut self, index: usize)
         requires inside { index < length self.old.records.items }
         requires page { IsPage self.old }
         ensures head { self.new.head ≡ self.old.head }
@@ -57,7 +57,7 @@ impl Page {
         ensures left { self.new.records.items ≡ swap_remove self.old.records.items index result }
         ensures page { IsPage self.new }
     {
-        self.records.swap_remove(index)
+        self.records.swap_remove(index);
     }
 
     /// Leaves half of the records of a full page here, and answers a page with the other half: those with the greatest least
@@ -70,40 +70,25 @@ impl Page {
         ensures pages { IsPage self.new × IsPage result }
         ensures same { IsPermutation self.old.records.items (self.new.records.items ++ result.records.items) }
     {
-        let mut left = mem::replace(&mut self.records, Columns::empty()).into_records();
+        let mut left = mem::replace(self, Page::empty(self.head));
         let mut upper = Page::empty(self.head);
         for _ in 0..HALF {
-            let greatest = place_of_greatest(left.as_slice());
-            upper.add(left.swap_remove(greatest));
+            let greatest = place_of_greatest(&left.records);
+            upper.add(left.records.record(greatest));
+            left.take(greatest as usize);
         }
-        self.refill(left.as_slice());
+        for index in 0..left.records.len() as u32 {
+            self.add(left.records.record(index));
+        }
         upper
-    }
-
-    // Has these records alone from now on, with `low` and `high` drawn together.
-    fn refill(&mut self, records: &[Record])
-        requires few { length records.now ≤ 64 }
-        ensures head { self.new.head ≡ self.old.head }
-        ensures records { self.new.records.items ≡ records.now }
-        ensures page { IsPage self.new }
-    {
-        let mut fresh = Page::empty(self.head);
-        for kept in records {
-            fresh.add(*kept);
-        }
-        *self = fresh;
     }
 }
 
-// The place of a record with the greatest least value.
-fn place_of_greatest(records: &[Record]) -> usize
-    requires some { 0 < length records.now }
-    requires few { length records.now ≤ 64 }
-    ensures { result < length records.now }
+fn place_of_greatest(records: &Columns) -> u32
 {
     let mut best = 0;
-    for index in 1..records.len() {
-        if records[index].least > records[best].least {
+    for index in 1..records.len() as u32 {
+        if records.least(index) > records.least(best) {
             best = index;
         }
     }

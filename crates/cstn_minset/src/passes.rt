@@ -32,8 +32,8 @@ fn earliest_on_page(page: &Page, births: &Births, sought: Sought, low: u64) -> O
     ensures { IsEarliest (IsOnPage births.now (kind_of sought) low page.now) result }
 {
     let mut best = None;
-    for kept in page.records.as_slice() {
-        best = earlier(best, candidate(page.head, *kept, births, sought, low));
+    for index in 0..page.records.len() as u32 {
+        best = earlier(best, candidate(page.head, page.records.record(index), births, sought, low));
     }
     best
 }

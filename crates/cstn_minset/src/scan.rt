@@ -18,7 +18,7 @@ pub fn slot_over(rows: &Rows, b: &Bound) -> Option<u32>
     let label = Literals::of(b.label);
     let mut place = rows.first(b.node.0 as u32);
     while let Some(number) = place {
-        if let Some(slot) = over_on_page(rows.page(number), b, &label) {
+        if let Some(slot) = over_on_page(rows.page(number), b.least, &label) {
             return Some(slot);
         }
         place = rows.next(number);
@@ -34,7 +34,7 @@ pub fn place_under(rows: &Rows, b: &Bound) -> Option<(u32, usize)>
     let label = Literals::of(b.label);
     let mut place = rows.first(b.node.0 as u32);
     while let Some(number) = place {
-        if let Some(index) = under_on_page(rows.page(number), b, &label) {
+        if let Some(index) = under_on_page(rows.page(number), b.least, &label) {
             return Some((number, index));
         }
         place = rows.next(number);
@@ -62,7 +62,8 @@ fn bound_on_page(page: &Page, slot: u32) -> Option<Bound>
         × (b ≡ bound_of (page.now.head, r))) }
     ensures none { IfNone result (IsNoneOn page.now (λ r. r.slot ≡ slot)) }
 {
-    for kept in page.records.as_slice() {
+    for index in 0..page.records.len() as u32 {
+        let kept = page.records.record(index);
         if kept.slot == slot {
             return Some(Bound {
                 node: NodeId(page.head as u16),
@@ -75,22 +76,19 @@ fn bound_on_page(page: &Page, slot: u32) -> Option<Bound>
 }
 
 // The slot of a record of a page of the bound's time-point that dominates the bound.
-fn over_on_page(page: &Page, b: &Bound, label: &Literals) -> Option<u32>
-    requires page { IsPage page.now }
-    requires label { label.now ≡ b.now.label }
+fn over_on_page(page: &Page, least: i32, label: &Literals) -> Option<u32>
+    requires { IsPage page.now }
     ensures some { IfSome result (λ s. (i : ℕ) × (r : TheRecord) × (slice_get page.now.records.items i ≡ Some r) × (r.slot ≡ s) × IsRecordOver b.now r) }
     ensures none { IfNone result (IsNoneOn page.now (IsRecordOver b.now)) }
 {
-    if page.high < b.least {
+    if page.high < least {
         return None;
     }
-    let records = page.records.as_slice();
     let within = page.records.within(label);
     let mut from = 0;
     while let Some(i) = first_bit_from(within, from) {
-        let kept = records[i as usize];
-        if b.least <= kept.least {
-            return Some(kept.slot);
+        if least <= page.records.least(i) {
+            return Some(page.records.slot(i));
         }
         from = i + 1;
     }
@@ -98,21 +96,18 @@ fn over_on_page(page: &Page, b: &Bound, label: &Literals) -> Option<u32>
 }
 
 // The place of a record of a page of the bound's time-point that the bound dominates.
-fn under_on_page(page: &Page, b: &Bound, label: &Literals) -> Option<usize>
-    requires page { IsPage page.now }
-    requires label { label.now ≡ b.now.label }
+fn under_on_page(page: &Page, least: i32, label: &Literals) -> Option<usize>
+    requires { IsPage page.now }
     ensures some { IfSome result (λ i. (r : TheRecord) × (slice_get page.now.records.items i ≡ Some r) × IsRecordUnder b.now r) }
     ensures none { IfNone result (IsNoneOn page.now (IsRecordUnder b.now)) }
 {
-    if b.least < page.low {
+    if least < page.low {
         return None;
     }
-    let records = page.records.as_slice();
     let above = page.records.above(label);
     let mut from = 0;
     while let Some(i) = first_bit_from(above, from) {
-        let kept = records[i as usize];
-        if kept.least <= b.least {
+        if page.records.least(i) <= least {
             return Some(i as usize);
         }
         from = i + 1;
