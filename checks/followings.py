@@ -136,7 +136,7 @@ BROKEN = "did 5 Sample\nsaw 45 i true\ndid 112 Antibiotic\ndid 235 Review\ndid 2
 
 # Lines that are none of a session.
 NO_LINES = ("", "now -1", "now 07", "now 4294967296", "did 5", "did 5  Sample", "did 5 Sample ", "saw 5 i True", "await 5", "deadline 1000001",
-            "by", "next ", "Next", "due", "now 5\r", "x" * 4096)
+            "by ", "until 5", "late", "late i i", "verdict ", "next ", "Next", "due", "now 5\r", "x" * 4096)
 
 
 def parts(shown):
@@ -205,7 +205,7 @@ def left(folder, name, words, shown):
 def journal(shown):
     """The lines of a session that change it."""
     turns = parts(shown)[1]
-    return "".join(line for line, answer in turns if line.split()[0] not in ("next", "check", "blame", "by") and not answer.startswith("refused "))
+    return "".join(line for line, answer in turns if line.split()[0] not in ("next", "check", "blame", "by", "until", "late", "verdict") and not answer.startswith("refused "))
 
 
 def broken_streams():

@@ -141,7 +141,7 @@ def dear_forms(folder):
     wide = folder.put("wide", steps_with_outcomes(200, 10))
     check("dear: a tree that is too large for words", explained("--tree", wide)[:2], (10, (
         "The plan can be carried out, and has up to 1024 ways, by 10 outcomes, which are too many for words: "
-        "`./cstn tree` writes them, of the copy of `./cstn explain --plain FILE` where FILE has labels on time-points."
+        "`./cstn tree` writes them, of the copy of `./cstn explain --plain FILE` if FILE has labels on time-points."
         "\n")))
     chased = folder.put("chased", compact(["Z", "X"], ["X->X -1"], '<data key="Deadline">60000</data>'))
     check("dear: turns", explained(chased, "-", "--only", live=run(["check", chased])[1])[0], GOOD)

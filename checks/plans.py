@@ -1,10 +1,12 @@
 """The tables of checks/plans: worked plans, each refusal, the examples, and drawn texts and networks."""
 import os
 import random
+import resource
+import subprocess
 import sys
 import time
 
-from runs import DOCUMENT, GOOD, TOP, WORDS, check, compact, examples, run
+from runs import DOCUMENT, GOOD, MEMORY, PROGRAM, READ_FAULT, TOP, WORDS, WRITE_FAULT, check, compact, examples, run
 
 sys.path.append(os.path.join(TOP, "deciders"))
 
@@ -346,7 +348,36 @@ def costs_of_texts(folder):
         print(f"plans: {name}: {spent:.3f} s")
 
 
-TABLES = (worked, refused, examples_as_plans, costs_of_texts)
+def ends(folder):
+    """How the program ends where words are none, a file cannot be read, the output fails, or memory is short."""
+    plans, none, nothing = Plans(folder), folder.at("none"), folder.put("nothing", "")
+    if not plans.has_plan or not plans.has_sentences:
+        return
+    for command in ("plan", "sentences"):
+        for more in ("", "5", "--deadline", "--deadline 05", "--deadline 1000001", "--cap 5", "--deadline 5 --cap 5"):
+            check(f"{command} FILE {more}", run([command, nothing, *more.split()] if more else [command]),
+                  (WORDS, b"words\n"))
+        for name, path in (("no file", none), ("a folder", folder.path), ("an empty name", "")):
+            check(f"{command} of {name}", run([command, path]), (READ_FAULT, b"read fault\n"))
+    for command, path, wrote in (
+        ("plan", "/dev/zero", b"plan long\n"), ("plan", "/dev/null", b"plan deadline\n"),
+        ("sentences", "/dev/zero", b"document long\n"), ("sentences", "/dev/null", b"document X2 at 0\n"),
+    ):
+        check(f"{command} {path}", run([command, path]), (DOCUMENT, wrote))
+    document = folder.put("document", compact(["Z"], []))
+    check("sentences without a deadline", run(["sentences", document]), (DOCUMENT, b"document X9\n"))
+    check("sentences by a deadline", run(["sentences", document, "--deadline", "5"]), (GOOD, b"deadline 5\n"))
+    full = ["bash", "-c", '"$1" plan "$2" --deadline 5 >/dev/full', "", PROGRAM, nothing]
+    check("a full device", subprocess.run(full, check=False, stderr=subprocess.DEVNULL).returncode, WRITE_FAULT)
+    text, *_ = (it for name, it, _ in DEAR if "16,384" in name)
+    wanted = run(["plan", folder.put("dear", text)])
+    for most in (200, 60, 30, 20, 14):
+        how = {"preexec_fn": lambda: resource.setrlimit(resource.RLIMIT_AS, (most << 20, most << 20))}
+        found = run(["plan", folder.at("dear")], **how)
+        check(f"{most} MB of memory", found in (wanted, (MEMORY, b"memory\n"), (MEMORY, b"")), True)
+
+
+TABLES = (worked, refused, examples_as_plans, costs_of_texts, ends)
 
 
 def kind_of(words):

@@ -7,6 +7,7 @@ from browsers import OFFLINE, TOP, Browser, Served, program, until
 from looks import look
 
 PATHWAY = os.path.join(TOP, "examples", "clinical-pathway.graphml")
+PLAN = PATHWAY.replace(".graphml", ".plan")
 
 
 def step(page, name):
@@ -53,8 +54,8 @@ def verdict(browser, wanted):
 
 
 def pathway(tally, browser):
-    """A late result, asked about before it is told, a restart in the middle, and a late antibiotic."""
-    with Served([PATHWAY]) as board:
+    """A plan in sentences, with a late result, asked about before it is told, a restart, and a late antibiotic."""
+    with Served([PLAN]) as board:
         browser.open(board.url)
         browser.says("the list", "[data-plan]", "Sample")
         look(tally, browser, "list")
@@ -86,7 +87,7 @@ def late_result(tally, board, browser):
     look(tally, browser, "late-result")
     dialog(browser, "[data-letter='i']", "80", "true")
     tell(browser)
-    browser.says("the result", "#history", "i is true")
+    browser.says("the result", "#history", "infection (i) is true")
 
 
 def restart(tally, board, browser):

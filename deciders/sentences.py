@@ -532,14 +532,19 @@ def ticks_of(times: Range) -> tuple[int | None, int | None]:
     return times.least and times.least.ticks, times.most and times.most.ticks
 
 
-def network_said(text: bytes, deadline: int | None = None) -> Network:
-    """The network that a text says, whatever may be wrong with the network; or Refused."""
+def heard_in(text: bytes) -> Text:
+    """What the lines of a text say, or Refused."""
     if len(text) > MOST_BYTES:
         raise Refused("long")
     heard = Text()
     for number, line in enumerate(text.removeprefix(b"\xef\xbb\xbf").split(b"\n"), 1):
         heard.hear(number, line)
-    return Reader(heard).network(deadline)
+    return heard
+
+
+def network_said(text: bytes, deadline: int | None = None) -> Network:
+    """The network that a text says, whatever may be wrong with the network; or Refused."""
+    return Reader(heard_in(text)).network(deadline)
 
 
 def plan(text: bytes, deadline: int | None = None) -> Network:

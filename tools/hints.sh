@@ -15,6 +15,7 @@ tell_command() {
 tell_commands() {
   echo "./cstn COMMAND ..: exact forms, answers and statuses are in docs/commands.md, or in \`man ./cstn.1\`"
   each_command tell_command
+  echo "FILE may be a plan in sentences in place of a document, if its name ends in .plan"
   echo "./cstn --version says more: which program is taken, and what it was made from; ./cstn --program writes where it is"
   echo "./cstn explain FILE [PROOF] says a document, a no, a tree or what follow answers in words, what of FILE was passed over, and why it is refused"
   echo "./cstn draw network FILE, draw cases FILE, draw now FILE SESSION and draw --html FILE write pictures of a plan: docs/draw.md"
@@ -107,7 +108,7 @@ lines_of() {
   case $1 in
     run) echo "moment T, see P true, see P false, due" ;;
     edit) echo "add FROM TO W LABEL (LABEL is - or as in p!q, never with ¬; W is from -1000000000 to 1000000000 and has no +; a space in a name is %20), remove ID, change ID W, check" ;;
-    follow) echo "did T NAME NAME .. (done at T), saw T P true, saw T P false (an outcome at T), now T, await T P (expected at T), next, by NAME, check, blame, rest, deadline N, and add FROM TO W LABEL, remove ID, change ID W" ;;
+    follow) echo "did T NAME NAME .. (done at T), saw T P true, saw T P false (an outcome at T), now T, await T P (expected at T), next, by NAME, by, until, late P, verdict, check, blame, rest, deadline N, and add FROM TO W LABEL, remove ID, change ID W" ;;
     host) echo "open ID K, on ID moment T, on ID see P true, on ID see P false, on ID due, close ID" ;;
   esac
 }
@@ -160,9 +161,12 @@ tell_lines() {
   esac
 }
 
-# After a yes of `check`, at a terminal: what was understood is not told by it.
+# After a yes of `check`, at a terminal: what was understood is not told by it. Of a plan in sentences nothing is passed over.
 tell_accepted() {
-  [ ! -t 0 ] || [ "$1" != check ] || say "a misspelt key is passed over without a word; ./cstn explain FILE says what was understood"
+  [ -t 0 ] && [ "$1" = check ] || return 0
+  passed="a misspelt key is passed over without a word; "
+  [ -z "${descriptor-}" ] || passed=
+  say "$passed./cstn explain FILE says what was understood"
 }
 
 # What a check of PROOF that says no means, at a terminal.
@@ -202,12 +206,30 @@ labels_of() {
   esac
 }
 
+# Why a plan in sentences is refused, in words, with its line and a mark under the word in question.
+tell_plan() {
+  refusal=$("$program" plan "$1" ${deadline:+--deadline "$deadline"} 2>/dev/null </dev/null)
+  REFUSAL=$refusal PLAN=$(shown "$1") LC_ALL=C awk -f "$top/tools/refused.awk" "$top/tools/sentences.txt" - <"$1" |
+    while IFS= read -r told; do say "$told"; done
+}
+
+# Of each plan in sentences among the words why it is refused, if it is.
+tell_refused_plans() {
+  deadline=$(deadline_of "$@")
+  for word in "$@"; do
+    case $word in
+      *.plan) [ ! -f "$word" ] || "$program" plan "$word" ${deadline:+--deadline "$deadline"} >/dev/null 2>&1 </dev/null || tell_plan "$word" ;;
+    esac
+  done
+}
+
 # Why a document is refused: for its labels, or for another fault.
 tell_document() {
   said=
   deadline=$(deadline_of "$@")
   case $1 in
-    check | run | follow | save | replay | closed | closedcheck | tight) said=refused ;;
+    plan) tell_plan "$2"; return ;;
+    check | run | follow | save | replay | closed | closedcheck | tight | sentences) said=refused ;;
     *) each_file ask_save "$@" ;;
   esac
   case $said in

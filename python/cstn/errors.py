@@ -17,7 +17,8 @@ class NoProgram(CstnError):
 class BadDocument(CstnError):
     """The program refuses a document: `code` is `X1` to `X12` or `long`, `says` all of its words.
 
-    `line` and `column`, counted from 1, are where the fault stands, if it stands at a place.
+    `line` and `column`, counted from 1, are where the fault stands, if it stands at a place. Of a plan in sentences
+    `code` is the first word of the refusal that is no place, as `word` or `N6`, and there is no column.
     """
 
     code: str
@@ -26,7 +27,7 @@ class BadDocument(CstnError):
     column: int | None = None
 
     def __str__(self) -> str:
-        where = "" if self.line is None else f" (line {self.line}, column {self.column})"
+        where = "" if self.column is None else f" (line {self.line}, column {self.column})"
         return self.says + where
 
 

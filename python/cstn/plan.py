@@ -13,6 +13,7 @@ from cstn import program as programs
 from cstn.answers import Verdict
 from cstn.errors import Unavailable
 from cstn.names import Label, literals
+from cstn.said import Said, said
 from cstn.sentences import sentences
 
 ENTITY = re.compile(r"&(amp|lt|gt|quot|#\d+);")
@@ -20,6 +21,8 @@ ENTITIES = {"amp": "&", "lt": "<", "gt": ">", "quot": '"'}
 NODE = re.compile(r'<node id="([^"]*)"')
 EDGE = re.compile(r'<edge source="([^"]*)" target="([^"]*)">.*\{\((-?\d+), ([^)]*)\)\}')
 DATA = re.compile(r'<data key="(\w+)">([^<]*)</data>')
+WORD = re.compile(r"^<!-- ([A-Za-z]): ([A-Za-z][A-Za-z0-9_-]{1,63}) -->$", re.M)
+MOST_BYTES = 8_388_608
 
 
 @dataclass(frozen=True)
@@ -80,9 +83,18 @@ class Plan:
         return cls(document, deadline, steps, limits, found, hashlib.sha256(text.encode()).hexdigest(), program)
 
     @classmethod
+    def of_sentences(cls, text: bytes, *, deadline: int | None = None, program: str | None = None) -> Self:
+        """Reads a plan in sentences: its document is the one that the program writes of it, with the line of each
+        limit and the word for each letter in comments. Raises `BadDocument`, `NoProgram`, `Unavailable`."""
+        _, document = programs.ask("plan", text, programs.options(deadline, None), program=program)
+        beside = with_comments(document, said(text)).encode()
+        return cls.read(beside if len(beside) <= MOST_BYTES else document.encode(), deadline=deadline, program=program)
+
+    @classmethod
     def load(cls, path: str | Path, *, deadline: int | None = None, program: str | None = None) -> Self:
-        """Reads the document of a file."""
-        return cls.read(Path(path).read_bytes(), deadline=deadline, program=program)
+        """Reads the document of a file, or its plan in sentences if its name ends in `.plan`."""
+        read = cls.of_sentences if Path(path).suffix == ".plan" else cls.read
+        return read(Path(path).read_bytes(), deadline=deadline, program=program)
 
     def check(self, *, cap: int = programs.CAP, seconds: float | None = programs.SECONDS) -> Verdict:
         """Whether the plan can be carried out, whatever is observed. Raises `OutOfTime`."""
@@ -98,6 +110,11 @@ class Plan:
     @cached_property
     def by_name(self) -> dict[str, Step]:
         return {step.name: step for step in self.steps}
+
+    @cached_property
+    def words(self) -> dict[str, str]:
+        """The word for each letter that has one in the document, by a comment, as `<!-- i: infection -->`."""
+        return dict(WORD.findall(self.document.decode(errors="replace")))
 
     @cached_property
     def observers(self) -> dict[str, Step]:
@@ -119,6 +136,19 @@ class Plan:
                 found[letter] = None
                 left += self.observers[letter].label
         return tuple(found)
+
+
+def with_comments(document: str, found: Said) -> str:
+    """The document of a plan in sentences with the line of each constraint, and the word for each letter, above it."""
+    says, lines = iter(found.says), []
+    for line in document.split("\n"):
+        letter = dict(DATA.findall(line)).get("Obs", "") if NODE.match(line) else ""
+        if letter in found.words and "--" not in found.words[letter]:
+            lines.append(f"<!-- {letter}: {found.words[letter]} -->")
+        elif line.startswith("<edge "):
+            lines.append(f"<!-- {next(says).replace('--', '- -')} -->")
+        lines.append(line)
+    return "\n".join(lines)
 
 
 def understood(text: str, document: bytes) -> tuple[tuple[Step, ...], tuple[Limit, ...], int]:

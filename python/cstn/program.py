@@ -119,8 +119,10 @@ def check(document: bytes, deadline: int | None = None, cap: int = CAP, *, secon
 
 
 def refused_document(text: str, document: bytes) -> BadDocument:
-    """What the program's line `document ..` says, with the place as line and column."""
+    """What the program's line `document ..` or `plan ..` says, with the place as line and column, or as line."""
     words = text.split(" ")
+    if words[:2] == ["plan", "line"] and len(words) > 3:
+        return BadDocument(words[3], text, int(words[2]))
     code = words[1] if len(words) > 1 else "?"
     if len(words) == 4 and words[2] == "at" and words[3].isdigit():
         before = document[:int(words[3])]

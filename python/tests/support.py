@@ -4,6 +4,7 @@ from __future__ import annotations
 import json
 import os
 import random
+import subprocess
 import tempfile
 import unittest
 from dataclasses import dataclass
@@ -14,6 +15,7 @@ from cstn.child import Child
 from cstn.events import Deadline, Did, Event, Change, Saw, line_of
 from cstn.names import printed
 from cstn.plan import Plan
+from cstn.program import find
 
 TOP = Path(__file__).resolve().parent.parent
 EXAMPLES = TOP.parent / "examples"
@@ -21,6 +23,11 @@ CLINIC = Plan.load(EXAMPLES / "clinical-pathway.graphml")
 STROKE = Plan.load(EXAMPLES / "stroke.graphml")
 EMERGENCY = Plan.load(EXAMPLES / "emergency-department.graphml")
 PLANS = [CLINIC, STROKE, EMERGENCY]
+
+
+def reads_plans() -> bool:
+    """Whether the program reads plans in sentences: else it answers `words`."""
+    return subprocess.run([find(), "plan", os.devnull], stdout=subprocess.DEVNULL, check=False).returncode != 2
 
 
 class Folder(unittest.TestCase):

@@ -13,7 +13,7 @@ from cstn.board.guard import Asked, Guard
 from cstn.board.news import MOST, News
 from cstn.board.plans import Board, Document, Timing
 from cstn.board.reading import Wrong, event_of, key_of
-from cstn.board.words import is_least, limit_parts, shown
+from cstn.board.words import is_least, limit_parts, shown, told
 from cstn.plan import Limit
 from tests.support import CLINIC
 
@@ -58,11 +58,11 @@ READ: list[tuple[dict[str, Any], Event | None]] = [
 ]
 
 SAID = [
-    (Limit(0, "Sample", "Antibiotic", 90, {"i": True}), "Antibiotic at most 90 after Sample, where i"),
+    (Limit(0, "Sample", "Antibiotic", 90, {"i": True}), "Antibiotic at most 90 after Sample, if i"),
     (Limit(0, "Antibiotic", "Sample", -65, {}), "Antibiotic at least 65 after Sample"),
     (Limit(0, "B", "A", 0, {}), "B not before A"),
     (Limit(0, "Z", "Sample", 15, {}), "Sample at 15 or earlier"),
-    (Limit(0, "Sample", "Z", -10, {"i": False, "s": True}), "Sample at 10 or later, where not i and s"),
+    (Limit(0, "Sample", "Z", -10, {"i": False, "s": True}), "Sample at 10 or later, if not i and s"),
 ]
 
 
@@ -101,6 +101,9 @@ class Boards(unittest.TestCase):
         for limit, words in SAID:
             parts = limit_parts(limit, is_least(limit), limit.most)
             self.assertEqual("".join(str(value) for part in parts for value in part.values()), words)
+        limit, spoken = SAID[0][0], {"i": "infection"}
+        self.assertEqual(limit_parts(limit, False, 90, spoken)[-1], {"text": ", if infection"})
+        self.assertEqual(told(Saw("i", True, 5), {}, spoken), [{"name": "infection (i)"}, {"text": " is true"}])
         self.assertEqual(shown("a\n\u202eb\x85é"), "a%0A%E2%80%AEb%C2%85é")
 
     def test_news(self) -> None:

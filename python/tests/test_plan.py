@@ -5,7 +5,7 @@ from pathlib import Path
 from unittest import mock
 
 from cstn import BadDocument, Can, NoProgram, OutOfTime, Plan, Unavailable, program
-from tests.support import CLINIC, EMERGENCY, EXAMPLES, Folder
+from tests.support import CLINIC, EMERGENCY, EXAMPLES, Folder, reads_plans
 
 HOSTILE = '<script>alert("1")</script>&\'%20 ¬\u2028'
 NAMES = [HOSTILE, "\u0007\u001b[31m".replace("\u0007", "é"), "".join(map(chr, range(33, 97)))]
@@ -34,6 +34,26 @@ class Documents(Folder):
         plan = Plan.read(document(*names))
         self.assertEqual([step.name for step in plan.steps], ["Z", *names])
         self.assertEqual(Plan.read(plan.saved()).digest, plan.digest)
+
+    @unittest.skipUnless(reads_plans(), "the program reads no plans in sentences")
+    def test_plans_in_sentences_mean_their_documents(self) -> None:
+        for path in sorted(EXAMPLES.glob("*.plan")):
+            with self.subTest(path=path.name):
+                deadline = 48 if path.name == "insurance-claim.plan" else None
+                document = Plan.load(path.with_suffix(".graphml"), deadline=deadline)
+                self.assertEqual(Plan.load(path).digest, document.digest)
+        self.assertEqual(Plan.load(EXAMPLES / "clinical-pathway.plan").limits[2].says,
+                         "Antibiotic 65..90 after Sample if infection")
+        odd = Plan.of_sentences(b'deadline 9\nstep "a --> b" observes not-so as n\n"a --> b" at 2..5 # x\n'
+                                b"step P observes p\nP after \"a --> b\" and Z and Z and Z and Z if p\n")
+        again = Plan.read(odd.document, deadline=9)
+        self.assertEqual([it.says for it in again.limits], [it.says for it in odd.limits])
+        self.assertEqual([it.says for it in again.limits][1:3], ['"a - -> b" at 2..5',
+                                                                 'P after "a - -> b" and Z and Z and Z and Z if p'])
+        self.assertEqual((again.words, CLINIC.words, again.digest), ({"n": "not-so"}, {}, odd.digest))
+        self.assertEqual(Plan.load(EXAMPLES / "clinical-pathway.plan").words, {"i": "infection"})
+        with self.assertRaisesRegex(BadDocument, r"^plan line 2 word 3$"):
+            Plan.of_sentences(b"deadline 9\nstep Log book\n")
 
     def test_sentences_are_those_above_the_edges(self) -> None:
         self.assertEqual(CLINIC.limits[0].says, "The sample is taken within 15 minutes.")

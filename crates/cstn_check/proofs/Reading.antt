@@ -12,7 +12,7 @@ use Rattle.cstn_rules.specs.Derivations.{Entry as TheEntry}
 use Rattle.cstn_rules.specs.Rules.{Refutes}
 use Rattle.cstn_rules.specs.Read.{the_entry}
 use Rattle.cstn_log.specs.Entries.{the_entries, IsCoveredBy, IsLive}
-use Rattle.cstn_log.proofs.ListLemmas.{get_map}
+use Rattle.cstn_facts.proofs.Places.{get_map}
 use Rattle.cstn_rules.specs.Tests.{refutes}
 use Rattle.cstn_check.specs.Growth.{is_covered, is_live}
 use Rattle.cstn_check.proofs.Decided.{refutes_true}

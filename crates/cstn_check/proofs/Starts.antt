@@ -14,7 +14,7 @@ use Rattle.cstn_rules.specs.Derivations.{Entry, IsEarlier, Follows, IsDerivation
 use Rattle.cstn_rules.specs.Read.{the_entry}
 use Rattle.cstn_rules.proofs.Shapes.{chain_within, wait_within}
 use Rattle.cstn_log.specs.Entries.{bases, the_entries, AllNew}
-use Rattle.cstn_log.proofs.ListLemmas.{get_map, get_left, get_last}
+use Rattle.cstn_facts.proofs.Places.{get_map, get_left, get_last}
 use Rattle.cstn_log.proofs.DerivedLemmas.{length_bases}
 use Rattle.cstn_check.specs.Kept.{IsBoundOf, AllGood, IsKept}
 use Rattle.cstn_check.specs.Turns.{IsRefutedLast}

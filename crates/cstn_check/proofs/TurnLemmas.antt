@@ -17,7 +17,7 @@ use Rattle.cstn_rules.specs.Rules.{Refutes, IsChain, IsWait, IsBoundOf}
 use Rattle.cstn_rules.specs.Read.{the_entry}
 use Rattle.cstn_log.specs.Entries.{State, the_entries, IsBoundAt, IsCoveredBy, IsLive}
 use Rattle.cstn_log.proofs.DerivedLemmas.{chain_follows, wait_follows}
-use Rattle.cstn_log.proofs.ListLemmas.{get_map}
+use Rattle.cstn_facts.proofs.Places.{get_map}
 use Rattle.cstn_rules.specs.Tests.{refutes, chain_of, wait_of}
 use Rattle.cstn_check.specs.Growth.{Instance, why_of, is_covered, is_refuted, premises_live, is_live, of_one, of_two, conclusion, with_conclusion, step}
 use Rattle.cstn_check.specs.Growth.Instance.{chain_at, wait_at}

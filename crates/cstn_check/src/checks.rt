@@ -16,7 +16,7 @@ ghost use Rattle.cstn_check.specs.Checks.{IsStarted, IsVerdict, IsPrefix};
 
 use crate::growth::{Grown, grow};
 use crate::plans::live_bounds;
-use crate::verdicts::Verdict;
+use crate::verdicts::{Verdict, verdict_of};
 use cstn_label::Bound;
 use cstn_log::{Cap, Log};
 use cstn_net::{Network, network_is_well_formed};
@@ -190,17 +190,4 @@ fn answer(net: &Network, log: &mut Log, tries: &mut Tries) -> Verdict
     let grown = grow(net, log, tries);
     let load = log.len();
     verdict_of(grown, load)
-}
-
-// The verdict for what growth came to, with the load of the log.
-fn verdict_of(grown: Grown, load: u32) -> Verdict
-    ensures closed { grown ≡ Grown.Closed → result ≡ Verdict.Yes load }
-    ensures refuted { grown ≡ Grown.Refuted → result ≡ Verdict.No load }
-    ensures full { grown ≡ Grown.Full → result ≡ Verdict.Full }
-{
-    match grown {
-        Grown::Closed => Verdict::Yes { load },
-        Grown::Refuted => Verdict::No { load },
-        Grown::Full => Verdict::Full,
-    }
 }

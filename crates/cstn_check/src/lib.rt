@@ -36,4 +36,5 @@ pub use needs::{Finding, find};
 pub use room::is_never_full;
 pub use search::{Trial, ids_of, leave_out};
 pub use search_laws::{halving_finds_last_moments, leaving_out_finds_least_sets};
-pub use verdicts::Verdict;
+pub use turns::is_fresh;
+pub use verdicts::{Verdict, verdict_of};

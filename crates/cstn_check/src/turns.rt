@@ -60,8 +60,8 @@ fn constraint_is_of_network(net: &Network, c: &Constraint)
     let _ = net.constraints();
 }
 
-// Whether the id is one of the fresh ones.
-fn is_fresh(fresh: &[u32], id: u32) -> bool
+/// Whether the id is one of the fresh ones.
+pub fn is_fresh(fresh: &[u32], id: u32) -> bool
     ensures { result ≡ is_fresh fresh.now id }
 {
     fresh.iter().any(|known| *known == id)

@@ -21,7 +21,7 @@ use Rattle.cstn_rules.specs.Derivations.{Entry, IsDerivation}
 use Rattle.cstn_rules.proofs.Derived.{with_constraints}
 use Rattle.cstn_log.specs.Entries.{State, the_entries, bases}
 use Rattle.cstn_log.specs.Cuts.{is_marked, rank, renumbered, moved, cut_from, stays, marked_staying, dropped}
-use Rattle.cstn_log.proofs.ListLemmas.{get_more}
+use Rattle.cstn_facts.proofs.Places.{get_more}
 use Rattle.cstn_log.proofs.ChoiceLemmas.{rank_marked}
 use Rattle.cstn_log.proofs.CutLemmas.{cut_marked, length_cut, comes}
 use Rattle.cstn_log.proofs.MarkLemmas.{staying_more, dropped_derivation}

@@ -14,7 +14,7 @@ use Rattle.cstn_rules.specs.Derivations.{Entry}
 use Rattle.cstn_check.specs.Spent.{AreSpent, is_fresh, fresh_count}
 use Rattle.cstn_change.specs.Changes.{with_value, without}
 use Rattle.cstn_log.specs.Entries.{State, the_entries}
-use Rattle.cstn_log.proofs.ListLemmas.{take_step}
+use Rattle.cstn_facts.proofs.Places.{take_step}
 use Rattle.cstn_edit.specs.Fresh.{constraint_ids, fresh_with, AreSome, IsFreshened}
 
 -- a filter keeps the first element where it passes, and leaves it out where not

@@ -23,7 +23,7 @@ use Rattle.cstn_rules.specs.Derivations.{Entry}
 use Rattle.cstn_rules.proofs.Derived.{with_constraints, derivation_elsewhere}
 use Rattle.cstn_log.specs.Entries.{bases}
 use Rattle.cstn_log.specs.Cuts.{marked_staying, dropped}
-use Rattle.cstn_log.proofs.ListLemmas.{contains_map}
+use Rattle.cstn_facts.proofs.Members.{contains_map}
 use Rattle.cstn_log.proofs.ChoiceLemmas.{rank_grows}
 use Rattle.cstn_log.proofs.CutLemmas.{comes}
 use Rattle.cstn_log.proofs.MarkLemmas.{dropped_derivation}

@@ -13,7 +13,7 @@ ghost use Rattle.cstn_check.specs.Turns.{IsGrowable, IsGrown, KeepIds, LastRefut
 ghost use Rattle.cstn_edit.specs.Sessions.{IsKeptLog, Refuted, Consistent, kept_list, kept_after, outcome_of, verdict_by};
 
 use crate::outcomes::Outcome;
-use cstn_check::{Grown, Verdict, grow, grow_on};
+use cstn_check::{Grown, Verdict, grow, grow_on, verdict_of};
 use cstn_log::Log;
 use cstn_net::{Network, network_is_well_formed};
 use cstn_rules::Tries;
@@ -112,17 +112,4 @@ fn answer_afresh(net: &Network, log: &mut Log, tries: &mut Tries) -> Verdict
         log.restart(net);
     }
     verdict_of(grown, log.len())
-}
-
-// The verdict by the answer of growth; yes and no have the load.
-fn verdict_of(grown: Grown, load: u32) -> Verdict
-    ensures closed { grown ≡ Grown.Closed → result ≡ Verdict.Yes load }
-    ensures refuted { grown ≡ Grown.Refuted → result ≡ Verdict.No load }
-    ensures full { grown ≡ Grown.Full → result ≡ Verdict.Full }
-{
-    match grown {
-        Grown::Closed => Verdict::Yes { load },
-        Grown::Refuted => Verdict::No { load },
-        Grown::Full => Verdict::Full,
-    }
 }

@@ -5,7 +5,7 @@ ghost use Rattle.cstn_check.specs.Spent.{is_fresh};
 ghost use Rattle.cstn_edit.specs.Fresh.{fresh_with, constraint_ids};
 
 use crate::outcomes::Outcome;
-use cstn_check::Verdict;
+use cstn_check::{Verdict, is_fresh};
 use cstn_net::Network;
 use std::mem::swap;
 
@@ -43,13 +43,7 @@ fn is_picked(fresh: &[u32], known: u32, id: u32) -> bool
     if known == id {
         return true;
     }
-    is_known(fresh, known)
-}
-
-fn is_known(fresh: &[u32], id: u32) -> bool
-    ensures { result ≡ is_fresh fresh.now id }
-{
-    fresh.iter().any(|known| *known == id)
+    is_fresh(fresh, known)
 }
 
 pub fn is_yes(outcome: Outcome) -> bool

@@ -37,7 +37,9 @@ use Rattle.cstn_follow.specs.Questions.{tells_verdict, next_text, next_at, next_
 use Rattle.cstn_follow.specs.Searches.{has_place, until_text, by_refusal, by_after, by_unless, by_number, blame_line, blame_after, ids_text}
 use Rattle.cstn_follow.specs.Waiting.{waits_until}
 use Rattle.cstn_follow.specs.Blame.{ids_to_blame}
-use Rattle.cstn_follow.specs.Hearing.{on_plan, on_other, on_line, counted, hear}
+use Rattle.cstn_follow.specs.Asking.{Spoken, of_line, of_question}
+use Rattle.cstn_follow.specs.Hearing.{on_plan, on_other, on_follow, on_line, counted, hear}
+use Rattle.cstn_follow.proofs.Further.{ends, verdict_ends, answer_ends}
 use Rattle.cstn_follow.specs.declared.following.Heard.{Heard as HeardText}
 use Rattle.cstn_follow.specs.declared.following.Heard.TheVariants.{Text, Rest}
 use Rattle.cstn_follow.specs.Read.{FollowingParts, IsFollowing, the_following, the_heard, IsSaidFor}
@@ -47,14 +49,6 @@ use Rattle.cstn_follow.specs.Read.{FollowingParts, IsFollowing, the_following, t
 abbrev pub Keeps : List (List ℕ) → Heard → Type 0
 Keeps names (says text s) = (s.names ≡ names) × EndsLine text
 Keeps names (saves m kept s) = (s.names ≡ names) × (length kept ≡ count m.base) × (slice_get kept 0 ≡ slice_get names 0)
-
-ends : (front : List ℕ) → EndsLine (line front)
-ends front = inr (front, refl)
-
-verdict_ends : (cap : ℕ) (v : Verdict) → EndsLine (verdict_line cap v)
-verdict_ends cap (Yes load) = ends (codes "yes " ++ decimal load)
-verdict_ends cap (No load) = ends (codes "no " ++ decimal load)
-verdict_ends cap Full = ends (codes "full " ++ decimal cap)
 
 -- ---- facts
 
@@ -199,21 +193,25 @@ module _ (s : Following) where
   plan_keeps (changed id most) = edit_keeps (Ok (revalues id most))
   plan_keeps asked = check_keeps (verdict_now s)
 
-  line_keeps : 0 < count s.network.base → length s.names ≡ count s.network.base → (o : Option Follow) → Keeps s.names (on_line s o)
+  follow_keeps : 0 < count s.network.base → length s.names ≡ count s.network.base → (line : Follow) → Keeps s.names (on_follow s line)
+  follow_keeps some long (done_at t names) = did_keeps t names
+  follow_keeps some long (came_at t p v) = fact_keeps (told_refusal s.network s.history t p) (with_told s.history t p v)
+  follow_keeps some long (now_at t) = fact_keeps (now_refusal s.history t) (at_now s.history t)
+  follow_keeps some long (awaited_at t p) = fact_keeps (expected_refusal s.network s.history t p) (with_expected s.history t p)
+  follow_keeps some long (edits edit) = plan_keeps edit
+  follow_keeps some long (ends_by deadline) = deadline_by deadline (nat_lt most_deadline deadline)
+  follow_keeps some long asks_next = next_keeps (verdict_now s)
+  follow_keeps some long (asks_by name) = by_named name (number_of s.names name)
+  follow_keeps some long asks_blame = blame_keeps (verdict_now s)
+  follow_keeps some long asks_rest = rest_keeps some long
+
+  line_keeps : 0 < count s.network.base → length s.names ≡ count s.network.base → (o : Option Spoken) → Keeps s.names (on_line s o)
   line_keeps some long None = other_keeps
-  line_keeps some long (Some (done_at t names)) = did_keeps t names
-  line_keeps some long (Some (came_at t p v)) = fact_keeps (told_refusal s.network s.history t p) (with_told s.history t p v)
-  line_keeps some long (Some (now_at t)) = fact_keeps (now_refusal s.history t) (at_now s.history t)
-  line_keeps some long (Some (awaited_at t p)) = fact_keeps (expected_refusal s.network s.history t p) (with_expected s.history t p)
-  line_keeps some long (Some (edits edit)) = plan_keeps edit
-  line_keeps some long (Some (ends_by deadline)) = deadline_by deadline (nat_lt most_deadline deadline)
-  line_keeps some long (Some asks_next) = next_keeps (verdict_now s)
-  line_keeps some long (Some (asks_by name)) = by_named name (number_of s.names name)
-  line_keeps some long (Some asks_blame) = blame_keeps (verdict_now s)
-  line_keeps some long (Some asks_rest) = rest_keeps some long
+  line_keeps some long (Some (of_line line)) = follow_keeps some long line
+  line_keeps some long (Some (of_question question)) = (refl, answer_ends s question)
 
 -- the names stay, and what is said ends a line
-pub hear_keeps : (s : Following) → 0 < count s.network.base → length s.names ≡ count s.network.base → (o : Option Follow) → Keeps s.names (hear s o)
+pub hear_keeps : (s : Following) → 0 < count s.network.base → length s.names ≡ count s.network.base → (o : Option Spoken) → Keeps s.names (hear s o)
 hear_keeps s some long o = line_keeps (record s { lines = _ }) some long o
 
 ok_or_err : {A E : Type 0} (r : Result A E) → ((x : A) × (r ≡ Ok x)) ⊎ ((e : E) × (r ≡ Err e))
@@ -229,7 +227,7 @@ said_kept names f (Text text) keeps = keeps.1
 said_kept names f (Rest network kept) keeps = (keeps.1, keeps.2)
 
 -- so it is once the line was counted, and the names stay where memory is refused too
-module _ {E : Type 0} (old mid new : FollowingParts) (o : Option Follow) (r : Result HeardText E) (good : IsFollowing old)
+module _ {E : Type 0} (old mid new : FollowingParts) (o : Option Spoken) (r : Result HeardText E) (good : IsFollowing old)
     (is : mid ≡ record old { lines = (counted (the_following old)).lines }) where
   line_counted : Keeps old.names (on_line (the_following mid) o)
   line_counted =

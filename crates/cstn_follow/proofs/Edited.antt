@@ -1,6 +1,7 @@
 -- How much of a labelled network there may be, and the verdict on what is left of it.
 use Rattle.std.proofs.Common.{ℕ, ◌≡◌, ◌<◌, ◌≤◌, inl, inr, Bool, true, false, Some, None, length, refl, ap, ◌∙◌, arith}
 use Rattle.std.specs.Prelude.{◌⊎◌, nat_le, ◌&&◌, if◌then◌else◌}
+use Rattle.std.proofs.lemmas.Bool.{and_from}
 use Rattle.cstn_net.specs.Limits.{most_constraints}
 use Rattle.cstn_lift.specs.Labelled.{Labelled}
 use Rattle.cstn_lift.specs.Lowered.{lowered}
@@ -62,3 +63,30 @@ within_is s v is = by_fit (is_within_limits s.network s.history s.fresh) is
     by_fit : (b : Bool) → (if b then Some (verdict_now s) else None) ≡ Some v → v ≡ verdict_now s
     by_fit true here = cc
     by_fit false here = absurd (cc)
+
+-- the limits are kept, or they aren't
+pub fits_within : (m : Labelled) (h : History) (fresh : ℕ) → length (lowered m).constraints ≤ most_constraints → HasRoom (rest m h fresh)
+    → is_within_limits m h fresh ≡ true
+fits_within m h fresh few room =
+    and_from (has_few (lowered m)) (has_few (rest m h fresh).base && has_few (lowered (rest m h fresh))) (few_true (length (lowered m).constraints) few)
+    (and_from (has_few (rest m h fresh).base) (has_few (lowered (rest m h fresh))) (few_true (length (rest m h fresh).base.constraints) room.base)
+    (few_true (length (lowered (rest m h fresh)).constraints) room.lowered))
+
+pub many_within : (m : Labelled) (h : History) (fresh : ℕ)
+    → (most_constraints < length (rest m h fresh).base.constraints) ⊎ (most_constraints < length (lowered (rest m h fresh)).constraints)
+    → is_within_limits m h fresh ≡ false
+many_within m h fresh (inl many) =
+    ap (λ b. has_few (lowered m) && (b && has_few (lowered (rest m h fresh)))) (many_false (length (rest m h fresh).base.constraints) many)
+    ∙ false_behind (has_few (lowered m))
+  where
+    false_behind : (a : Bool) → (a && (false && has_few (lowered (rest m h fresh)))) ≡ false
+    false_behind true = refl
+    false_behind false = refl
+many_within m h fresh (inr many) =
+    ap (λ b. has_few (lowered m) && (has_few (rest m h fresh).base && b)) (many_false (length (lowered (rest m h fresh)).constraints) many)
+    ∙ false_last (has_few (lowered m)) (has_few (rest m h fresh).base)
+  where
+    false_last : (a b : Bool) → (a && (b && false)) ≡ false
+    false_last true true = refl
+    false_last true false = refl
+    false_last false b = refl

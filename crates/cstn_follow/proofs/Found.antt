@@ -1,5 +1,5 @@
 -- What a check of what is left found, and what its verdict says.
-use Rattle.std.proofs.Common.{ℕ, true, ◌≡◌, ◌<◌, ◌≤◌, ◌+◌, ◌^◌, inl, inr, Some, None, length, ap, sym, subst, ◌∙◌, arith}
+use Rattle.std.proofs.Common.{ℕ, true, false, ◌≡◌, ◌<◌, ◌≤◌, ◌+◌, ◌^◌, inl, inr, Some, None, length, ap, sym, subst, ◌∙◌, arith}
 use Rattle.std.specs.Prelude.{◌&&◌, nat_lt}
 use Rattle.std.proofs.lemmas.Bool.{and_parts}
 use Rattle.cstn_net.specs.Limits.{most_constraints, most_edits}
@@ -27,10 +27,10 @@ use Rattle.cstn_follow.specs.declared.findings.Finding.TheVariants.{Planned, Ref
 use Rattle.cstn_follow.specs.Executions.{ExecutionParts, IsExecution, execution_left}
 use Rattle.cstn_follow.specs.Answers.{IsLeftRefuted, SaidYes, SaidNo}
 use Rattle.cstn_follow.specs.Findings.{verdict_of, IsFindingOn}
-use Rattle.cstn_follow.specs.Following.{verdict_left}
+use Rattle.cstn_follow.specs.Following.{is_within_limits, verdict_left}
 use Rattle.cstn_follow.specs.Waiting.{HasRoomToWait}
 use Rattle.cstn_follow.specs.Sessions.{SessionParts, IsFollowed, IsRightNow, IsSession, execution_of, session_parts}
-use Rattle.cstn_follow.proofs.Edited.{left_fits, left_many}
+use Rattle.cstn_follow.proofs.Edited.{left_fits, left_many, many_within}
 use Rattle.cstn_follow.proofs.GoesOn.{left_says, left_labelled, verdict_right}
 
 -- the verdict of a finding is the one on the network
@@ -51,6 +51,13 @@ module _ (m : Labelled) (h : History) (fresh cap : ℕ) where
     | inl none ↦ let number = ap rest_number is in absurd (omega arith)
     | inr many ↦ left_many m h fresh cap (inr many.1)
   ]
+
+pub refused_within : (m : Labelled) (h : History) (fresh : ℕ) (e : RestError) → IsRestRefusal (rest m h fresh) e → e ≡ TooManyConstraints
+    → is_within_limits m h fresh ≡ false
+refused_within m h fresh e refusal is = elim refusal [
+  | inl none ↦ let number = ap rest_number is in absurd (omega arith)
+  | inr many ↦ many_within m h fresh many.1
+]
 
 -- what is true of the session with these parts
 pub followed_session : (e : ExecutionParts) (cap edits : ℕ) (finding : Finding) → IsFollowed e cap edits finding → IsSession (session_parts e cap edits finding)

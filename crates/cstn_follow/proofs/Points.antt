@@ -9,9 +9,8 @@ use Rattle.cstn_history.specs.Histories.{History}
 use Rattle.cstn_change.specs.Changes.{Change, removes, revalues, Refusal, refusal, after}
 use Rattle.cstn_change.specs.ChangeLines.{addition}
 use Rattle.cstn_lines.specs.EditLines.{Edit, added, removed, changed, asked}
-use Rattle.cstn_lines.specs.FollowLines.{Follow, follow_read, IsFollow, done_at, came_at, now_at, awaited_at, edits, ends_by, asks_next, asks_by, asks_blame}
+use Rattle.cstn_lines.specs.FollowLines.{Follow, IsFollow, done_at, came_at, now_at, awaited_at, edits, ends_by, asks_next, asks_by, asks_blame}
 use Rattle.cstn_lines.specs.FollowLines.{asks_rest}
-use Rattle.cstn_lines.proofs.FollowLemmas.{follow_is}
 use Rattle.cstn_reply.specs.Sessions.{Turn, more, last, wrong}
 use Rattle.cstn_reply.specs.Reached.{state_after}
 use Rattle.cstn_reply.proofs.Sessions.{first_leads}
@@ -19,10 +18,12 @@ use Rattle.cstn_follow.specs.Following.{Following, Heard, says, saves, verdict_n
 use Rattle.cstn_follow.specs.FactLines.{records}
 use Rattle.cstn_follow.specs.PlanLines.{edited_network, replanned, on_refusal, on_edit, on_deadline}
 use Rattle.cstn_follow.specs.Replans.{with_due}
-use Rattle.cstn_follow.specs.Hearing.{on_plan, on_other, on_line, counted, hear}
+use Rattle.cstn_follow.specs.Asking.{Spoken, of_line, of_question, IfLine, spoken_read}
+use Rattle.cstn_follow.specs.Hearing.{on_plan, on_other, on_follow, on_line, counted, hear}
 use Rattle.cstn_follow.specs.Recorded.{IsFact}
 use Rattle.cstn_follow.specs.Turns.{Writing, heard_by, turn_by}
-use Rattle.cstn_follow.proofs.States.{IsSound, next_of, fact_is, next_keeps, check_keeps, blame_keeps, by_keeps, counted_sound, next_sound}
+use Rattle.cstn_follow.proofs.FurtherLines.{next_of, spoken_is}
+use Rattle.cstn_follow.proofs.States.{IsSound, fact_is, next_keeps, check_keeps, blame_keeps, by_keeps, counted_sound, next_sound}
 
 -- the time-points, their names and the cap are as they were
 pub record KeepsPoints (s next : Following) : Type 0 where
@@ -67,26 +68,30 @@ deadline_keeps s deadline true = same s
 deadline_keeps s deadline false =
     follows_keeps s (replanned s (with_due (edited_network s) deadline)) (λ v. _) (record { names = refl; observes = refl; reaction = refl; cap = refl })
 
-fact_keeps : (s : Following) (fact : Follow) → IsSound s → IsFact fact → IsFollow fact → KeepsPoints s (next_of (on_line s (Some fact)))
+fact_keeps : (s : Following) (fact : Follow) → IsSound s → IsFact fact → IsFollow fact → KeepsPoints s (next_of (on_follow s fact))
 fact_keeps s fact sound = fact_is s sound (λ fact heard. KeepsPoints s (next_of heard)) (λ fact text why. same s) (λ fact h timely is. records_keeps s h) fact
 
-line_keeps : (s : Following) (o : Option Follow) → IsSound s → ((l : Follow) → o ≡ Some l → IsFollow l) → KeepsPoints s (next_of (on_line s o))
-line_keeps s None sound is = same s
-line_keeps s (Some (done_at t names)) sound is = fact_keeps s (done_at t names) sound tt (is (done_at t names) refl)
-line_keeps s (Some (came_at t p v)) sound is = fact_keeps s (came_at t p v) sound tt (is (came_at t p v) refl)
-line_keeps s (Some (now_at t)) sound is = fact_keeps s (now_at t) sound tt (is (now_at t) refl)
-line_keeps s (Some (awaited_at t p)) sound is = fact_keeps s (awaited_at t p) sound tt (is (awaited_at t p) refl)
-line_keeps s (Some (edits edit)) sound is = plan_keeps s edit
-line_keeps s (Some (ends_by deadline)) sound is = deadline_keeps s deadline (nat_lt most_deadline deadline)
-line_keeps s (Some asks_next) sound is = subst (KeepsPoints s) (sym (next_keeps s (verdict_now s))) (same s)
-line_keeps s (Some (asks_by name)) sound is = subst (KeepsPoints s) (sym (by_keeps s name (number_of s.names name))) (same s)
-line_keeps s (Some asks_blame) sound is = subst (KeepsPoints s) (sym (blame_keeps s (verdict_now s))) (same s)
-line_keeps s (Some asks_rest) sound is = same s
+follow_keeps : (s : Following) (line : Follow) → IsSound s → IsFollow line → KeepsPoints s (next_of (on_follow s line))
+follow_keeps s (done_at t names) sound is = fact_keeps s (done_at t names) sound tt is
+follow_keeps s (came_at t p v) sound is = fact_keeps s (came_at t p v) sound tt is
+follow_keeps s (now_at t) sound is = fact_keeps s (now_at t) sound tt is
+follow_keeps s (awaited_at t p) sound is = fact_keeps s (awaited_at t p) sound tt is
+follow_keeps s (edits edit) sound is = plan_keeps s edit
+follow_keeps s (ends_by deadline) sound is = deadline_keeps s deadline (nat_lt most_deadline deadline)
+follow_keeps s asks_next sound is = subst (KeepsPoints s) (sym (next_keeps s (verdict_now s))) (same s)
+follow_keeps s (asks_by name) sound is = subst (KeepsPoints s) (sym (by_keeps s name (number_of s.names name))) (same s)
+follow_keeps s asks_blame sound is = subst (KeepsPoints s) (sym (blame_keeps s (verdict_now s))) (same s)
+follow_keeps s asks_rest sound is = same s
 
-hear_keeps : (s : Following) (text : List ℕ) → IsSound s → KeepsPoints s (next_of (hear s (follow_read text)))
+line_keeps : (s : Following) (o : Option Spoken) → IsSound s → IfLine o IsFollow → KeepsPoints s (next_of (on_line s o))
+line_keeps s None sound is = same s
+line_keeps s (Some (of_line line)) sound is = follow_keeps s line sound is
+line_keeps s (Some (of_question question)) sound is = same s
+
+hear_keeps : (s : Following) (text : List ℕ) → IsSound s → KeepsPoints s (next_of (hear s (spoken_read text)))
 hear_keeps s text sound =
-    through s (counted s) (next_of (hear s (follow_read text))) (record { names = refl; observes = refl; reaction = refl; cap = refl })
-    (line_keeps (counted s) (follow_read text) (counted_sound s sound) (follow_is text))
+    through s (counted s) (next_of (hear s (spoken_read text))) (record { names = refl; observes = refl; reaction = refl; cap = refl })
+    (line_keeps (counted s) (spoken_read text) (counted_sound s sound) (spoken_is text))
 
 -- the session after an answer to a line
 abbrev KeepsAfter : Following → Turn Following → Type 0
@@ -101,7 +106,7 @@ module _ (write : Writing) where
 
   pub turn_keeps : (s next : Following) (bytes text : List ℕ) → IsSound s → turn_by write s bytes ≡ more text next → KeepsPoints s next
   turn_keeps s next bytes text sound answered =
-      subst (KeepsAfter s) answered (heard_keeps s (hear s (follow_read bytes)) (hear_keeps s bytes sound))
+      subst (KeepsAfter s) answered (heard_keeps s (hear s (spoken_read bytes)) (hear_keeps s bytes sound))
 
   -- after any lines the time-points, their names and the cap are as they were
   pub lines_keep : (s g : Following) (k : ℕ) (lines : List (List ℕ)) → IsSound s → state_after (turn_by write) s k lines ≡ Some g → KeepsPoints s g

@@ -25,9 +25,8 @@ use Rattle.cstn_history.proofs.Edited.{timely_edited}
 use Rattle.cstn_history.proofs.Nothing.{nothing_history, rest_whole}
 use Rattle.cstn_history.proofs.Recorded.{timely_now, timely_done, timely_told, timely_expected}
 use Rattle.cstn_lines.specs.EditLines.{Edit, added, removed, changed, asked, IsEdit}
-use Rattle.cstn_lines.specs.FollowLines.{Follow, follow_read, IsFollow, done_at, came_at, now_at, awaited_at, edits, ends_by, asks_next, asks_by, asks_blame}
+use Rattle.cstn_lines.specs.FollowLines.{Follow, IsFollow, done_at, came_at, now_at, awaited_at, edits, ends_by, asks_next, asks_by, asks_blame}
 use Rattle.cstn_lines.specs.FollowLines.{asks_rest}
-use Rattle.cstn_lines.proofs.FollowLemmas.{follow_is}
 use Rattle.cstn_change.specs.Changes.{Change, adds, removes, revalues, Refusal, id_above, refusal, constraints_after, fresh_after, IsBetween}
 use Rattle.cstn_change.specs.ChangeLines.{accepted_text, addition_between}
 use Rattle.cstn_change.proofs.IdLemmas.{above_each, ids_below}
@@ -42,7 +41,9 @@ use Rattle.cstn_follow.specs.FactLines.{unknown_of, on_fact, on_now, on_saw, on_
 use Rattle.cstn_follow.specs.PlanLines.{edited_network, on_refusal, on_edit, on_add, on_deadline}
 use Rattle.cstn_follow.specs.Questions.{next_after, check_after}
 use Rattle.cstn_follow.specs.Searches.{by_number, by_unless, by_after, by_refusal, blame_after}
-use Rattle.cstn_follow.specs.Hearing.{on_plan, on_other, on_line, counted, hear}
+use Rattle.cstn_follow.specs.Asking.{Spoken, of_line, of_question, IfLine, spoken_read}
+use Rattle.cstn_follow.specs.Hearing.{on_plan, on_other, on_follow, on_line, counted, hear}
+use Rattle.cstn_follow.proofs.FurtherLines.{next_of, spoken_is}
 use Rattle.cstn_follow.proofs.InOrder.{IsOfLetters, can_change, changed_in_order}
 use Rattle.cstn_follow.proofs.Edited.{left_fits, within_is}
 use Rattle.cstn_follow.proofs.GoesOn.{verdict_right}
@@ -58,11 +59,6 @@ pub record IsSound (s : Following) : Type 0 where
   pub timely : IsTimelyHistory s.network s.history
   pub above : All (λ (c : Constraint). c.id < s.fresh) s.network.base.constraints
   pub verdict : verdict_within s ≡ Some (verdict_now s)
-
--- the session that follows
-abbrev pub next_of : Heard → Following
-next_of (says text next) = next
-next_of (saves m names next) = next
 
 -- a session that follows with another network, other facts or both is sound, or it stays as it was
 follows_sound : (s next : Following) (text : Verdict → List ℕ) → IsSound s → IsLabelled next.network → length next.names ≡ count next.network.base
@@ -127,7 +123,7 @@ module _ (s : Following) (sound : IsSound s) (Is : Follow → Heard → Type 0) 
   await_is t p = unless_is (awaited_at t p) (expected_refusal s.network s.history t p) (with_expected s.history t p)
       (timely_expected s.network s.history sound.labelled sound.timely.history sound.timely.in_time t p) (is_expected s.network s.history t p)
 
-  pub fact_is : (fact : Follow) → IsFact fact → IsFollow fact → Is fact (on_line s (Some fact))
+  pub fact_is : (fact : Follow) → IsFact fact → IsFollow fact → Is fact (on_follow s fact)
   fact_is (done_at t given) is fits = did_is t given fits.1
   fact_is (came_at t p v) is fits = saw_is t p v
   fact_is (now_at t) is fits = now_is t
@@ -219,27 +215,31 @@ deadline_line_sound : (s : Following) (deadline : ℕ) (b : Bool) → IsSound s 
 deadline_line_sound s deadline true sound within = sound
 deadline_line_sound s deadline false sound within = deadline_sound s deadline sound within
 
-fact_sound : (s : Following) (fact : Follow) → IsSound s → IsFact fact → IsFollow fact → IsSound (next_of (on_line s (Some fact)))
+fact_sound : (s : Following) (fact : Follow) → IsSound s → IsFact fact → IsFollow fact → IsSound (next_of (on_follow s fact))
 fact_sound s fact sound = fact_is s sound (λ fact heard. IsSound (next_of heard)) (λ fact text why. sound) (λ fact h timely is. records_sound s h sound timely) fact
 
-line_sound : (s : Following) (o : Option Follow) → IsSound s → ((l : Follow) → o ≡ Some l → IsFollow l) → IsSound (next_of (on_line s o))
+follow_sound : (s : Following) (line : Follow) → IsSound s → IsFollow line → IsSound (next_of (on_follow s line))
+follow_sound s (done_at t names) sound is = fact_sound s (done_at t names) sound tt is
+follow_sound s (came_at t p v) sound is = fact_sound s (came_at t p v) sound tt is
+follow_sound s (now_at t) sound is = fact_sound s (now_at t) sound tt is
+follow_sound s (awaited_at t p) sound is = fact_sound s (awaited_at t p) sound tt is
+follow_sound s (edits edit) sound is = plan_sound s edit sound is
+follow_sound s (ends_by deadline) sound is = deadline_line_sound s deadline (nat_lt most_deadline deadline) sound is
+follow_sound s asks_next sound is = subst IsSound (sym (next_keeps s (verdict_now s))) sound
+follow_sound s (asks_by name) sound is = subst IsSound (sym (by_keeps s name (number_of s.names name))) sound
+follow_sound s asks_blame sound is = subst IsSound (sym (blame_keeps s (verdict_now s))) sound
+follow_sound s asks_rest sound is = sound
+
+line_sound : (s : Following) (o : Option Spoken) → IsSound s → IfLine o IsFollow → IsSound (next_of (on_line s o))
 line_sound s None sound is = sound
-line_sound s (Some (done_at t names)) sound is = fact_sound s (done_at t names) sound tt (is (done_at t names) refl)
-line_sound s (Some (came_at t p v)) sound is = fact_sound s (came_at t p v) sound tt (is (came_at t p v) refl)
-line_sound s (Some (now_at t)) sound is = fact_sound s (now_at t) sound tt (is (now_at t) refl)
-line_sound s (Some (awaited_at t p)) sound is = fact_sound s (awaited_at t p) sound tt (is (awaited_at t p) refl)
-line_sound s (Some (edits edit)) sound is = plan_sound s edit sound (is (edits edit) refl)
-line_sound s (Some (ends_by deadline)) sound is = deadline_line_sound s deadline (nat_lt most_deadline deadline) sound (is (ends_by deadline) refl)
-line_sound s (Some asks_next) sound is = subst IsSound (sym (next_keeps s (verdict_now s))) sound
-line_sound s (Some (asks_by name)) sound is = subst IsSound (sym (by_keeps s name (number_of s.names name))) sound
-line_sound s (Some asks_blame) sound is = subst IsSound (sym (blame_keeps s (verdict_now s))) sound
-line_sound s (Some asks_rest) sound is = sound
+line_sound s (Some (of_line line)) sound is = follow_sound s line sound is
+line_sound s (Some (of_question question)) sound is = sound
 
 pub counted_sound : (s : Following) → IsSound s → IsSound (counted s)
 counted_sound s sound = record { labelled = sound.labelled; named = sound.named; timely = sound.timely; above = sound.above; verdict = sound.verdict }
 
-pub hear_sound : (s : Following) (text : List ℕ) → IsSound s → IsSound (next_of (hear s (follow_read text)))
-hear_sound s text sound = line_sound (counted s) (follow_read text) (counted_sound s sound) (follow_is text)
+pub hear_sound : (s : Following) (text : List ℕ) → IsSound s → IsSound (next_of (hear s (spoken_read text)))
+hear_sound s text sound = line_sound (counted s) (spoken_read text) (counted_sound s sound) (spoken_is text)
 
 -- the session after an answer to a line
 abbrev SoundAfter : Turn Following → Type 0
@@ -253,7 +253,7 @@ module _ (write : Writing) where
   heard_sound (saves m names next) sound = sound
 
   pub next_sound : (s next : Following) (bytes text : List ℕ) → IsSound s → turn_by write s bytes ≡ more text next → IsSound next
-  next_sound s next bytes text sound answered = subst SoundAfter answered (heard_sound (hear s (follow_read bytes)) (hear_sound s bytes sound))
+  next_sound s next bytes text sound answered = subst SoundAfter answered (heard_sound (hear s (spoken_read bytes)) (hear_sound s bytes sound))
 
   -- after any lines a session is sound
   pub lines_sound : (s g : Following) (k : ℕ) (lines : List (List ℕ)) → IsSound s → state_after (turn_by write) s k lines ≡ Some g → IsSound g

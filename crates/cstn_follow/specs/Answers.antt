@@ -110,6 +110,10 @@ TellsLatest s x TooManyConstraints = HasRoomLeftToWait s → ⊥
 TellsLatest s x Impossible = HasRoomLeftToWait s × SaidNo s
 TellsLatest s x Unknown = HasRoomLeftToWait s × ((s.verdict ≡ IsFull) ⊎ (SaidYes s × (wait_found s x.0 ≡ None)))
 
+-- what has happened can go on, and there is room for one constraint more
+abbrev pub CanAskWaits : SessionParts → Type 0
+CanAskWaits s = SaidYes s × HasRoomLeftToWait s
+
 -- ---- which constraints
 
 -- the history can't go on, by the constraints of these ids alone it can't either, and without any one of them it can

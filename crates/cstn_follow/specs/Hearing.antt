@@ -4,7 +4,9 @@ use Rattle.cstn_net.specs.Limits.{most_deadline}
 use Rattle.cstn_lines.specs.EditLines.{Edit, added, removed, changed, asked}
 use Rattle.cstn_lines.specs.FollowLines.{Follow, done_at, came_at, now_at, awaited_at, edits, ends_by, asks_next, asks_by, asks_blame, asks_rest}
 use Rattle.cstn_reply.specs.Texts.{line}
+use Rattle.cstn_follow.specs.Asking.{Spoken, of_line, of_question}
 use Rattle.cstn_follow.specs.Following.{Following, Heard, says}
+use Rattle.cstn_follow.specs.Further.{on_asked}
 use Rattle.cstn_follow.specs.FactLines.{on_did, on_saw, on_now, on_await}
 use Rattle.cstn_follow.specs.PlanLines.{on_add, on_remove, on_change, on_deadline}
 use Rattle.cstn_follow.specs.Questions.{on_next, on_check, on_rest}
@@ -25,24 +27,29 @@ on_other s = says (line (codes "refused line " ++ decimal s.lines)) s
 abbrev pub on_ends_by : Following → ℕ → Heard
 on_ends_by s deadline = if nat_lt most_deadline deadline then on_other s else on_deadline s deadline
 
+-- what is said to a line that tells, edits or asks
+abbrev pub on_follow : Following → Follow → Heard
+on_follow s (done_at t names) = on_did s t names
+on_follow s (came_at t p v) = on_saw s t p v
+on_follow s (now_at t) = on_now s t
+on_follow s (awaited_at t p) = on_await s t p
+on_follow s (edits edit) = on_plan s edit
+on_follow s (ends_by deadline) = on_ends_by s deadline
+on_follow s asks_next = on_next s
+on_follow s (asks_by name) = on_by s name
+on_follow s asks_blame = on_blame s
+on_follow s asks_rest = on_rest s
+
 -- what is said to a line, where it is one of the session
-abbrev pub on_line : Following → Option Follow → Heard
+abbrev pub on_line : Following → Option Spoken → Heard
 on_line s None = on_other s
-on_line s (Some (done_at t names)) = on_did s t names
-on_line s (Some (came_at t p v)) = on_saw s t p v
-on_line s (Some (now_at t)) = on_now s t
-on_line s (Some (awaited_at t p)) = on_await s t p
-on_line s (Some (edits edit)) = on_plan s edit
-on_line s (Some (ends_by deadline)) = on_ends_by s deadline
-on_line s (Some asks_next) = on_next s
-on_line s (Some (asks_by name)) = on_by s name
-on_line s (Some asks_blame) = on_blame s
-on_line s (Some asks_rest) = on_rest s
+on_line s (Some (of_line line)) = on_follow s line
+on_line s (Some (of_question question)) = on_asked s question
 
 -- the session that has heard one line more; there are never more than 16,777,217
 abbrev pub counted : Following → Following
 counted s = record s { lines = min (suc s.lines) 16777217 }
 
 -- what is said to the next line
-abbrev pub hear : Following → Option Follow → Heard
+abbrev pub hear : Following → Option Spoken → Heard
 hear s said = on_line (counted s) said

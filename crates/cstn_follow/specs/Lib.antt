@@ -1,6 +1,9 @@
 -- What a check says of what would be left.
 pub mod Tries
 pub mod Waiting
+pub mod Eased
+pub mod Pauses
+pub mod Lateness
 pub mod Blame
 pub mod Needs
 -- What is carried out, and what a check found of what is left.
@@ -18,6 +21,8 @@ pub mod FactLines
 pub mod PlanLines
 pub mod Questions
 pub mod Searches
+pub mod Asking
+pub mod Further
 pub mod Hearing
 -- What is recorded of facts, and what the turns of a session answer.
 pub mod Recorded

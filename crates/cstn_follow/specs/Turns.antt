@@ -2,8 +2,8 @@
 use Rattle.std.specs.Prelude.{ℕ, List}
 use Rattle.cstn_lift.specs.Labelled.{Labelled}
 use Rattle.cstn_check.specs.declared.verdicts.Verdict.{Verdict}
-use Rattle.cstn_lines.specs.FollowLines.{follow_read}
 use Rattle.cstn_reply.specs.Sessions.{Turn, more}
+use Rattle.cstn_follow.specs.Asking.{spoken_read}
 use Rattle.cstn_follow.specs.Following.{Following, Heard, says, saves, IsRightVerdict}
 use Rattle.cstn_follow.specs.Hearing.{hear}
 
@@ -18,7 +18,7 @@ heard_by write (saves m names next) = more (write m names) next
 
 -- the answer to a line, which may be none of the session
 abbrev pub turn_by : Writing → Following → List ℕ → Turn Following
-turn_by write s text = heard_by write (hear s (follow_read text))
+turn_by write s text = heard_by write (hear s (spoken_read text))
 
 -- a verdict is true of what has happened in a session
 abbrev pub IsTrueOf : Following → Verdict → Type 0

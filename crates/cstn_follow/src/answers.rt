@@ -30,6 +30,34 @@ pub enum Latest {
     Unknown,
 }
 
+/// Until when nothing at all may happen.
+#[derive(Clone, Copy, Debug, PartialEq, Eq)]
+pub enum Pause {
+    /// Up to this moment, in ticks.
+    Until(u32),
+    /// Nothing is left.
+    Finished,
+    /// F8: at a later moment what is left, or its lowered network, has more than 16,384 constraints.
+    TooManyConstraints,
+    /// What has happened can't go on.
+    Impossible,
+    /// A log that is tried is full.
+    Unknown,
+}
+
+/// Until when the outcome of a proposition may be late.
+#[derive(Clone, Copy, Debug, PartialEq, Eq)]
+pub enum Lateness {
+    /// Up to this moment, in ticks.
+    Until(u32),
+    /// It is too late whenever it comes.
+    Never,
+    /// It isn't told: no time-point that is done observes it, or it was told.
+    Refused(FactError),
+    /// A log that is tried is full.
+    Unknown,
+}
+
 /// Which constraints are to blame where what has happened can't go on.
 #[derive(Drop)]
 pub enum ToBlame {

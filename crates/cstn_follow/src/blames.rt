@@ -117,7 +117,8 @@ fn said_by(
     requires tries { TakesTries (the_labelled network.now) history.now fresh }
     requires part { IsPart (the_labelled network.now).base (the_network base) }
     ensures said { IfOk result (λ o. answer o ≡ said_by_network (the_labelled network.now) (the_history history.now) fresh cap.entries (the_network base)) }
-    ensures stands { IfOk result (λ o. IfNo o (Stands (said_by_network (the_labelled network.now) (the_history history.now) fresh cap.entries) (the_network base))) }
+    ensures stands { IfOk result (λ o. IfNo o (Stands (said_by_network (the_labelled network.now) (the_history history.now) fresh cap.entries)
+        (the_network base))) }
 {
     parts_are_labelled();
     edits_keep_histories();

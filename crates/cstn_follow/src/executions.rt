@@ -1,10 +1,12 @@
 // Labelled networks that are carried out.
-ghost use Rattle.std.specs.Prelude.{ℕ, ◌≡◌, ◌<◌, ◌≤◌, ◌^◌, None, Some, IsTrue, IfOk, IfErr, IsOk, IsErrOf};
+ghost use Rattle.std.specs.Prelude.{ℕ, ◌≡◌, ◌<◌, ◌≤◌, ◌^◌, None, Some, IsTrue, IfOk, IfErr, IsOk, IsErrOf, max};
 ghost use Rattle.std.specs.List.{All, AllPairs, Contains};
+ghost use Rattle.cstn_net.specs.Limits.{most_deadline};
 ghost use Rattle.cstn_net.specs.Networks.{count};
 ghost use Rattle.cstn_lift.specs.Lowered.{lowered};
 ghost use Rattle.cstn_lift.specs.Read.{the_labelled};
 ghost use Rattle.cstn_history.specs.Continuations.{Can, CanWait};
+ghost use Rattle.cstn_history.specs.Facts.{at_now};
 ghost use Rattle.cstn_history.specs.Handed.{HasRoom, IsRestRefusal};
 ghost use Rattle.cstn_history.specs.Histories.{nothing_yet};
 ghost use Rattle.cstn_history.specs.Read.{the_history, IsKeptFor};
@@ -15,6 +17,8 @@ ghost use Rattle.cstn_follow.specs.Blame.{network_alone, ids_to_blame};
 ghost use Rattle.cstn_follow.specs.Executions.{IsExecution, execution_left};
 ghost use Rattle.cstn_follow.specs.Findings.{verdict_of, IsFindingOn};
 ghost use Rattle.cstn_follow.specs.Following.{verdict_left};
+ghost use Rattle.cstn_follow.specs.Lateness.{said_late};
+ghost use Rattle.cstn_follow.specs.Pauses.{said_of, said_at, has_room_later};
 ghost use Rattle.cstn_follow.specs.Waiting.{HasRoomToWait, waits_until};
 
 use crate::blames::blame;
@@ -22,8 +26,9 @@ use crate::errors::{BlameError, WaitError};
 use crate::findings::{Finding, finding_left, labelled_network_is_in_order};
 use crate::waits::by;
 use cstn_change::id_above;
+use cstn_check::Verdict;
 use cstn_history::{History, RestError, rest};
-use cstn_label::NodeId;
+use cstn_label::{NodeId, Prop};
 use cstn_lift::Labelled;
 use cstn_log::Cap;
 use std::alloc::{AllocError, Global};
@@ -146,6 +151,80 @@ impl Execution {
         finding_left(alloc, network, &self.history, fresh, cap)
     }
 
+    /// What a check says of what would be left after another history: whether it can go on; none where the log is full, or there would
+    /// be too many constraints.
+    pub fn said_after(
+        &self,
+        alloc: Global,
+        later: &History,
+        cap: Cap,
+    ) -> Result<Option<bool>, AllocError>
+        requires kept { IsKeptFor (the_labelled self.now.network) later.now }
+        ensures said { IfOk result (λ o. o
+            ≡ said_of (verdict_left (the_labelled self.now.network) (the_history later.now) self.now.fresh cap.entries)) }
+    {
+        match self.finding_after(alloc, later, cap) {
+            Ok(finding) => Ok(said_by(finding.verdict())),
+            Err(RestError::TooManyConstraints) => Ok(None),
+            Err(RestError::Memory(e)) => Err(e),
+        }
+    }
+
+    /// What a check says of what is left when it is this moment now, in ticks, or when it is now where that is later.
+    pub fn said_at(&self, alloc: Global, moment: u32, cap: Cap) -> Result<Option<bool>, AllocError>
+        requires range { moment ≤ most_deadline }
+        ensures said { IfOk result (λ o. o
+            ≡ said_at (the_labelled self.now.network) (the_history self.now.history) self.now.fresh cap.entries moment) }
+    {
+        let later = self.history_at(alloc, moment)?;
+        self.said_after(alloc, &later, cap)
+    }
+
+    /// What a check says of what is left when the outcome of a proposition is expected at this moment, in ticks; none where that is refused,
+    /// or where the log is full, or there would be too many constraints.
+    pub fn said_late(
+        &self,
+        alloc: Global,
+        p: Prop,
+        moment: u32,
+        cap: Cap,
+    ) -> Result<Option<bool>, AllocError>
+        ensures said { IfOk result (λ o. o
+            ≡ said_late (the_labelled self.now.network) (the_history self.now.history) self.now.fresh cap.entries p.index moment) }
+    {
+        let mut later = self.history.copy(alloc)?;
+        match later.expect(&self.network, moment, p) {
+            Ok(()) => self.said_after(alloc, &later, cap),
+            Err(_) => Ok(None),
+        }
+    }
+
+    // What has happened when it is this moment now, in ticks, or when it is now where that is later.
+    fn history_at(&self, alloc: Global, moment: u32) -> Result<History, AllocError>
+        requires range { moment ≤ most_deadline }
+        ensures later { IfOk result (λ h. the_history h ≡ at_now (the_history self.now.history) (max self.now.history.time moment)) }
+        ensures kept { IfOk result (λ h. IsKeptFor (the_labelled self.now.network) h) }
+    {
+        let mut later = self.history.copy(alloc)?;
+        let last = later.now().max(moment);
+        match later.pass(last) {
+            Ok(()) => Ok(later),
+            Err(_) => unreachable!(),
+        }
+    }
+
+    /// Whether what is left at a later moment has no more constraints than it may.
+    pub fn has_room_later(&self, alloc: Global) -> Result<bool, AllocError>
+        ensures room { IfOk result (λ b. b ≡ has_room_later (the_labelled self.now.network) (the_history self.now.history) self.now.fresh) }
+    {
+        let later = self.history_at(alloc, 1)?;
+        match rest(alloc, &self.network, &later, self.fresh) {
+            Ok(_) => Ok(true),
+            Err(RestError::TooManyConstraints) => Ok(false),
+            Err(RestError::Memory(e)) => Err(e),
+        }
+    }
+
     /// Makes this what has happened.
     pub fn record(&mut self, later: History)
         requires kept { IsKeptFor (the_labelled self.old.network) later }
@@ -200,5 +279,16 @@ impl Execution {
             → ids_to_blame (the_labelled self.now.network) (the_history self.now.history) self.now.fresh cap.entries ≡ None }
     {
         blame(alloc, &self.network, &self.history, self.fresh, cap)
+    }
+}
+
+// Whether a verdict says that what has happened can go on; none where it says nothing.
+fn said_by(verdict: Verdict) -> Option<bool>
+    ensures { result ≡ said_of (Some verdict) }
+{
+    match verdict {
+        Verdict::Yes { .. } => Some(true),
+        Verdict::No { .. } => Some(false),
+        Verdict::Full => None,
     }
 }

@@ -9,6 +9,7 @@ ghost use Rattle.cstn_follow.specs.Questions.{tells_verdict};
 ghost use Rattle.cstn_follow.specs.Following.{says, begun, outcome_by, following_ending, verdict_now};
 ghost use Rattle.cstn_follow.specs.Read.{IsFollowing, the_following};
 
+mod asked;
 mod edits;
 mod facts;
 mod hearing;

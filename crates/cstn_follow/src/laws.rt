@@ -8,13 +8,20 @@ ghost use Rattle.cstn_net.specs.Strategies.{Table};
 ghost use Rattle.cstn_lift.specs.Labelled.{Labelled};
 ghost use Rattle.cstn_lift.specs.Lowered.{lowered};
 ghost use Rattle.cstn_lift.specs.WellFormed.{IsLabelled};
-ghost use Rattle.cstn_history.specs.Histories.{History, IsHistory, IsTimelyHistory};
+ghost use Rattle.cstn_history.specs.Histories.{History, IsHistory, IsTimelyHistory, GoesOn};
 ghost use Rattle.cstn_history.specs.Continuations.{Continues, Can, CanWait, IsNamed, IsLeastTable};
 ghost use Rattle.cstn_history.specs.Rest.{is_left, number_of, rest, with_constraint};
-ghost use Rattle.cstn_history.specs.Facts.{done_refusal, with_done};
+ghost use Rattle.cstn_lines.specs.FollowLines.{Follow, follow_read};
+ghost use Rattle.cstn_history.specs.Facts.{done_refusal, with_done, at_now, with_expected};
 ghost use Rattle.cstn_history.specs.Handed.{HasRoom};
 ghost use Rattle.cstn_check.specs.Givers.{is_of, but};
+ghost use Rattle.cstn_check.specs.declared.verdicts.Verdict.{Verdict};
+ghost use Rattle.cstn_follow.specs.Asking.{Asked, IsAsked, printed_asked, of_line, of_question, spoken_read};
 ghost use Rattle.cstn_follow.specs.Blame.{network_alone, ids_to_blame};
+ghost use Rattle.cstn_follow.specs.Eased.{IsEased};
+ghost use Rattle.cstn_follow.specs.Following.{verdict_left};
+ghost use Rattle.cstn_follow.specs.Lateness.{late_of, IsRightLate};
+ghost use Rattle.cstn_follow.specs.Pauses.{pause_of, IsRightPause};
 ghost use Rattle.cstn_follow.specs.Progress.{HasRoomLeft, IsQuietUpto, IsHistoryStep, AreHistorySteps, history_after};
 ghost use Rattle.cstn_follow.specs.Waiting.{HasRoomToWait, waiting_one, waits_until};
 
@@ -76,4 +83,40 @@ pub fn blame_is_found()
         → Contains ids id → Can (network_alone m (but id (is_of ids))) h }
     ensures ascending { (m : Labelled) (h : History) (fresh cap : ℕ) (ids : List ℕ) → IsLabelled m → ids_to_blame m h fresh cap ≡ Some ids
         → AllPairs (λ a b. a < b) ids }
+{}
+
+/// Where it is no later, or outcomes are known no later, what has happened can go on as before. So where it can go on at some moment
+/// it can at each earlier one.
+pub fn earlier_is_no_worse()
+    ensures table { (m : Labelled) (h easier : History) (table : Table) → IsEased m h easier → Continues m h table → Continues m easier table }
+    ensures can { (m : Labelled) (h easier : History) → IsEased m h easier → Can m h → Can m easier }
+    ensures now { (m : Labelled) (h : History) (t u : ℕ) → t ≤ u → IsEased m (at_now h u) (at_now h t) }
+{}
+
+/// Waiting falls: when time has passed, or more is done from now on, no time-point can wait longer than before, and no outcome may be
+/// later.
+pub fn waiting_falls()
+    ensures waits { (m : Labelled) (h later : History) (x t : ℕ) → IsLabelled m → IsHistory m h → IsHistory m later → GoesOn h later
+        → CanWait m later x t → CanWait m h x t }
+    ensures late { (m : Labelled) (h later : History) (p t : ℕ) → IsLabelled m → IsHistory m (with_expected h t p)
+        → IsHistory m (with_expected later t p) → GoesOn h later → Can m (with_expected later t p) → Can m (with_expected h t p) }
+{}
+
+/// Until when nothing at all may happen is found by halving: where there is a verdict on what is left, the answer is right.
+pub fn pauses_are_found()
+    ensures { (m : Labelled) (h : History) (fresh cap : ℕ) (v : Verdict) → IsLabelled m → IsTimelyHistory m h → All (λ c. c.id < fresh) m.base.constraints
+        → verdict_left m h fresh cap ≡ Some v → IsRightPause m h (pause_of m h fresh cap v) }
+{}
+
+/// Until when an outcome may be late is found by halving: where there is a verdict on what is left, the answer is right.
+pub fn lateness_is_found()
+    ensures { (m : Labelled) (h : History) (fresh cap p : ℕ) (v : Verdict) → IsLabelled m → IsTimelyHistory m h → All (λ c. c.id < fresh) m.base.constraints
+        → verdict_left m h fresh cap ≡ Some v → IsRightLate m h p (late_of m h fresh cap p v) }
+{}
+
+/// A further question has one text, and no text of one is a line that tells, edits or asks otherwise.
+pub fn questions_have_one_text()
+    ensures back { (question : Asked) → IsAsked question → spoken_read (printed_asked question) ≡ Some (of_question question) }
+    ensures only { (text : List ℕ) (question : Asked) → spoken_read text ≡ Some (of_question question) → (printed_asked question ≡ text) × IsAsked question }
+    ensures others { (text : List ℕ) (line : Follow) → follow_read text ≡ Some line → spoken_read text ≡ Some (of_line line) }
 {}

@@ -1,5 +1,5 @@
 // What a session says that lists names, letters or ids.
-ghost use Rattle.std.specs.Prelude.{◌≡◌, ◌++◌, ◌∷◌, map, IfOk, codes, decimal};
+ghost use Rattle.std.specs.Prelude.{◌≡◌, ◌++◌, ◌∷◌, [], map, IfOk, codes, decimal};
 ghost use Rattle.cstn_label.specs.Letters.{letter_of};
 ghost use Rattle.cstn_text.specs.PrintedNames.{printed_name};
 ghost use Rattle.cstn_reply.specs.Texts.{line};
@@ -102,6 +102,20 @@ pub fn by_line(alloc: Global, names: &Names, moment: u32, x: NodeId) -> Result<V
     text.extend_from_slice(b"by ")?;
     text.extend_from_slice(digits.format(moment).as_bytes())?;
     put_name(alloc, &mut text, name_at(names, x))?;
+    text.push(b'\n')?;
+    Ok(text)
+}
+
+/// The line of the moment, in ticks, until which the outcome of a proposition may be late.
+pub fn late_line(alloc: Global, moment: u32, p: Prop) -> Result<Vec<u8>, AllocError>
+    ensures line { IfOk result (λ text. text.items ≡ line (codes "late " ++ decimal moment ++ 32 ∷ letter_of p.index ∷ [])) }
+{
+    let mut digits = Buffer::new();
+    let mut text = Vec::with_capacity(alloc, ROOM)?;
+    text.extend_from_slice(b"late ")?;
+    text.extend_from_slice(digits.format(moment).as_bytes())?;
+    text.push(b' ')?;
+    text.push(p.letter())?;
     text.push(b'\n')?;
     Ok(text)
 }

@@ -10,10 +10,13 @@ ghost use Rattle.cstn_history.specs.Read.{the_history};
 ghost use Rattle.cstn_history.specs.Rest.{sight_left};
 ghost use Rattle.cstn_change.specs.Changes.{id_above};
 ghost use Rattle.cstn_follow.specs.Following.{any_below, is_open};
+ghost use Rattle.cstn_follow.specs.Pauses.{is_undone, is_any_undone};
 ghost use Rattle.cstn_follow.specs.Sessions.{IsSession, IsRightNow};
 
 mod edits;
 mod facts;
+mod lateness;
+mod pauses;
 mod questions;
 
 use crate::executions::Execution;
@@ -133,6 +136,25 @@ impl Session {
             return self.is_untold(x);
         }
         self.is_possible(x)
+    }
+
+    /// Whether a time-point is left to be done: it isn't done, and what is told doesn't contradict its completed label.
+    pub fn is_undone(&self, x: NodeId) -> bool
+        requires inside { x.0 < count (the_labelled self.now.network).base }
+        ensures { result ≡ is_undone (the_labelled self.now.network) (the_history self.now.history) x.0 }
+    {
+        self.history().done(x).is_none() && self.is_possible(x)
+    }
+
+    // Whether some time-point is left to be done.
+    pub(crate) fn is_anything_undone(&self) -> bool
+        ensures { result ≡ is_any_undone (the_labelled self.now.network) (the_history self.now.history) }
+    {
+        let mut is_any = false;
+        for x in 0..self.network().base().count() {
+            is_any = either(is_any, self.is_undone(NodeId(x)));
+        }
+        is_any
     }
 
     // Whether what is told doesn't contradict the completed label of a time-point.

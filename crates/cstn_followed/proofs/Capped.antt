@@ -38,17 +38,16 @@ use Rattle.cstn_check.specs.Search.{narrowed, left_by, middle, halved, halving}
 use Rattle.cstn_follow.specs.Tries.{with_base}
 use Rattle.cstn_follow.specs.Waiting.{rest_until, tried_until, waits_until}
 use Rattle.cstn_follow.specs.Blame.{said_by_network, ids_to_blame}
-use Rattle.cstn_follow.specs.Hearing.{counted, on_plan, on_other, on_line, hear}
+use Rattle.cstn_follow.specs.Asking.{Spoken, of_line, of_question, spoken_read}
+use Rattle.cstn_follow.specs.Hearing.{counted, on_plan, on_other, on_follow, on_line, hear}
 use Rattle.cstn_follow.specs.Turns.{heard_by}
 use Rattle.cstn_follow.proofs.States.{IsSound, next_sound}
 use Rattle.cstn_follow.proofs.Points.{turn_keeps}
 use Rattle.cstn_followed.specs.Sessions.{follow_turn}
 use Rattle.cstn_followed.specs.Journal.{texts_of, with_cap, AreSameUnlessFull}
+use Rattle.cstn_followed.proofs.Alike.{SameIfSome, verdict_alike, said_alike, halving_alike, left_alike, mapped_alike}
+use Rattle.cstn_followed.proofs.FurtherAlike.{line_told, verdict_told, now_told, answers_alike}
 use Rattle.cstn_followed.proofs.Journals.{texts_more}
-
--- the second is the first, unless the first is none
-abbrev SameIfSome : {X : Type 0} → Option X → Option X → Type 0
-SameIfSome one other = (one ≡ None) ⊎ (other ≡ one)
 
 -- the same text in the state with another cap, or the first text says that a log has more entries than `cap`
 abbrev pub IsAlike : ℕ → ℕ → Heard → Heard → Type 0
@@ -56,95 +55,6 @@ IsAlike cap larger (says text next) (says other later) = (later ≡ with_cap nex
 IsAlike cap larger (says text next) (saves m names later) = ⊥
 IsAlike cap larger (saves l names next) (says other later) = ⊥
 IsAlike cap larger (saves l names next) (saves m others later) = (later ≡ with_cap next larger) × ((m ≡ l) × (others ≡ names))
-
--- what a check tells of a network where its log has no more entries than it may
-abbrev verdict_known : Network → Verdict
-verdict_known net = if is_refuted net (log_of net) then No (load_of net) else Yes (load_of net)
-
-abbrev said_known : Network → Option Bool
-said_known net = Some (is_consistent net)
-
-module _ (cap larger : ℕ) (upto : cap ≤ larger) where
-  no_fuller : (n : ℕ) → nat_lt cap n ≡ false → nat_lt larger n ≡ false
-  no_fuller n e = grind arith
-
-  -- ---- checks
-
-  verdict_alike : (net : Network) → (verdict cap net ≡ Full) ⊎ (verdict larger net ≡ verdict cap net)
-  verdict_alike net = by_load (nat_lt cap (load_of net)) refl
-    where
-      by_load : (full : Bool) → nat_lt cap (load_of net) ≡ full → (verdict cap net ≡ Full) ⊎ (verdict larger net ≡ verdict cap net)
-      by_load true is = inl (ap (λ b. if b then Full else verdict_known net) is)
-      by_load false is =
-          inr (ap (λ b. if b then Full else verdict_known net) (no_fuller (load_of net) is) ∙ sym (ap (λ b. if b then Full else verdict_known net) is))
-
-  said_alike : (net : Network) → SameIfSome (said cap net) (said larger net)
-  said_alike net = by_load (nat_lt cap (load_of net)) refl
-    where
-      by_load : (full : Bool) → nat_lt cap (load_of net) ≡ full → SameIfSome (said cap net) (said larger net)
-      by_load true is = inl (ap (λ b. if b then None else said_known net) is)
-      by_load false is =
-          inr (ap (λ b. if b then None else said_known net) (no_fuller (load_of net) is) ∙ sym (ap (λ b. if b then None else said_known net) is))
-
--- ---- searches
-
-abbrev and_then : {X Y : Type 0} → Option X → (X → Option Y) → Option Y
-and_then o go = option_and_then go o
-
--- halving finds the same in each span, unless it finds nothing by the first
-abbrev AreAlikeFrom : (ℕ → Option Bool) → (ℕ → Option Bool) → ℕ → Type 0
-AreAlikeFrom test other n = (l k : ℕ) → SameIfSome (halving test n (record { low = l; high = k })) (halving other n (record { low = l; high = k }))
-
-halving_alike : (test other : ℕ → Option Bool) → ((t : ℕ) → SameIfSome (test t) (other t)) → (n low high : ℕ)
-    → SameIfSome (halving test n (record { low = low; high = high })) (halving other n (record { low = low; high = high }))
-unfolding halving
-halving_alike test other alike zero low high = inr refl
-halving_alike test other alike (suc n) low high = by_more (nat_lt low high) (alike half) (halving_alike test other alike n)
-  where
-    half : ℕ
-    half = middle (record { low = low; high = high })
-
-    by_test : (o : Option Bool) → AreAlikeFrom test other n → SameIfSome (and_then (halved (record { low = low; high = high }) o) (halving test n))
-        (and_then (halved (record { low = low; high = high }) o) (halving other n))
-    by_test None later = inl refl
-    by_test (Some true) later = later half high
-    by_test (Some false) later = later low (half - 1)
-
-    by_same : (test half ≡ None) ⊎ (other half ≡ test half) → AreAlikeFrom test other n
-        → SameIfSome (and_then (halved (record { low = low; high = high }) (test half)) (halving test n))
-        (and_then (halved (record { low = low; high = high }) (other half)) (halving other n))
-    by_same (inl none) later = inl (ap (λ o. and_then (halved (record { low = low; high = high }) o) (halving test n)) none)
-    by_same (inr same) later =
-        subst (λ o. SameIfSome (and_then (halved (record { low = low; high = high }) (test half)) (halving test n))
-        (and_then (halved (record { low = low; high = high }) o) (halving other n))) (sym same) (by_test (test half) later)
-
-    by_more : (b : Bool) → SameIfSome (test half) (other half) → AreAlikeFrom test other n
-        → SameIfSome (if b then and_then (halved (record { low = low; high = high }) (test half)) (halving test n) else Some low)
-        (if b then and_then (halved (record { low = low; high = high }) (other half)) (halving other n) else Some low)
-    by_more true same later = by_same same later
-    by_more false same later = inr refl
-
-left_alike : (test other : Network → Option Bool) → ((net : Network) → SameIfSome (test net) (other net)) → (ids : List ℕ) (net : Network)
-    → SameIfSome (left_by test ids net) (left_by other ids net)
-left_alike test other alike [] net = inr refl
-left_alike test other alike (id ∷ ids) net = by_same (alike (without id net)) (left_alike test other alike ids)
-  where
-    by_test : (o : Option Bool) → ((r : Network) → SameIfSome (left_by test ids r) (left_by other ids r))
-        → SameIfSome (and_then (narrowed o id net) (left_by test ids)) (and_then (narrowed o id net) (left_by other ids))
-    by_test None later = inl refl
-    by_test (Some true) later = later net
-    by_test (Some false) later = later (without id net)
-
-    by_same : SameIfSome (test (without id net)) (other (without id net)) → ((r : Network) → SameIfSome (left_by test ids r) (left_by other ids r))
-        → SameIfSome (and_then (narrowed (test (without id net)) id net) (left_by test ids)) (and_then (narrowed (other (without id net)) id net) (left_by other ids))
-    by_same (inl none) later = inl (ap (λ o. and_then (narrowed o id net) (left_by test ids)) none)
-    by_same (inr same) later =
-        subst (λ o. SameIfSome (and_then (narrowed (test (without id net)) id net) (left_by test ids)) (and_then (narrowed o id net) (left_by other ids)))
-        (sym same) (by_test (test (without id net)) later)
-
-mapped_alike : {X Y : Type 0} (f : X → Y) (one other : Option X) → SameIfSome one other → SameIfSome (option_map f one) (option_map f other)
-mapped_alike f one other (inl none) = inl (ap (option_map f) none)
-mapped_alike f one other (inr same) = inr (ap (option_map f) same)
 
 -- ---- lines
 
@@ -181,13 +91,8 @@ module _ (s : Following) (larger : ℕ) (upto : s.cap ≤ larger) where
       by_fits true alike says_full = (refl, texts alike says_full)
       by_fits false alike says_full = (refl, inl refl)
 
-  line_told : (v : Verdict) → (verdict_line larger v ≡ verdict_line s.cap v) ⊎ (verdict_line s.cap v ≡ full_line s.cap)
-  line_told (Yes load) = inl refl
-  line_told (No load) = inl refl
-  line_told Full = inr refl
-
   records_alike : (h : History) → Alike (records s h) (records Other h)
-  records_alike h = follows_alike s.network h s.edits s.fresh (verdict_line s.cap) (verdict_line larger) line_told (inl refl)
+  records_alike h = follows_alike s.network h s.edits s.fresh (verdict_line s.cap) (verdict_line larger) (line_told s larger upto) (inl refl)
 
   result_alike : (r : Result History FactRefusal) → Alike (on_result s r) (on_result Other r)
   result_alike (Ok h) = records_alike h
@@ -234,40 +139,26 @@ module _ (s : Following) (larger : ℕ) (upto : s.cap ≤ larger) where
       at (No load) is (inr same) = subst (λ w. Alike (after s (No load)) (after Other w)) (sym same) (no_alike load)
       at Full is (inr same) = full_alike (verdict_now Other) is
 
-  verdict_told : verdict_now s ≡ Full → verdict_line s.cap (verdict_now s) ≡ full_line s.cap
-  verdict_told is = ap (verdict_line s.cap) is
-
-  -- the line of the verdict
-  told_alike : (v : Verdict) → verdict_now Other ≡ v → (verdict_now s ≡ Full) ⊎ (v ≡ verdict_now s)
-      → (verdict_line larger (verdict_now Other) ≡ verdict_line s.cap (verdict_now s)) ⊎ (verdict_line s.cap (verdict_now s) ≡ full_line s.cap)
-  told_alike v is (inl full) = inr (verdict_told full)
-  told_alike v is (inr same) =
-      subst (λ w. (verdict_line larger w ≡ verdict_line s.cap (verdict_now s)) ⊎ (verdict_line s.cap (verdict_now s) ≡ full_line s.cap))
-      (sym (is ∙ same)) (line_told (verdict_now s))
-
-  now_told : (verdict_line larger (verdict_now Other) ≡ verdict_line s.cap (verdict_now s)) ⊎ (verdict_line s.cap (verdict_now s) ≡ full_line s.cap)
-  now_told = told_alike (verdict_now Other) refl (verdict_alike s.cap larger upto (lowered (left_now s)))
-
   full_next : (v : Verdict) → verdict_now s ≡ Full → Alike (next_after s Full) (next_after Other v)
-  full_next (Yes load) is = (refl, inr (verdict_told is))
-  full_next (No load) is = (refl, inr (verdict_told is))
-  full_next Full is = (refl, inr (verdict_told is))
+  full_next (Yes load) is = (refl, inr (verdict_told s larger upto is))
+  full_next (No load) is = (refl, inr (verdict_told s larger upto is))
+  full_next Full is = (refl, inr (verdict_told s larger upto is))
 
   next_alike : Alike (next_after s (verdict_now s)) (next_after Other (verdict_now Other))
-  next_alike = by_verdicts next_after (λ load. (refl, inl refl)) (λ load. (refl, now_told)) full_next
+  next_alike = by_verdicts next_after (λ load. (refl, inl refl)) (λ load. (refl, now_told s larger upto)) full_next
 
   full_check : (v : Verdict) → verdict_now s ≡ Full → Alike (check_after s Full) (check_after Other v)
-  full_check (Yes load) is = (refl, inr (verdict_told is))
-  full_check (No load) is = (refl, inr (verdict_told is))
-  full_check Full is = (refl, inr (verdict_told is))
+  full_check (Yes load) is = (refl, inr (verdict_told s larger upto is))
+  full_check (No load) is = (refl, inr (verdict_told s larger upto is))
+  full_check Full is = (refl, inr (verdict_told s larger upto is))
 
   check_alike : Alike (check_after s (verdict_now s)) (check_after Other (verdict_now Other))
-  check_alike = by_verdicts check_after (λ load. (refl, now_told)) (λ load. (refl, inl refl)) full_check
+  check_alike = by_verdicts check_after (λ load. (refl, now_told s larger upto)) (λ load. (refl, inl refl)) full_check
 
   full_blame : (v : Verdict) → verdict_now s ≡ Full → Alike (blame_after s Full) (blame_after Other v)
-  full_blame (Yes load) is = (refl, inr (verdict_told is))
-  full_blame (No load) is = (refl, inr (verdict_told is))
-  full_blame Full is = (refl, inr (verdict_told is))
+  full_blame (Yes load) is = (refl, inr (verdict_told s larger upto is))
+  full_blame (No load) is = (refl, inr (verdict_told s larger upto is))
+  full_blame Full is = (refl, inr (verdict_told s larger upto is))
 
   blamed_alike : (one two : Option (List ℕ)) → SameIfSome one two → (blame_line larger two ≡ blame_line s.cap one) ⊎ (blame_line s.cap one ≡ full_line s.cap)
   blamed_alike one two (inl none) = inr (ap (blame_line s.cap) none)
@@ -275,7 +166,7 @@ module _ (s : Following) (larger : ℕ) (upto : s.cap ≤ larger) where
   blamed_alike (Some ids) two (inr same) = inl (ap (blame_line larger) same)
 
   blame_alike : Alike (blame_after s (verdict_now s)) (blame_after Other (verdict_now Other))
-  blame_alike = by_verdicts blame_after (λ load. (refl, now_told)) (λ load. (refl, found)) full_blame
+  blame_alike = by_verdicts blame_after (λ load. (refl, now_told s larger upto)) (λ load. (refl, found)) full_blame
     where
       found : (blame_line larger (ids_to_blame s.network s.history s.fresh larger) ≡ blame_line s.cap (ids_to_blame s.network s.history s.fresh s.cap))
           ⊎ (blame_line s.cap (ids_to_blame s.network s.history s.fresh s.cap) ≡ full_line s.cap)
@@ -288,9 +179,9 @@ module _ (s : Following) (larger : ℕ) (upto : s.cap ≤ larger) where
           (left_alike one two (λ n. said_alike s.cap larger upto (lowered (rest (with_base s.network n) s.history s.fresh))) ids s.network.base))
 
   full_wait : (x : ℕ) (v : Verdict) → verdict_now s ≡ Full → Alike (by_after s x Full) (by_after Other x v)
-  full_wait x (Yes load) is = (refl, inr (verdict_told is))
-  full_wait x (No load) is = (refl, inr (verdict_told is))
-  full_wait x Full is = (refl, inr (verdict_told is))
+  full_wait x (Yes load) is = (refl, inr (verdict_told s larger upto is))
+  full_wait x (No load) is = (refl, inr (verdict_told s larger upto is))
+  full_wait x Full is = (refl, inr (verdict_told s larger upto is))
 
   until_alike : (x : ℕ) (one two : Option ℕ) → SameIfSome one two → (until_text Other x two ≡ until_text s x one) ⊎ (until_text s x one ≡ full_line s.cap)
   until_alike x one two (inl none) = inr (ap (until_text s x) none)
@@ -298,7 +189,7 @@ module _ (s : Following) (larger : ℕ) (upto : s.cap ≤ larger) where
   until_alike x (Some t) two (inr same) = inl (ap (until_text Other x) same)
 
   wait_alike : (x : ℕ) → Alike (by_after s x (verdict_now s)) (by_after Other x (verdict_now Other))
-  wait_alike x = by_verdicts (λ t. by_after t x) (λ load. (refl, found)) (λ load. (refl, now_told)) (full_wait x)
+  wait_alike x = by_verdicts (λ t. by_after t x) (λ load. (refl, found)) (λ load. (refl, now_told s larger upto)) (full_wait x)
     where
       found : (until_text Other x (waits_until s.network s.history s.fresh x larger) ≡ until_text s x (waits_until s.network s.history s.fresh x s.cap))
           ⊎ (until_text s x (waits_until s.network s.history s.fresh x s.cap) ≡ full_line s.cap)
@@ -325,18 +216,22 @@ module _ (s : Following) (larger : ℕ) (upto : s.cap ≤ larger) where
   deadline_alike deadline true = (refl, inl refl)
   deadline_alike deadline false = replan_alike (with_due (edited_network s) deadline) (line (codes "deadline " ++ decimal deadline))
 
-  pub line_alike : (o : Option Follow) → Alike (on_line s o) (on_line Other o)
+  follow_alike : (line : Follow) → Alike (on_follow s line) (on_follow Other line)
+  follow_alike (done_at t given) = did_alike t given
+  follow_alike (came_at t p v) = fact_alike (told_refusal s.network s.history t p) (with_told s.history t p v)
+  follow_alike (now_at t) = fact_alike (now_refusal s.history t) (at_now s.history t)
+  follow_alike (awaited_at t p) = fact_alike (expected_refusal s.network s.history t p) (with_expected s.history t p)
+  follow_alike (edits edit) = plan_alike edit
+  follow_alike (ends_by deadline) = deadline_alike deadline (nat_lt most_deadline deadline)
+  follow_alike asks_next = next_alike
+  follow_alike (asks_by name) = by_alike name (number_of s.names name)
+  follow_alike asks_blame = blame_alike
+  follow_alike asks_rest = (refl, (refl, refl))
+
+  pub line_alike : (o : Option Spoken) → Alike (on_line s o) (on_line Other o)
   line_alike None = (refl, inl refl)
-  line_alike (Some (done_at t given)) = did_alike t given
-  line_alike (Some (came_at t p v)) = fact_alike (told_refusal s.network s.history t p) (with_told s.history t p v)
-  line_alike (Some (now_at t)) = fact_alike (now_refusal s.history t) (at_now s.history t)
-  line_alike (Some (awaited_at t p)) = fact_alike (expected_refusal s.network s.history t p) (with_expected s.history t p)
-  line_alike (Some (edits edit)) = plan_alike edit
-  line_alike (Some (ends_by deadline)) = deadline_alike deadline (nat_lt most_deadline deadline)
-  line_alike (Some asks_next) = next_alike
-  line_alike (Some (asks_by name)) = by_alike name (number_of s.names name)
-  line_alike (Some asks_blame) = blame_alike
-  line_alike (Some asks_rest) = (refl, (refl, refl))
+  line_alike (Some (of_line line)) = follow_alike line
+  line_alike (Some (of_question question)) = (refl, answers_alike s larger upto question)
 
 -- ---- turns
 
@@ -375,8 +270,8 @@ pub caps_lead : (s g : Following) (larger k : ℕ) (lines : List (List ℕ)) →
 caps_lead s g larger k [] sound upto is = (ap (λ x. Some (with_cap x larger)) (same_Some s g is), tt)
 caps_lead s g larger k (first ∷ lines) sound upto is =
     let l = first_leads follow_turn s g k first lines is in
-    let one = turn_alike s.cap larger l.text l.next (hear s (follow_read first)) (hear (with_cap s larger) (follow_read first))
-    (line_alike (counted s) larger upto (follow_read first)) l.answer in
+    let one = turn_alike s.cap larger l.text l.next (hear s (spoken_read first)) (hear (with_cap s larger) (spoken_read first))
+    (line_alike (counted s) larger upto (spoken_read first)) l.answer in
     let cap_is : l.next.cap ≡ s.cap = (turn_keeps canonical s l.next first l.text sound l.answer).cap in
     let rest = caps_lead l.next g larger (k + 1) lines (next_sound canonical s l.next first l.text sound l.answer) (subst (λ c. c ≤ larger) (sym cap_is) upto) l.rest in (
       state_more follow_turn (with_cap s larger) k first lines l.short one.said (with_cap l.next larger) one.turn ∙ rest.0,

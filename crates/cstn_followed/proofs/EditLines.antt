@@ -26,10 +26,12 @@ use Rattle.cstn_save.specs.Canonical.{canonical}
 use Rattle.cstn_follow.specs.Following.{Following, Heard, says, saves, verdict_now, verdict_within, on_left_verdict, follows}
 use Rattle.cstn_follow.specs.PlanLines.{edited_network, replanned, on_refusal, on_edit, on_add, on_deadline}
 use Rattle.cstn_follow.specs.Replans.{with_due}
-use Rattle.cstn_follow.specs.Hearing.{on_other, on_line, counted, hear}
+use Rattle.cstn_follow.specs.Asking.{Spoken, spoken_read}
+use Rattle.cstn_follow.specs.Hearing.{on_other, on_follow, counted, hear}
 use Rattle.cstn_follow.specs.Recorded.{IsRecorded}
 use Rattle.cstn_follow.specs.Turns.{heard_by}
-use Rattle.cstn_follow.proofs.States.{IsSound, next_of, next_keeps, check_keeps, blame_keeps, by_keeps, next_sound}
+use Rattle.cstn_follow.proofs.FurtherLines.{next_of, line_spoken, others_keep}
+use Rattle.cstn_follow.proofs.States.{IsSound, next_keeps, check_keeps, blame_keeps, by_keeps, next_sound}
 use Rattle.cstn_follow.proofs.Points.{turn_keeps}
 use Rattle.cstn_followed.specs.Sessions.{IsReached, follow_turn}
 use Rattle.cstn_followed.specs.Answers.{Accepts}
@@ -92,7 +94,7 @@ module _ (s : Following) where
   deadline_says deadline false =
       follows_says (ends_by deadline) (replanned s (with_due (edited_network s) deadline)) (line (codes "deadline " ++ decimal deadline)) (refl, refl)
 
-  line_says : (edit : Follow) → IsEditLine edit → Says edit (on_line s (Some edit))
+  line_says : (edit : Follow) → IsEditLine edit → Says edit (on_follow s edit)
   line_says (edits (added from to most a)) is = add_says from to most a
   line_says (edits (removed id)) is = change_says (removed id) (removes id) refl
   line_says (edits (changed id most)) is = change_says (changed id most) (revalues id most) refl
@@ -121,8 +123,8 @@ turn_says s edit (saves m names next) never = absurd never
 pub edit_answered : (s next : Following) (bytes text : List ℕ) (edit : Follow) → follow_read bytes ≡ Some edit → IsEditLine edit
     → follow_turn s bytes ≡ more text next → IsRefusedBy s text next ⊎ Edits s edit text next
 edit_answered s next bytes text edit reads is answered =
-    subst (TurnSays s edit) (ap (λ (o : Option Follow). heard_by canonical (hear s o)) (sym reads) ∙ answered)
-    (turn_says s edit (hear s (Some edit)) (line_says (counted s) edit is))
+    subst (TurnSays s edit) (ap (λ (o : Option Spoken). heard_by canonical (hear s o)) (sym (line_spoken bytes edit reads)) ∙ answered)
+    (turn_says s edit (on_follow (counted s) edit) (line_says (counted s) edit is))
 
 -- ---- a line that is accepted
 
@@ -186,15 +188,19 @@ heard_leads s (says text next) same = same
 heard_leads s (saves m names next) same = same
 
 -- a question changes nothing
-kept_by : (s next : Following) (bytes text : List ℕ) (o : Option Follow) → follow_read bytes ≡ o → next_of (hear s o) ≡ counted s
+kept_by : (s next : Following) (bytes text : List ℕ) → next_of (hear s (spoken_read bytes)) ≡ counted s
     → follow_turn s bytes ≡ more text next → next ≡ counted s
-kept_by s next bytes text o reads same answered =
-    subst (TurnLeads (counted s)) (ap (λ (q : Option Follow). heard_by canonical (hear s q)) (sym reads) ∙ answered) (heard_leads (counted s) (hear s o) same)
+kept_by s next bytes text same answered = subst (TurnLeads (counted s)) answered (heard_leads (counted s) (hear s (spoken_read bytes)) same)
+
+kept_by_line : (s next : Following) (bytes text : List ℕ) (line : Follow) → follow_read bytes ≡ Some line → next_of (on_follow (counted s) line) ≡ counted s
+    → follow_turn s bytes ≡ more text next → next ≡ counted s
+kept_by_line s next bytes text line reads same answered =
+    kept_by s next bytes text (ap (λ (o : Option Spoken). next_of (hear s o)) (line_spoken bytes line reads) ∙ same) answered
 
 pub line_told : (s next : Following) (bytes text : List ℕ) → IsSound s → (o : Option Follow) → follow_read bytes ≡ o → follow_turn s bytes ≡ more text next
     → is_refusal text ≡ false → IsTold s next o
 line_told s next bytes text sound None reads answered fine =
-    nothing_told s next None refl refl (kept_by s next bytes text None reads refl answered)
+    nothing_told s next None refl refl (kept_by s next bytes text (others_keep (counted s) bytes reads) answered)
 line_told s next bytes text sound (Some (done_at t given)) reads answered fine =
     fact_told s next (done_at t given) text refl (λ h is. is) fine (fact_accepted s next bytes text (done_at t given) sound reads tt answered)
 line_told s next bytes text sound (Some (came_at t p value)) reads answered fine =
@@ -211,18 +217,18 @@ line_told s next bytes text sound (Some (edits (changed id most))) reads answere
     edit_told s next (edits (changed id most)) text tt (λ h is. is) fine (edit_answered s next bytes text (edits (changed id most)) reads tt answered)
 line_told s next bytes text sound (Some (edits asked)) reads answered fine =
     nothing_told s next (Some (edits asked)) refl refl
-    (kept_by s next bytes text (Some (edits asked)) reads (check_keeps (counted s) (verdict_now s)) answered)
+    (kept_by_line s next bytes text (edits asked) reads (check_keeps (counted s) (verdict_now s)) answered)
 line_told s next bytes text sound (Some (ends_by deadline)) reads answered fine =
     edit_told s next (ends_by deadline) text tt (λ h is. is) fine (edit_answered s next bytes text (ends_by deadline) reads tt answered)
 line_told s next bytes text sound (Some asks_next) reads answered fine =
-    nothing_told s next (Some asks_next) refl refl (kept_by s next bytes text (Some asks_next) reads (next_keeps (counted s) (verdict_now s)) answered)
+    nothing_told s next (Some asks_next) refl refl (kept_by_line s next bytes text asks_next reads (next_keeps (counted s) (verdict_now s)) answered)
 line_told s next bytes text sound (Some (asks_by name)) reads answered fine =
     nothing_told s next (Some (asks_by name)) refl refl
-    (kept_by s next bytes text (Some (asks_by name)) reads (by_keeps (counted s) name (number_of s.names name)) answered)
+    (kept_by_line s next bytes text (asks_by name) reads (by_keeps (counted s) name (number_of s.names name)) answered)
 line_told s next bytes text sound (Some asks_blame) reads answered fine =
-    nothing_told s next (Some asks_blame) refl refl (kept_by s next bytes text (Some asks_blame) reads (blame_keeps (counted s) (verdict_now s)) answered)
+    nothing_told s next (Some asks_blame) refl refl (kept_by_line s next bytes text asks_blame reads (blame_keeps (counted s) (verdict_now s)) answered)
 line_told s next bytes text sound (Some asks_rest) reads answered fine =
-    nothing_told s next (Some asks_rest) refl refl (kept_by s next bytes text (Some asks_rest) reads refl answered)
+    nothing_told s next (Some asks_rest) refl refl (kept_by_line s next bytes text asks_rest reads refl answered)
 
 -- ---- line after line
 

@@ -36,7 +36,8 @@ use Rattle.cstn_followed.specs.Journal.{is_refusal}
 use Rattle.cstn_followed.specs.Order.{TellsPast}
 use Rattle.cstn_followed.specs.End.{is_coming, is_unheard, count_below, count_left, IsTurn, AreTurns}
 use Rattle.cstn_followed.proofs.Verdicts.{reached_sound, states_true}
-use Rattle.cstn_followed.proofs.Questions.{nothing_left, somewhere, all_false}
+use Rattle.cstn_followed.proofs.Questions.{nothing_left}
+use Rattle.cstn_follow.proofs.AllDone.{somewhere, all_false}
 use Rattle.cstn_followed.proofs.Refusals.{refusal_stays}
 use Rattle.cstn_followed.proofs.GoingOn.{one_goes}
 use Rattle.cstn_followed.proofs.Ordered.{Advances, advanced}

@@ -28,7 +28,8 @@ use Rattle.cstn_reply.specs.Texts.{line, full_line}
 use Rattle.cstn_reply.specs.Reached.{state_after}
 use Rattle.cstn_follow.specs.Following.{Following, Heard, says, saves, begun, verdict_now, verdict_within, on_left_verdict, verdict_line}
 use Rattle.cstn_follow.specs.FactLines.{records, refuses, unless_refused, all_done, on_result, on_known, on_did, nodes_of, unknown_of, on_fact, on_now, on_saw}
-use Rattle.cstn_follow.specs.Hearing.{on_line, counted, hear}
+use Rattle.cstn_follow.specs.Asking.{spoken_read}
+use Rattle.cstn_follow.specs.Hearing.{on_follow, counted, hear}
 use Rattle.cstn_follow.specs.Progress.{HasRoomLeft, IsQuietUpto}
 use Rattle.cstn_follow.proofs.Going.{least_table, goes_on}
 use Rattle.cstn_follow.proofs.GoesOn.{left_says, verdict_right}
@@ -37,6 +38,7 @@ use Rattle.cstn_follow.specs.Turns.{heard_by}
 use Rattle.cstn_followed.specs.Plans.{KeepsToNext, KeepToNext, AreNamed, IsYesLine, KeepsGoing, KeepGoing}
 use Rattle.cstn_followed.specs.Sessions.{follow_turn}
 use Rattle.cstn_follow.proofs.RecordedFacts.{fact_refusal, undone_here, same_history}
+use Rattle.cstn_follow.proofs.FurtherLines.{line_spoken}
 use Rattle.cstn_follow.proofs.States.{IsSound, counted_sound, next_sound, lines_sound, begun_sound}
 
 -- ---- time-points that a table has at a moment are done at it one after the other
@@ -152,19 +154,18 @@ module _ (s : Following) (sound : IsSound s) (can : Can s.network s.history) whe
           (room, inr (inl (record { moment = t; prop = p; value = v; quiet = quiet; accepted = none; recorded = refl }))))
       by_refusal (Some e) some = refuses_fact e
 
-line_goes : (s : Following) (o : Option Follow) → IsSound s → Can s.network s.history → ((l : Follow) → o ≡ Some l → IsFollow l) → KeepsToNext s o
-    → Answer s (on_line s o)
-line_goes s None sound can is keeps = absurd keeps
-line_goes s (Some (done_at t given)) sound can is keeps = did_goes s sound can t given keeps.0 keeps.1
-line_goes s (Some (came_at t p v)) sound can is keeps = saw_goes s sound can t (record { index = p; in_range = (is (came_at t p v) refl).1 }) v keeps
-line_goes s (Some (now_at t)) sound can is keeps = now_goes s sound can t keeps
-line_goes s (Some (awaited_at t p)) sound can is keeps = absurd keeps
-line_goes s (Some (edits edit)) sound can is keeps = absurd keeps
-line_goes s (Some (ends_by deadline)) sound can is keeps = absurd keeps
-line_goes s (Some asks_next) sound can is keeps = absurd keeps
-line_goes s (Some (asks_by name)) sound can is keeps = absurd keeps
-line_goes s (Some asks_blame) sound can is keeps = absurd keeps
-line_goes s (Some asks_rest) sound can is keeps = absurd keeps
+line_goes : (s : Following) (line : Follow) → IsSound s → Can s.network s.history → IsFollow line → KeepsToNext s (Some line)
+    → Answer s (on_follow s line)
+line_goes s (done_at t given) sound can is keeps = did_goes s sound can t given keeps.0 keeps.1
+line_goes s (came_at t p v) sound can is keeps = saw_goes s sound can t (record { index = p; in_range = is.1 }) v keeps
+line_goes s (now_at t) sound can is keeps = now_goes s sound can t keeps
+line_goes s (awaited_at t p) sound can is keeps = absurd keeps
+line_goes s (edits edit) sound can is keeps = absurd keeps
+line_goes s (ends_by deadline) sound can is keeps = absurd keeps
+line_goes s asks_next sound can is keeps = absurd keeps
+line_goes s (asks_by name) sound can is keeps = absurd keeps
+line_goes s asks_blame sound can is keeps = absurd keeps
+line_goes s asks_rest sound can is keeps = absurd keeps
 
 -- the count of lines makes no difference to what is next
 counted_keeps : (s : Following) (o : Option Follow) → KeepsToNext s o → KeepsToNext (counted s) o
@@ -180,15 +181,19 @@ counted_keeps s (Some (asks_by name)) keeps = absurd keeps
 counted_keeps s (Some asks_blame) keeps = absurd keeps
 counted_keeps s (Some asks_rest) keeps = absurd keeps
 
-turn_goes : (s : Following) (bytes : List ℕ) (heard : Heard) → hear s (follow_read bytes) ≡ heard → Answer (counted s) heard
+turn_goes : (s : Following) (bytes : List ℕ) (heard : Heard) → hear s (spoken_read bytes) ≡ heard → Answer (counted s) heard
     → (next : Following) × KeepsGoing s bytes next
 turn_goes s bytes (says text next) is answer = (next, record { text = text; answer = ap (heard_by canonical) is; said = answer.0; can = answer.1 })
 turn_goes s bytes (saves m names next) is answer = absurd answer
 
 pub one_goes : (s : Following) (bytes : List ℕ) → IsSound s → Can s.network s.history → KeepsToNext s (follow_read bytes)
     → (next : Following) × KeepsGoing s bytes next
-one_goes s bytes sound can keeps = turn_goes s bytes (hear s (follow_read bytes)) refl
-    (line_goes (counted s) (follow_read bytes) (counted_sound s sound) can (follow_is bytes) (counted_keeps s (follow_read bytes) keeps))
+one_goes s bytes sound can keeps = by_line (follow_read bytes) refl keeps
+  where
+    by_line : (o : Option Follow) → follow_read bytes ≡ o → KeepsToNext s o → (next : Following) × KeepsGoing s bytes next
+    by_line None reads keeps = absurd keeps
+    by_line (Some line) reads keeps = turn_goes s bytes (on_follow (counted s) line) (ap (hear s) (line_spoken bytes line reads))
+        (line_goes (counted s) line (counted_sound s sound) can (follow_is bytes line reads) (counted_keeps s (Some line) keeps))
 
 -- line after line
 all_go : (s : Following) (lines : List (List ℕ)) → IsSound s → Can s.network s.history → KeepToNext s lines → KeepGoing s lines

@@ -5,12 +5,12 @@ use Rattle.std.specs.List.{filter}
 use Rattle.std.proofs.lemmas.Bool.{or_from, or_parts, false≢true}
 use Rattle.std.proofs.lemmas.Option.{same_Some}
 use Rattle.cstn_lines.specs.Pieces.{is_past}
-use Rattle.cstn_lines.specs.FollowLines.{follow_read}
 use Rattle.cstn_reply.specs.Sessions.{more, on_turn}
 use Rattle.cstn_reply.specs.Reached.{state_after}
 use Rattle.cstn_reply.proofs.Sessions.{FirstLeads, first_leads, state_more}
 use Rattle.cstn_save.specs.Canonical.{canonical}
 use Rattle.cstn_follow.specs.Following.{Following, Heard, says, saves}
+use Rattle.cstn_follow.specs.Asking.{spoken_read}
 use Rattle.cstn_follow.specs.Hearing.{counted, on_line}
 use Rattle.cstn_follow.specs.Turns.{heard_by}
 use Rattle.cstn_follow.proofs.States.{IsSound, next_sound}
@@ -51,13 +51,13 @@ module _ (s next : Following) (n : ℕ) (bytes text : List ℕ) (answered : foll
   never (saves m names later) is refused = refused
 
   pub same_turn : follow_turn (with_count s n) bytes ≡ more text (with_count next count')
-  same_turn = by_same (line_same (counted s) count' (follow_read bytes))
+  same_turn = by_same (line_same (counted s) count' (spoken_read bytes))
     where
-      by_same : Refuses (on_line (counted s) (follow_read bytes))
-          ⊎ (on_line (with_count (counted s) count') (follow_read bytes) ≡ recounted count' (on_line (counted s) (follow_read bytes)))
+      by_same : Refuses (on_line (counted s) (spoken_read bytes))
+          ⊎ (on_line (with_count (counted s) count') (spoken_read bytes) ≡ recounted count' (on_line (counted s) (spoken_read bytes)))
           → follow_turn (with_count s n) bytes ≡ more text (with_count next count')
-      by_same (inl refused) = absurd (never (on_line (counted s) (follow_read bytes)) answered refused)
-      by_same (inr same) = ap (heard_by canonical) same ∙ by_heard (on_line (counted s) (follow_read bytes)) answered
+      by_same (inl refused) = absurd (never (on_line (counted s) (spoken_read bytes)) answered refused)
+      by_same (inr same) = ap (heard_by canonical) same ∙ by_heard (on_line (counted s) (spoken_read bytes)) answered
 
 -- ---- line after line
 

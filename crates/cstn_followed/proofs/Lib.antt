@@ -1,6 +1,7 @@
 -- What is answered in the states of a session.
 pub mod Verdicts
 pub mod Questions
+pub mod FurtherQuestions
 pub mod Refusals
 -- Doing what is named.
 pub mod GoingOn
@@ -10,6 +11,8 @@ pub mod Ended
 -- The journal, and larger caps.
 pub mod Recounted
 pub mod Journals
+pub mod Alike
+pub mod FurtherAlike
 pub mod Capped
 -- The order of lines, and how a session comes to an end.
 pub mod Ordered

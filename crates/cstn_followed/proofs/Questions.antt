@@ -1,5 +1,5 @@
 -- What is answered to the questions of a session that follows is true of what has happened.
-use Rattle.std.proofs.Common.{ℕ, zero, suc, ◌≡◌, ◌-◌, ◌<◌, Bool, true, false, not, ◌&&◌, List, [], length, Option, Some, None, arith, refl, sym, subst, ap, ◌∙◌}
+use Rattle.std.proofs.Common.{ℕ, zero, suc, ◌≡◌, ◌<◌, Bool, true, false, not, ◌&&◌, List, [], length, Option, Some, None, arith, refl, sym, subst, ap, ◌∙◌}
 use Rattle.std.proofs.Common.{inl, inr}
 use Rattle.std.specs.Prelude.{◌↔◌, if◌then◌else◌, bytes_eq}
 use Rattle.std.specs.Option.{is_some}
@@ -40,7 +40,8 @@ use Rattle.cstn_history.specs.Facts.{Undecided}
 use Rattle.cstn_follow.specs.Following.{Following, Heard, says, saves, left_now, verdict_now, verdict_within, verdict_line, too_many, is_open, any_below}
 use Rattle.cstn_follow.specs.Following.{is_any_open}
 use Rattle.cstn_follow.specs.FactLines.{refused_fact}
-use Rattle.cstn_follow.specs.Hearing.{counted, hear}
+use Rattle.cstn_follow.specs.Asking.{Spoken}
+use Rattle.cstn_follow.specs.Hearing.{on_follow, counted, hear}
 use Rattle.cstn_follow.specs.Questions.{next_at, next_after}
 use Rattle.cstn_follow.specs.Searches.{has_place, by_refusal, until_text, by_after, by_unless, by_number, blame_line, blame_after}
 use Rattle.cstn_check.proofs.Halves.{none_found}
@@ -48,6 +49,7 @@ use Rattle.cstn_check.proofs.Leaving.{found_own, found_none}
 use Rattle.cstn_check.proofs.Said.{said_full}
 use Rattle.cstn_follow.specs.Waiting.{HasRoomToWait, rest_until, tried_until, waits_until}
 use Rattle.cstn_follow.specs.Blame.{network_alone, said_by_network, ids_to_blame}
+use Rattle.cstn_follow.proofs.AllDone.{none_open, all_closed}
 use Rattle.cstn_follow.proofs.Blamed.{found_stops, found_needed, found_ascend}
 use Rattle.cstn_follow.proofs.GoesOn.{left_says, left_labelled, verdict_right}
 use Rattle.cstn_follow.proofs.Until.{last_found}
@@ -55,6 +57,7 @@ use Rattle.cstn_save.specs.Canonical.{canonical}
 use Rattle.cstn_follow.specs.Turns.{heard_by}
 use Rattle.cstn_followed.specs.Sessions.{IsReached, follow_turn}
 use Rattle.cstn_followed.specs.Answers.{AnswersNext, AnswersWait, UnlessRefused, AnswersBy, AnswersBlame}
+use Rattle.cstn_follow.proofs.FurtherLines.{line_spoken}
 use Rattle.cstn_follow.proofs.States.{IsSound}
 use Rattle.cstn_followed.proofs.Verdicts.{reached_sound}
 
@@ -197,66 +200,6 @@ blame_tells s (No load) sound is = (refl, by_ids (ids_to_blame s.network s.histo
 
 -- ---- nothing is left
 
-any_false : (test : ℕ → Bool) (n x : ℕ) → any_below test n ≡ false → x < n → test x ≡ false
-any_false test zero x none inside = absurd (omega arith)
-any_false test (suc n) x none inside =
-    let both = or_parts (any_below test n) (test n) none in
-    elim (cases_eq x n) [
-      | inl same ↦ subst (λ k. test k ≡ false) (sym same) both.1
-      | inr other ↦ any_false test n x both.0 (omega arith)
-    ]
-
-pub all_false : (test : ℕ → Bool) (n : ℕ) → ((x : ℕ) → x < n → test x ≡ false) → any_below test n ≡ false
-all_false test zero each = refl
-all_false test (suc n) each = or_from (any_below test n) (test n) (all_false test n (λ x inside. each x (omega arith))) (each n (omega arith))
-
--- what is told allows a label only where it holds in some scenario that agrees
-pub somewhere : (m : Labelled) (h : History) (x : ℕ) → IsLabelled m → IsHistory m h → x < count m.base → allows h (completed_label m x) ≡ true
-    → (s : Scenario) × AgreesWith h s × IsExecuted m s x
-somewhere m h x good known here open_ =
-    let a = completed_label m x in
-    let made = made_true a (λ p. false) in (
-      as_told h made,
-      told_agrees h made,
-      holds_back h a made (allows_back m h good known a open_) (λ p. still (h.told p) (a p) (made p) (made_holds a (λ q. false) (good.completed_plain x here) p)),
-    )
-  where
-    still : (o : Option Bool) (mark : Mark) (v : Bool) → MarkFits v mark → MarkFits v (mark_left o mark)
-    still None mark v fits = fits
-    still (Some w) mark v fits = tt
-
-module _ (m : Labelled) (h : History) (good : IsLabelled m) (known : IsHistory m h) where
-  open_by : (x : ℕ) (d : Option ℕ) → h.done x ≡ d → is_open m h x ≡ (if is_some d then is_some (sight_left m h x) else allows h (completed_label m x))
-  open_by x d is = ap (λ o. if is_some o then is_some (sight_left m h x) else allows h (completed_label m x)) is
-
-  none_open : any_below (is_open m h) (count m.base) ≡ false → IsAllDone m h
-  none_open none = record {
-    steps = λ s x agrees here undone executed.
-        both_ways (allows h (completed_label m x)) (sym (open_by x None undone) ∙ any_false (is_open m h) (count m.base) x none here)
-        (allows_true h (completed_label m x) (holds_allows h (completed_label m x) s agrees executed));
-    outcomes = λ p t o untold.
-        both_ways (is_some (sight_left m h o.observer))
-        (sym (open_by o.observer (Some t) o.done) ∙ any_false (is_open m h) (count m.base) o.observer none (known.inside o.observer t o.done))
-        (ap (λ (q : Option ℕ). is_some q) (sees_left m h o.observer p o.observes untold));
-  }
-
-  closed_by : IsAllDone m h → (x : ℕ) → x < count m.base → (d : Option ℕ) → h.done x ≡ d → is_open m h x ≡ false
-  closed_by over x here None undone = open_by x None undone ∙ by_allowed (allows h (completed_label m x)) refl
-    where
-      by_allowed : (b : Bool) → allows h (completed_label m x) ≡ b → b ≡ false
-      by_allowed true open_ = let e = somewhere m h x good known here open_ in absurd (over.steps e.0 x e.1 here undone e.2)
-      by_allowed false closed = refl
-  closed_by over x here (Some t) done = open_by x (Some t) done ∙ by_sight (sight_left m h x) refl
-    where
-      by_sight : (o : Option ℕ) → sight_left m h x ≡ o → is_some o ≡ false
-      by_sight None none = refl
-      by_sight (Some p) sees =
-          let back = sees_back m h x p sees in
-          absurd (over.outcomes p t (record { observer = x; observes = back.0; done = done }) back.1)
-
-  all_closed : IsAllDone m h → any_below (is_open m h) (count m.base) ≡ false
-  all_closed over = all_false (is_open m h) (count m.base) (λ x here. closed_by over x here (h.done x) refl)
-
 pub nothing_left : (s : Following) → IsReached s → (is_any_open s ≡ false) ↔ IsAllDone s.network s.history
 nothing_left s reached =
     let sound = reached_sound s reached in (
@@ -267,21 +210,21 @@ nothing_left s reached =
 -- ---- the answers to lines
 
 -- what a turn says to a question
-abbrev TurnTells : Following → (List ℕ → Type 0) → Turn Following → Type 0
+abbrev pub TurnTells : Following → (List ℕ → Type 0) → Turn Following → Type 0
 TurnTells s P (more text next) = (next ≡ s) × P text
 TurnTells s P (last said) = ⊥
 TurnTells s P wrong = ⊥
 
-turn_tells : (s : Following) (P : List ℕ → Type 0) (heard : Heard) → Tells s P heard → TurnTells s P (heard_by canonical heard)
+pub turn_tells : (s : Following) (P : List ℕ → Type 0) (heard : Heard) → Tells s P heard → TurnTells s P (heard_by canonical heard)
 turn_tells s P (says text next) tells = tells
 turn_tells s P (saves m names next) tells = absurd tells
 
 told : (s t : Following) (bytes text : List ℕ) (question : Follow) (P : List ℕ → Type 0) → follow_read bytes ≡ Some question
     → follow_turn s bytes ≡ more text t
-    → Tells (counted s) P (hear s (Some question)) → (t ≡ counted s) × P text
+    → Tells (counted s) P (on_follow (counted s) question) → (t ≡ counted s) × P text
 told s t bytes text question P reads answered tells =
-    subst (TurnTells (counted s) P) (ap (λ (o : Option Follow). heard_by canonical (hear s o)) (sym reads) ∙ answered)
-    (turn_tells (counted s) P (hear s (Some question)) tells)
+    subst (TurnTells (counted s) P) (ap (λ (o : Option Spoken). heard_by canonical (hear s o)) (sym (line_spoken bytes question reads)) ∙ answered)
+    (turn_tells (counted s) P (on_follow (counted s) question) tells)
 
 pub next_answered : (s t : Following) (bytes text : List ℕ) → IsReached s → follow_read bytes ≡ Some asks_next → follow_turn s bytes ≡ more text t
     → (t ≡ counted s) × AnswersNext s (verdict_now s) text

@@ -17,7 +17,9 @@ use Rattle.cstn_follow.specs.FactLines.{on_result, records, refuses, all_done, o
 use Rattle.cstn_follow.specs.PlanLines.{edited_network, replanned, on_refusal, on_edit, on_deadline}
 use Rattle.cstn_follow.specs.Questions.{next_after, check_after}
 use Rattle.cstn_follow.specs.Searches.{by_number, by_unless, by_after, by_refusal, blame_after}
-use Rattle.cstn_follow.specs.Hearing.{on_plan, on_other, on_line}
+use Rattle.cstn_follow.specs.Asking.{Asked, asks_verdict, asks_until, asks_each, asks_late, Spoken, of_line, of_question}
+use Rattle.cstn_follow.specs.Further.{on_asked}
+use Rattle.cstn_follow.specs.Hearing.{on_plan, on_other, on_follow, on_line}
 use Rattle.cstn_followed.specs.Journal.{is_refusal, with_count}
 
 -- the same is said, in a state with this count of lines
@@ -108,15 +110,25 @@ module _ (s : Following) (n : ℕ) where
   deadline_same deadline true = inl refl
   deadline_same deadline false = inr (follows_same (replanned s (with_due (edited_network s) deadline)) (λ v. _))
 
-  pub line_same : (o : Option Follow) → Refuses (on_line s o) ⊎ (on_line Other o ≡ recounted n (on_line s o))
+  follow_same : (line : Follow) → Refuses (on_follow s line) ⊎ (on_follow Other line ≡ recounted n (on_follow s line))
+  follow_same (done_at t given) = inr (did_same t given)
+  follow_same (came_at t p v) = inr (fact_same (told_refusal s.network s.history t p) (with_told s.history t p v))
+  follow_same (now_at t) = inr (fact_same (now_refusal s.history t) (at_now s.history t))
+  follow_same (awaited_at t p) = inr (fact_same (expected_refusal s.network s.history t p) (with_expected s.history t p))
+  follow_same (edits edit) = inr (plan_same edit)
+  follow_same (ends_by deadline) = deadline_same deadline (nat_lt most_deadline deadline)
+  follow_same asks_next = inr (next_same (verdict_now s))
+  follow_same (asks_by name) = inr (by_same name (number_of s.names name))
+  follow_same asks_blame = inr (blame_same (verdict_now s))
+  follow_same asks_rest = inr refl
+
+  asked_same : (question : Asked) → on_asked Other question ≡ recounted n (on_asked s question)
+  asked_same asks_verdict = refl
+  asked_same asks_until = refl
+  asked_same asks_each = refl
+  asked_same (asks_late p) = refl
+
+  pub line_same : (o : Option Spoken) → Refuses (on_line s o) ⊎ (on_line Other o ≡ recounted n (on_line s o))
   line_same None = inl refl
-  line_same (Some (done_at t given)) = inr (did_same t given)
-  line_same (Some (came_at t p v)) = inr (fact_same (told_refusal s.network s.history t p) (with_told s.history t p v))
-  line_same (Some (now_at t)) = inr (fact_same (now_refusal s.history t) (at_now s.history t))
-  line_same (Some (awaited_at t p)) = inr (fact_same (expected_refusal s.network s.history t p) (with_expected s.history t p))
-  line_same (Some (edits edit)) = inr (plan_same edit)
-  line_same (Some (ends_by deadline)) = deadline_same deadline (nat_lt most_deadline deadline)
-  line_same (Some asks_next) = inr (next_same (verdict_now s))
-  line_same (Some (asks_by name)) = inr (by_same name (number_of s.names name))
-  line_same (Some asks_blame) = inr (blame_same (verdict_now s))
-  line_same (Some asks_rest) = inr refl
+  line_same (Some (of_line line)) = follow_same line
+  line_same (Some (of_question question)) = inr (asked_same question)

@@ -10,7 +10,6 @@ use Rattle.cstn_check.specs.declared.verdicts.Verdict.TheVariants.{Yes, No, Full
 use Rattle.cstn_lines.specs.EditLines.{Edit, added, removed, changed, asked}
 use Rattle.cstn_lines.specs.FollowLines.{Follow, follow_read, IsFollow, done_at, came_at, now_at, awaited_at, edits, ends_by, asks_next, asks_by, asks_blame}
 use Rattle.cstn_lines.specs.FollowLines.{asks_rest}
-use Rattle.cstn_lines.proofs.FollowLemmas.{follow_is}
 use Rattle.cstn_reply.specs.Texts.{line}
 use Rattle.cstn_reply.specs.Sessions.{Turn, more, last, wrong}
 use Rattle.cstn_change.specs.Changes.{Change, adds, removes, revalues, Refusal, refusal, after}
@@ -20,13 +19,15 @@ use Rattle.cstn_follow.specs.Following.{Following, Heard, says, saves, verdict_n
 use Rattle.cstn_follow.specs.PlanLines.{edited_network, replanned, on_refusal, on_edit, on_deadline}
 use Rattle.cstn_follow.specs.Questions.{on_next, on_check}
 use Rattle.cstn_follow.specs.Searches.{on_by, on_blame}
-use Rattle.cstn_follow.specs.Hearing.{on_plan, on_other, on_line, counted, hear}
+use Rattle.cstn_follow.specs.Asking.{Spoken, of_line, of_question, IfLine, spoken_read}
+use Rattle.cstn_follow.specs.Hearing.{on_plan, on_other, on_follow, on_line, counted, hear}
 use Rattle.cstn_save.specs.Canonical.{canonical}
 use Rattle.cstn_follow.specs.Recorded.{IsFact}
 use Rattle.cstn_follow.specs.Turns.{heard_by}
 use Rattle.cstn_followed.specs.Sessions.{IsReached, follow_turn}
 use Rattle.cstn_followed.specs.Journal.{is_refusal}
-use Rattle.cstn_follow.proofs.States.{IsSound, next_of, fact_is, next_keeps, check_keeps, blame_keeps, by_keeps, counted_sound}
+use Rattle.cstn_follow.proofs.FurtherLines.{next_of, spoken_is}
+use Rattle.cstn_follow.proofs.States.{IsSound, fact_is, next_keeps, check_keeps, blame_keeps, by_keeps, counted_sound}
 use Rattle.cstn_followed.proofs.Verdicts.{reached_sound}
 
 -- the third byte of a refusal is that of `f`
@@ -93,26 +94,30 @@ module _ (s : Following) where
       follows_stays (replanned s (with_due (edited_network s) deadline)) (λ v. line (codes "deadline " ++ decimal deadline))
       (λ v is. differs 97 refl is)
 
-  fact_stays : (fact : Follow) → IsSound s → IsFact fact → IsFollow fact → StaysRefused s (on_line s (Some fact))
+  fact_stays : (fact : Follow) → IsSound s → IsFact fact → IsFollow fact → StaysRefused s (on_follow s fact)
   fact_stays fact sound = fact_is s sound (λ fact heard. StaysRefused s heard) (λ fact text why refused. refl)
       (λ fact h timely is. follows_stays (record s { history = h }) (verdict_line s.cap) (verdict_third s.cap)) fact
 
-  line_stays : (o : Option Follow) → IsSound s → ((l : Follow) → o ≡ Some l → IsFollow l) → StaysRefused s (on_line s o)
+  follow_stays : (line : Follow) → IsSound s → IsFollow line → StaysRefused s (on_follow s line)
+  follow_stays (done_at t names) sound is = fact_stays (done_at t names) sound tt is
+  follow_stays (came_at t p v) sound is = fact_stays (came_at t p v) sound tt is
+  follow_stays (now_at t) sound is = fact_stays (now_at t) sound tt is
+  follow_stays (awaited_at t p) sound is = fact_stays (awaited_at t p) sound tt is
+  follow_stays (edits edit) sound is = plan_stays edit
+  follow_stays (ends_by deadline) sound is = deadline_stays deadline (nat_lt most_deadline deadline)
+  follow_stays asks_next sound is = stays s (on_next s) (next_keeps s (verdict_now s))
+  follow_stays (asks_by name) sound is = stays s (on_by s name) (by_keeps s name (number_of s.names name))
+  follow_stays asks_blame sound is = stays s (on_blame s) (blame_keeps s (verdict_now s))
+  follow_stays asks_rest sound is = refl
+
+  line_stays : (o : Option Spoken) → IsSound s → IfLine o IsFollow → StaysRefused s (on_line s o)
   line_stays None sound is = λ refused. refl
-  line_stays (Some (done_at t names)) sound is = fact_stays (done_at t names) sound tt (is (done_at t names) refl)
-  line_stays (Some (came_at t p v)) sound is = fact_stays (came_at t p v) sound tt (is (came_at t p v) refl)
-  line_stays (Some (now_at t)) sound is = fact_stays (now_at t) sound tt (is (now_at t) refl)
-  line_stays (Some (awaited_at t p)) sound is = fact_stays (awaited_at t p) sound tt (is (awaited_at t p) refl)
-  line_stays (Some (edits edit)) sound is = plan_stays edit
-  line_stays (Some (ends_by deadline)) sound is = deadline_stays deadline (nat_lt most_deadline deadline)
-  line_stays (Some asks_next) sound is = stays s (on_next s) (next_keeps s (verdict_now s))
-  line_stays (Some (asks_by name)) sound is = stays s (on_by s name) (by_keeps s name (number_of s.names name))
-  line_stays (Some asks_blame) sound is = stays s (on_blame s) (blame_keeps s (verdict_now s))
-  line_stays (Some asks_rest) sound is = refl
+  line_stays (Some (of_line line)) sound is = follow_stays line sound is
+  line_stays (Some (of_question question)) sound is = λ refused. refl
 
 -- what is heard by a sound session
-pub heard_stays : (s : Following) (bytes : List ℕ) → IsSound s → StaysRefused (counted s) (hear s (follow_read bytes))
-heard_stays s bytes sound = line_stays (counted s) (follow_read bytes) (counted_sound s sound) (follow_is bytes)
+pub heard_stays : (s : Following) (bytes : List ℕ) → IsSound s → StaysRefused (counted s) (hear s (spoken_read bytes))
+heard_stays s bytes sound = line_stays (counted s) (spoken_read bytes) (counted_sound s sound) (spoken_is bytes)
 
 -- where the text of a turn is a refusal, the session stays as it is
 abbrev TurnStays : Following → Turn Following → Type 0
@@ -127,7 +132,7 @@ turn_stays s (saves m names next) kept = λ refused. kept
 pub refusal_stays : (s next : Following) (bytes text : List ℕ) → IsSound s → follow_turn s bytes ≡ more text next → is_refusal text ≡ true
     → next ≡ counted s
 refusal_stays s next bytes text sound answered =
-    subst (TurnStays (counted s)) answered (turn_stays (counted s) (hear s (follow_read bytes)) (heard_stays s bytes sound))
+    subst (TurnStays (counted s)) answered (turn_stays (counted s) (hear s (spoken_read bytes)) (heard_stays s bytes sound))
 
 pub refused_stays : (s next : Following) (bytes why : List ℕ) → IsReached s → follow_turn s bytes ≡ more (line (codes "refused " ++ why)) next
     → next ≡ counted s

@@ -9,10 +9,12 @@ use Rattle.cstn_reply.specs.Sessions.{Turn, more, last, wrong}
 use Rattle.cstn_save.specs.Canonical.{canonical}
 use Rattle.cstn_follow.specs.Following.{Following, Heard, says, saves, begun, verdict_now, verdict_within, on_left_verdict, verdict_line}
 use Rattle.cstn_follow.specs.FactLines.{records}
-use Rattle.cstn_follow.specs.Hearing.{on_line, counted, hear}
+use Rattle.cstn_follow.specs.Asking.{Spoken}
+use Rattle.cstn_follow.specs.Hearing.{on_follow, counted, hear}
 use Rattle.cstn_follow.specs.Recorded.{IsFact, IsRecorded}
 use Rattle.cstn_follow.specs.Turns.{IsTrueOf, heard_by}
 use Rattle.cstn_follow.proofs.Edited.{within_is}
+use Rattle.cstn_follow.proofs.FurtherLines.{line_spoken}
 use Rattle.cstn_follow.proofs.States.{IsSound, fact_is, counted_sound, lines_sound, begun_sound, verdict_true}
 use Rattle.cstn_followed.specs.Sessions.{IsReached, follow_turn}
 use Rattle.cstn_followed.specs.Answers.{Accepts}
@@ -53,7 +55,7 @@ records_answer s fact h sound timely recorded = by_verdict (verdict_within next)
           is_true = verdict_true next (verdict_now next) next_sound refl;
         })
 
-line_answer : (s : Following) (fact : Follow) → IsSound s → IsFact fact → IsFollow fact → FactAnswer s fact (on_line (counted s) (Some fact))
+line_answer : (s : Following) (fact : Follow) → IsSound s → IsFact fact → IsFollow fact → FactAnswer s fact (on_follow (counted s) fact)
 line_answer s fact sound =
     fact_is (counted s) (counted_sound s sound) (FactAnswer s) (λ fact text why. inl (refl, why)) (λ fact h timely is. records_answer s fact h sound timely is) fact
 
@@ -71,8 +73,9 @@ turn_answer s fact (saves m names next) answer = absurd answer
 pub fact_accepted : (s next : Following) (bytes text : List ℕ) (fact : Follow) → IsSound s → follow_read bytes ≡ Some fact → IsFact fact
     → follow_turn s bytes ≡ more text next → IsRefusedBy s text next ⊎ Accepts s fact text next
 fact_accepted s next bytes text fact sound reads is answered =
-    let one : FactAnswer s fact (hear s (Some fact)) = line_answer s fact sound is (follow_is bytes fact reads) in
-    subst (TurnAnswer s fact) (ap (λ (o : Option Follow). heard_by canonical (hear s o)) (sym reads) ∙ answered) (turn_answer s fact (hear s (Some fact)) one)
+    let one : FactAnswer s fact (on_follow (counted s) fact) = line_answer s fact sound is (follow_is bytes fact reads) in
+    subst (TurnAnswer s fact) (ap (λ (o : Option Spoken). heard_by canonical (hear s o)) (sym (line_spoken bytes fact reads)) ∙ answered)
+    (turn_answer s fact (on_follow (counted s) fact) one)
 
 pub fact_answered : (s next : Following) (bytes text : List ℕ) (fact : Follow) → IsReached s → follow_read bytes ≡ Some fact → IsFact fact
     → follow_turn s bytes ≡ more text next → IsRefusedBy s text next ⊎ Accepts s fact text next

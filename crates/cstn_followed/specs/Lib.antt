@@ -1,6 +1,7 @@
 -- The states of sessions, and what is answered in them.
 pub mod Sessions
 pub mod Answers
+pub mod FurtherAnswers
 pub mod Plans
 -- What a session shows that is over, and how it comes to an end.
 pub mod Finished

@@ -17,6 +17,7 @@ ghost use Rattle.cstn_reply.specs.Texts.{line, say};
 ghost use Rattle.cstn_reply.specs.declared.output.Outcome.TheVariants.{Good, Bad};
 ghost use Rattle.cstn_reply.specs.Sessions.{more};
 ghost use Rattle.cstn_reply.specs.Reached.{state_after};
+ghost use Rattle.cstn_follow.specs.Asking.{Asked, of_question, spoken_read};
 ghost use Rattle.cstn_follow.specs.Following.{Following, begun, verdict_now, is_any_open, following_ending};
 ghost use Rattle.cstn_follow.specs.Hearing.{counted};
 ghost use Rattle.cstn_follow.specs.PlanLines.{edited_network};
@@ -24,6 +25,7 @@ ghost use Rattle.cstn_follow.specs.Recorded.{IsFact};
 ghost use Rattle.cstn_follow.specs.Turns.{IsTrueOf};
 ghost use Rattle.cstn_followed.specs.Sessions.{IsReached, follow_turn};
 ghost use Rattle.cstn_followed.specs.Answers.{Accepts, AnswersNext, AnswersBy, AnswersBlame};
+ghost use Rattle.cstn_followed.specs.FurtherAnswers.{AnswersAsked};
 ghost use Rattle.cstn_followed.specs.Plans.{IsRefusedBy, KeepToNext, KeepGoing};
 ghost use Rattle.cstn_followed.specs.Finished.{IsCarriedOut, HaveTheSame};
 ghost use Rattle.cstn_followed.specs.Journal.{is_refusal, texts_of, accepted_of, with_cap, AreAccepted, AreSameButCount, AreSameUnlessFull};
@@ -59,6 +61,16 @@ pub fn followed_answers_are_true()
     ensures over { (s : Following) → IsReached s → (is_any_open s ≡ false ↔ IsAllDone s.network s.history) }
     ensures refused { (s next : Following) (bytes why : List ℕ) → IsReached s
         → follow_turn s bytes ≡ more (line (codes "refused " ++ why)) next → next ≡ counted s }
+{}
+
+/// In each state that lines lead a session that follows to, a further question changes nothing but the count of lines, and its answer is
+/// right. `verdict` is answered by the line of the verdict. After yes `until` is answered by the last moment up to which time can pass
+/// with nothing done so that what has happened can go on, or by `done` where nothing is left; `by` without a name by the last moment until
+/// which each time-point can wait that is left to be done. `late` is answered by the last moment at which the outcome can be expected, or
+/// that there is none, also after no.
+pub fn followed_questions_are_answered()
+    ensures { (s t : Following) (bytes text : List ℕ) (question : Asked) → IsReached s → spoken_read bytes ≡ Some (of_question question)
+        → follow_turn s bytes ≡ more text t → (t ≡ counted s) × AnswersAsked s question text }
 {}
 
 /// Where what has happened can go on, as after yes, whoever does what is named when it is named, tells what is awaited before time passes

@@ -5,6 +5,7 @@ mod laws;
 
 pub use laws::{
     edits_change_the_plan_alone, finished_plans_are_carried_out, followed_answers_are_true,
-    followed_plans_end, followed_plans_go_on, followed_verdicts_are_true, journals_lead_back,
-    larger_caps_say_more, order_makes_no_difference,
+    followed_plans_end, followed_plans_go_on, followed_questions_are_answered,
+    followed_verdicts_are_true, journals_lead_back, larger_caps_say_more,
+    order_makes_no_difference,
 };

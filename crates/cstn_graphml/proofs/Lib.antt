@@ -17,4 +17,5 @@ pub mod OfDocuments
 pub mod SomeAnswer
 -- What is answered.
 pub mod Held
+pub mod KeptGraphs
 pub mod Refusing

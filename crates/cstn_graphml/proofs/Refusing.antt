@@ -1,44 +1,37 @@
 -- What a document means, its parts or its refusal, by what was read of it.
-use Rattle.std.proofs.Common.{◌≡◌, ◌≢◌, ℕ, ◌<◌, ◌≤◌, List, ◌∷◌, take, length, map, refl, ap, sym, ◌∙◌, subst, arith, Option, Some, None, Result, Ok, Err, inl, inr}
-use Rattle.std.proofs.lemmas.Bool.{false_from_ne_true, cases_lt}
-use Rattle.std.proofs.lemmas.List.{take_all, length-take, length-map}
-use Rattle.std.proofs.lemmas.List.Elements.{All-take}
+use Rattle.std.proofs.Common.{◌≡◌, ℕ, List, refl, ap, sym, ◌∙◌, subst, Option, Some, None, Result, Ok, Err, inl, inr}
+use Rattle.std.proofs.lemmas.Bool.{false_from_ne_true}
 use Rattle.std.specs.Prelude.{IfOk}
 use Rattle.std.specs.Str.{IsUtf8, is_utf8}
 use Rattle.std.specs.Str.Lossy.{utf8_valid_len}
 use Rattle.std.proofs.lemmas.Str.{IsUtf8-from_is_utf8, is_utf8-from_IsUtf8}
-use Rattle.std.specs.declared.alloc.AllocError.{AllocError}
-use Rattle.cstn_net.specs.Limits.{most_constraints}
 use Rattle.cstn_markup.specs.Tokens.{Token, tokens}
 use Rattle.cstn_net.specs.declared.errors.NetError.{NetError}
-use Rattle.cstn_net.specs.declared.errors.NetError.TheVariants.{TooManyNodes, NoOrigin, TooManyConstraints, DeadlineRange, ValueRange, NotObserved, TwoObservers, NotPlain, ReactionRange, Memory as NoMemory}
-use Rattle.cstn_net.specs.Drafts.{BuilderParts, HasNetFault, IsNetRefusal, IsLowestNetFault, net_number}
-use Rattle.cstn_net.specs.Networks.{Network, IsWellFormed}
+use Rattle.cstn_net.specs.Drafts.{IsNetRefusal}
+use Rattle.cstn_net.specs.Networks.{IsWellFormed}
 use Rattle.cstn_net.specs.Read.{NetworkParts, the_network}
 use Rattle.cstn_lift.specs.declared.errors.LiftError.{LiftError}
-use Rattle.cstn_lift.specs.Labelled.{Labelled}
-use Rattle.cstn_lift.specs.Faults.{HasLiftFault, IsLowestLiftFault}
+use Rattle.cstn_lift.specs.Faults.{HasLiftFault}
 use Rattle.cstn_lift.specs.WellFormed.{IsLabelled}
 use Rattle.cstn_lift.specs.Read.{LabelledParts, the_labelled}
 use Rattle.cstn_element.specs.Results.{Refusal, ◌>>=◌, or_refused, demand}
 use Rattle.cstn_element.specs.Results.Refusal.{not_utf8, no_deadline}
 use Rattle.cstn_element.specs.Contents.{Content, content_of}
-use Rattle.cstn_element.specs.LabelTexts.{IsOfLiterals}
-use Rattle.cstn_graphml.specs.DrawnGraph.{DrawnGraph, DrawnConstraint}
-use Rattle.cstn_graphml.specs.DrawnGraphSeen.{graph_seen, drawn_seen}
-use Rattle.cstn_graphml.specs.DrawnGraphLaws.{IsDrawnGraph, IsDrawnAmong}
-use Rattle.cstn_graphml.specs.Document.{Parts, document, in_document, drawn_parts, parts_of, first_of_two, or_nothing}
+use Rattle.cstn_graphml.specs.DrawnGraph.{DrawnGraph}
+use Rattle.cstn_graphml.specs.DrawnGraphSeen.{graph_seen}
+use Rattle.cstn_graphml.specs.DrawnGraphLaws.{IsDrawnGraph}
+use Rattle.cstn_graphml.specs.Document.{Parts, document, in_document, drawn_parts, parts_of, first_of_two}
 use Rattle.cstn_graphml.specs.Kept.{kept, in_kept_document}
-use Rattle.cstn_graphml.specs.Networks.{IsBuilt, IsUnfit, builder_of, draft_of, labelled_of}
-use Rattle.cstn_graphml.specs.Labels.{labels_seen, with_labels_of}
+use Rattle.cstn_graphml.specs.Networks.{IsBuilt, builder_of}
+use Rattle.cstn_graphml.specs.Labels.{with_labels_of}
 use Rattle.cstn_graphml.specs.Answers.{IsDocument, RefusesDocument, IsNetTold, IsLabelRefusal}
 use Rattle.cstn_element.specs.Reads.{Fails}
 use Rattle.cstn_graphml.specs.declared.drawn_graph.DrawnGraph.{DrawnGraph as LentGraph}
 use Rattle.cstn_element.specs.declared.errors.DocError.{DocError}
 use Rattle.cstn_element.specs.declared.errors.DocError.TheVariants.{NotUtf8, Shape, NameTwice, UnknownNode, Value, LabelText, Contingent, EdgeType, NoDeadline, Net, Lift, Memory}
-use Rattle.cstn_graphml.proofs.Built.{parts_with, has_parts, built_drafts, made_network, numbered_length}
+use Rattle.cstn_graphml.proofs.Built.{parts_with}
 use Rattle.cstn_graphml.proofs.DrawnGraphLaws.{bind_ok, ok_is, document_is_drawn}
-use Rattle.cstn_graphml.proofs.Held.{draft_held, drafts_held}
+use Rattle.cstn_graphml.proofs.KeptGraphs.{IsKeptOf, kept_drawn, same_names, built_whole, lowest_of, kept_unfit, labels_made, made_fit, made_mislabelled}
 use Rattle.cstn_graphml.proofs.KeptRead.{document_kept, refused_whole}
 
 told_at : (m n : ℕ) → m ≡ n → ◌≡◌ {A = Result Parts Refusal} (Err (not_utf8 m)) (Err (not_utf8 n))
@@ -84,83 +77,38 @@ lacks_deadline bytes word g u h e = of_text bytes word u ∙ ap (λ o. o >>= dra
 pub has_deadline : (bytes : List ℕ) (word : Option ℕ) (n : ℕ) (g : DrawnGraph) → IsUtf8 bytes → in_document (content_of (tokens bytes)) ≡ Ok g → first_of_two word g.deadline ≡ Some n → document bytes word ≡ Ok (parts_of n g)
 has_deadline bytes word n g u h e = of_text bytes word u ∙ ap (λ o. o >>= drawn_parts word) h ∙ ap (λ o. or_refused o no_deadline >>= λ deadline. Ok (parts_of deadline g)) e
 
--- what is kept of a graph between time-points with names, and so on, is such a graph
-kept_is_drawn : (g : DrawnGraph) → IsDrawnGraph g → IsDrawnGraph (kept g)
-kept_is_drawn g h = record {
-  later = h.later;
-  first = h.first;
-  each = h.each;
-  labelled = h.labelled;
-  among = All-take (IsDrawnAmong (length g.names)) 16385 g.constraints h.among;
-  origin_timely = h.origin_timely;
-  timely = h.timely;
-  origin_lettered = h.origin_lettered;
-  lettered = h.lettered;
-  literals = All-take (λ (c : DrawnConstraint). IsOfLiterals c.label) 16385 g.constraints h.literals;
-  origin_literals = h.origin_literals;
-  label_literals = h.label_literals;
-}
-
 -- a document was read of which this graph is kept
 pub record Read (bytes : List ℕ) (d : LentGraph) : Type 0 where
   pub whole : DrawnGraph
   pub told : in_document (content_of (tokens bytes)) ≡ Ok whole
-  pub kept_is : kept whole ≡ graph_seen d
-  pub drawn : IsDrawnGraph whole
+  pub as_kept : IsKeptOf whole d
 
 pub was_read : (bytes : List ℕ) (ts : List Token) (d : LentGraph) → ts ≡ tokens bytes → in_kept_document (content_of ts) ≡ Ok (graph_seen d) → Read bytes d
 was_read bytes ts d is h =
     let c : Content = content_of (tokens bytes) in
     let b = bind_ok (in_document c) (λ g. Ok (kept g)) (graph_seen d) (sym (document_kept c) ∙ ap (λ ts. in_kept_document (content_of ts)) (sym is) ∙ h) in
-    record { whole = b.0; told = b.1; kept_is = ok_is (kept b.0) (graph_seen d) b.2; drawn = document_is_drawn c b.0 b.1 }
+    record { whole = b.0; told = b.1; as_kept = record { kept_is = ok_is (kept b.0) (graph_seen d) b.2; drawn = document_is_drawn c b.0 b.1 } }
 
 module _ (bytes : List ℕ) (d : LentGraph) (read : Read bytes d) where
   pub read_is_drawn : IsDrawnGraph (graph_seen d)
-  read_is_drawn = subst IsDrawnGraph read.kept_is (kept_is_drawn read.whole read.drawn)
+  read_is_drawn = kept_drawn read.whole d read.as_kept
 
   pub same_deadline : read.whole.deadline ≡ d.deadline
-  same_deadline = ap (λ (g : DrawnGraph). g.deadline) read.kept_is
-
-  pub same_names : read.whole.names ≡ d.names
-  same_names = ap (λ (g : DrawnGraph). g.names) read.kept_is
-
-  -- a graph with no more constraints than a network holds is kept whole
-  pub whole_kept : length d.constraints.list.items ≤ most_constraints → read.whole ≡ graph_seen d
-  whole_kept few =
-      let g : DrawnGraph = read.whole in
-      let as_many : length (take 16385 g.constraints) ≡ length d.constraints.list.items = ap (λ (g : DrawnGraph). length g.constraints) read.kept_is ∙ length-map d.constraints.list.items drawn_seen in
-      sym (ap (λ (cs : List DrawnConstraint). record g { constraints = cs }) (take_all 16385 g.constraints (omega (arith, few, as_many, length-take 16385 g.constraints)))) ∙ read.kept_is
-
-  -- where some constraints aren't kept, both are more than a network holds
-  pub more_than_kept : most_constraints < length d.constraints.list.items → most_constraints < length read.whole.constraints
-  more_than_kept many =
-      let g : DrawnGraph = read.whole in
-      let as_many : length (take 16385 g.constraints) ≡ length d.constraints.list.items = ap (λ (g : DrawnGraph). length g.constraints) read.kept_is ∙ length-map d.constraints.list.items drawn_seen in
-      omega (arith, many, as_many, length-take 16385 g.constraints)
+  same_deadline = ap (λ (g : DrawnGraph). g.deadline) read.as_kept.kept_is
 
   -- a network was made of it only if it is kept whole
   pub made_whole : (n : ℕ) (network : NetworkParts) → IsBuilt (builder_of n d) network → IsWellFormed (the_network network) → in_document (content_of (tokens bytes)) ≡ Ok (graph_seen d)
-  made_whole n network built good =
-      let few : length (the_network network).constraints ≤ most_constraints = good.few_constraints in
-      let same = ap (λ (net : Network). length net.constraints) (made_network n d network built) in
-      let count = numbered_length 0 (map drawn_seen d.constraints.list.items) in
-      read.told ∙ ap (λ (g : DrawnGraph). Ok g) (whole_kept (omega (arith, few, same, count, length-map d.constraints.list.items drawn_seen)))
+  made_whole n network built good = read.told ∙ ap (λ (g : DrawnGraph). Ok g) (built_whole read.whole d read.as_kept n network built good)
 
 -- Of a document that has its parts, and whose network was made.
 module _ (told : Result Parts Refusal) (n : ℕ) (d : LentGraph) (network : NetworkParts) (is : told ≡ Ok (parts_with n d)) (built : IsBuilt (builder_of n d) network) (good : IsWellFormed (the_network network)) where
-  labels_made : with_labels_of network d ≡ labelled_of (parts_with n d)
-  labels_made = ap (λ (net : Network). record { base = net; labels = labels_seen d }) (made_network n d network built)
-
-  well_made : IsWellFormed (the_network network) → IsWellFormed (labelled_of (parts_with n d)).base
-  well_made = subst IsWellFormed (made_network n d network built)
-
   -- where its labels have no fault, the document is accepted
   pub made_document : (labelled : LabelledParts) (names : List (List ℕ)) → the_labelled labelled ≡ with_labels_of network d → names ≡ d.names → IsLabelled (the_labelled labelled) → ((error : LiftError) → HasLiftFault (with_labels_of network d) error → ⊥) → IsDocument told (the_labelled labelled) names
   made_document labelled names same named in_order none = record {
     parts = parts_with n d;
     told_are = is;
-    fit = record { labelled = subst IsLabelled (same ∙ labels_made) in_order; faultless = λ error fault. none error (subst (λ (m : Labelled). HasLiftFault m error) (sym labels_made) fault) };
-    labelled_is = same ∙ labels_made;
+    fit = made_fit n d network built labelled same in_order none;
+    labelled_is = same ∙ labels_made n d network built;
     names_are = named;
   }
 
@@ -173,7 +121,7 @@ module _ (told : Result Parts Refusal) (n : ℕ) (d : LentGraph) (network : Netw
   mislabelled_is_refused (Lift error names) h = record {
     parts = parts_with n d;
     told_are = is;
-    mislabelled = record { well_formed = well_made good; fault = subst (λ (m : Labelled). IsLowestLiftFault m error) labels_made h.0 };
+    mislabelled = made_mislabelled n d network built error good h.0;
     names_are = h.1;
   }
   mislabelled_is_refused (Memory e) h = tt
@@ -188,65 +136,10 @@ module _ (told : Result Parts Refusal) (n : ℕ) (d : LentGraph) (network : Netw
   mislabelled_is_refused NoDeadline h = absurd h
   mislabelled_is_refused (Net error names) h = absurd h
 
-zero_is_memory : (error : NetError) → net_number error ≡ 0 → (x : AllocError) × (error ≡ NoMemory x)
-zero_is_memory (NoMemory x) z = (x, refl)
-zero_is_memory error z = absurd (omega (arith, z))
-
-lowest_of : (b : BuilderParts) (e : NetError) → IsNetRefusal b e → ((x : AllocError) → e ≢ NoMemory x) → IsLowestNetFault b e
-lowest_of b e (inl z) h = let memory = zero_is_memory e z in absurd (h memory.0 memory.1)
-lowest_of b e (inr l) h = l
-
--- builders with as many time-points, and with more constraints than a network holds, have the same faults of a number up to 3
-past_alike : (b c : BuilderParts) → length b.points ≡ length c.points → most_constraints < length c.drafts → (e : NetError) → net_number e ≤ 3 → HasNetFault b e → HasNetFault c e
-past_alike b c same many TooManyNodes low has = omega (arith, same, has)
-past_alike b c same many NoOrigin low has = sym same ∙ has
-past_alike b c same many TooManyConstraints low has = many
-past_alike b c same many (DeadlineRange deadline) low has = absurd (omega (arith, low))
-past_alike b c same many (ValueRange constraint) low has = absurd (omega (arith, low))
-past_alike b c same many (NotObserved prop) low has = absurd (omega (arith, low))
-past_alike b c same many (TwoObservers prop first second) low has = absurd (omega (arith, low))
-past_alike b c same many (NotPlain constraint) low has = absurd (omega (arith, low))
-past_alike b c same many (ReactionRange node) low has = absurd (omega (arith, low))
-past_alike b c same many (NoMemory e) low has = has
-
-past_lowest : (b c : BuilderParts) → length b.points ≡ length c.points → most_constraints < length b.drafts → most_constraints < length c.drafts → (e : NetError) → IsLowestNetFault b e → IsLowestNetFault c e
-past_lowest b c same many more e fault =
-    let low : net_number e ≤ 3 = fault.lowest TooManyConstraints many in
-    record {
-      has = past_alike b c same more e low fault.has;
-      lowest = λ f has. elim (cases_lt (net_number f) 4) [
-        | inl below ↦ fault.lowest f (past_alike c b (sym same) many f (omega (arith, below)) has)
-        | inr above ↦ omega (arith, low, above)
-      ];
-    }
-
--- parts whose kept network has a lowest fault have that fault
-kept_unfit : (bytes : List ℕ) (n : ℕ) (d : LentGraph) (read : Read bytes d) (error : NetError) → IsLowestNetFault (builder_of n d) error → IsUnfit (parts_of n read.whole) error
-kept_unfit bytes n d read error fault = elim (cases_lt most_constraints (length d.constraints.list.items)) [
-  | inl many ↦
-      let g : DrawnGraph = read.whole in
-      let b : BuilderParts = builder_of n d in
-      let c : BuilderParts = record { deadline = n; points = b.points; drafts = map draft_held g.constraints } in
-      let drafts : length b.drafts ≡ length d.constraints.list.items = ap length (built_drafts n d) ∙ length-map d.constraints.list.items draft_of in
-      let more = more_than_kept bytes d read many in
-      record {
-        builder = c;
-        parts_are = record {
-          deadline = refl;
-          observes = (has_parts n d).observes ∙ sym (ap (λ (g : DrawnGraph). or_nothing g.origin ∷ g.observes) read.kept_is);
-          constraints = drafts_held g.constraints read.drawn.literals;
-        };
-        fault = past_lowest b c refl (omega (arith, many, drafts)) (omega (arith, more, length-map g.constraints draft_held)) error fault;
-      }
-  | inr few ↦
-      subst (λ (g : DrawnGraph). IsUnfit (parts_of n g) error) (sym (whole_kept bytes d read few))
-      (record { builder = builder_of n d; parts_are = has_parts n d; fault = fault })
-]
-
 -- where the network of a document that has its parts is refused, so is the document
 pub unfit_is_refused : (told : Result Parts Refusal) (bytes : List ℕ) (n : ℕ) (d : LentGraph) (read : Read bytes d) (names : List (List ℕ)) (e : DocError) → told ≡ Ok (parts_of n read.whole) → names ≡ d.names
     → (error : NetError) → IsNetRefusal (builder_of n d) error → IsNetTold error names e → RefusesDocument told e
 unfit_is_refused told bytes n d read names e is named error h (inl memory) = subst (RefusesDocument told) (sym memory.2) tt
 unfit_is_refused told bytes n d read names e is named error h (inr fault) =
     subst (RefusesDocument told) (sym fault.1)
-    (record { parts = parts_of n read.whole; told_are = is; unfit = kept_unfit bytes n d read error (lowest_of _ error h fault.0); names_are = named ∙ sym (same_names bytes d read) })
+    (record { parts = parts_of n read.whole; told_are = is; unfit = kept_unfit n read.whole d read.as_kept error (lowest_of _ error h fault.0); names_are = named ∙ sym (same_names read.whole d read.as_kept) })

@@ -16,6 +16,9 @@ mod reading;
 mod root;
 
 pub use cstn_element::DocError;
-pub use drawn_graph::Observation;
+pub use drawn_graph::{DrawnConstraint, DrawnGraph, Observation};
+pub use kept::KeptConstraints;
+pub use labels::label_network;
 pub use laws::{documents_have_one_answer, documents_past_the_limit_are_refused};
+pub use networks::build_network;
 pub use reading::read;

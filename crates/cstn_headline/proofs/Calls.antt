@@ -3,7 +3,7 @@ use Rattle.std.proofs.Common.{◌≡◌, ℕ, List, inl, inr}
 use Rattle.std.specs.Prelude.{◌⊎◌, Option}
 use Rattle.cstn_io.specs.Contents.{with_bytes, IsAllOf}
 use Rattle.cstn_reply.specs.Texts.{Said}
-use Rattle.cstn_reply.specs.Written.{LiveState, IsWritten, is_output, is_file_fault, is_live_fault, is_memory}
+use Rattle.cstn_reply.specs.Written.{LiveState, IsWritten, is_output, is_file_fault, is_live_fault, is_memory, is_stopped}
 use Rattle.cstn_reply.specs.Statuses.{status_of}
 use Rattle.cstn_reply.specs.declared.status.Status.{Status}
 use Rattle.cstn_top.specs.Plans.{Plan, IsOutput, IsText, Ends}
@@ -20,10 +20,11 @@ WroteOutput plan before old new status = (live : List ℕ) × IsAllOf before.lef
 
 output_wrote : (plan : Plan) (before after : LiveState) (old new : Option (List ℕ)) (status result : Status) (text : List ℕ) → IsText plan before after status text → IsWritten old new text status result → WroteOutput plan before old new result ⊎ IsStopped result
 output_wrote plan before after old new status result text what (inr cut) = inr (inr (inl cut.0))
-output_wrote plan before after old new status result text (is_output live said all output) (inl wrote) = inl (live, all, (said, output, wrote.0, wrote.1))
+output_wrote plan before after old new status result text (is_output live said all output took) (inl wrote) = inl (live, all, (said, output, wrote.0, wrote.1))
 output_wrote plan before after old new status result text (is_file_fault same) (inl wrote) = inr (inl wrote.0)
-output_wrote plan before after old new status result text (is_live_fault taken said left rose heard) (inl wrote) = inr (inl wrote.0)
-output_wrote plan before after old new status result text (is_memory first why) (inl wrote) = inr (inr (inr wrote.0))
+output_wrote plan before after old new status result text (is_live_fault taken said left rose heard reads) (inl wrote) = inr (inl wrote.0)
+output_wrote plan before after old new status result text (is_memory same) (inl wrote) = inr (inr (inr wrote.0))
+output_wrote plan before after old new status result text (is_stopped said stops took) (inl wrote) = inr (inr (inr wrote.0))
 
 -- a call that ended was stopped, or its request was answered
 pub answered : YesAccepted → NoAccepted → (r : Request) (contents : List (List ℕ)) (before after : LiveState) (old new : Option (List ℕ)) (result : Status) → IsRanged r → Ends (plan_at r contents) before after old new result → IsStopped result ⊎ WasAnswered r before.left old new result contents

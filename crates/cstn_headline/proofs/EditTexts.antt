@@ -27,7 +27,7 @@ use Rattle.cstn_headline.specs.Accepted.{IsAccepted, IsNoText, HasIds}
 use Rattle.cstn_change.specs.Changes.{EditedNetwork, Change, adds, removes, revalues, Refusal, EditLimit, unedited, refusal, after, if_accepted}
 use Rattle.cstn_change.specs.ChangeLines.{addition, after_change, after_edit, after_lines}
 use Rattle.cstn_change.proofs.IdLemmas.{above_small, one_id}
-use Rattle.cstn_top.proofs.Listing.{limit_in_time}
+use Rattle.cstn_net.proofs.Kept.{limit_in_time}
 use Rattle.cstn_headline.proofs.Lengths.{steps_text_short}
 use Rattle.cstn_headline.proofs.ReadBack.{letters_alone, short_text, replay_accepted, StepsBack}
 

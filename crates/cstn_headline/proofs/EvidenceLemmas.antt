@@ -24,7 +24,7 @@ pub refuted_well : (net : Network) → IsWellFormed net → (IsConsistent net �
 refuted_well = refuted_by_log
 
 -- a network with a deadline up to its own is well-formed
-at_well : (net : Network) (h : ℕ) → IsWellFormed net → h ≤ net.deadline → IsWellFormed (at_deadline net h)
+pub at_well : (net : Network) (h : ℕ) → IsWellFormed net → h ≤ net.deadline → IsWellFormed (at_deadline net h)
 at_well net h good below =
     let soon = good.in_time in
     good_at_deadline net good h (omega (arith, soon, below))

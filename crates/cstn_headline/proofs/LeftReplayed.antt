@@ -1,6 +1,6 @@
 -- The refutation of what is left is accepted by a replay on the document of what is left.
 use Rattle.std.proofs.Common.{ℕ, ◌≡◌, ◌+◌, ◌<◌, ◌≤◌, ◌^◌, Bool, true, false, List, [], ◌∷◌, ◌++◌, length, Option, None, Some, arith, sym, subst, ap, ◌∙◌}
-use Rattle.std.specs.Prelude.{Result, Ok, IsSomeAnd, nat_lt, slice_get, slice_index_or, if◌then◌else◌, codes}
+use Rattle.std.specs.Prelude.{Result, Ok, IsSomeAnd, nat_lt, slice_get, slice_index_or, codes}
 use Rattle.std.proofs.lemmas.List.{append_cancel_right}
 use Rattle.std.proofs.lemmas.List.Elements.{All-weaker}
 use Rattle.cstn_net.specs.Limits.{most_constraints, most_load}
@@ -17,10 +17,10 @@ use Rattle.cstn_save.specs.Canonical.{canonical}
 use Rattle.cstn_save.specs.ReadBack.{parts}
 use Rattle.cstn_save.specs.Names.{AreNamesOf}
 use Rattle.cstn_log.specs.Cuts.{part}
-use Rattle.cstn_check.specs.Growth.{is_refuted, log_of, load_of}
+use Rattle.cstn_check.specs.Growth.{log_of, load_of}
 use Rattle.cstn_check.specs.Decisions.{verdict}
 use Rattle.cstn_check.specs.declared.verdicts.Verdict.{Verdict}
-use Rattle.cstn_check.specs.declared.verdicts.Verdict.TheVariants.{Yes, No, Full}
+use Rattle.cstn_check.specs.declared.verdicts.Verdict.TheVariants.{No}
 use Rattle.cstn_check.proofs.Deciding.{Tells, verdict_tells}
 use Rattle.cstn_refute.specs.Texts.{shown}
 use Rattle.cstn_request.specs.Requests.{Asked, replay}
@@ -32,6 +32,7 @@ use Rattle.cstn_request.specs.Documents.{parts_of, HasLabelled}
 use Rattle.cstn_follow.specs.Following.{Following, begun, left_now, names_left, verdict_now}
 use Rattle.cstn_follow.specs.Hearing.{counted}
 use Rattle.cstn_follow.specs.Questions.{check_after}
+use Rattle.cstn_follow.proofs.Asked.{no_load}
 use Rattle.cstn_follow.proofs.GoesOn.{left_says, left_labelled}
 use Rattle.cstn_headline.specs.Accepted.{IsAccepted, IsNoText}
 use Rattle.cstn_top.specs.Answers.{of_lowered, by_text}
@@ -63,15 +64,6 @@ text_of wrong = []
 
 not_longer : (n most : ℕ) → n ≤ most → nat_lt most n ≡ false
 not_longer n most few = grind arith
-
--- after a no the load is that of the network
-no_load : (cap load : ℕ) (net : Network) → verdict cap net ≡ No load → load ≡ load_of net
-no_load cap load net is = by_tests (nat_lt cap (load_of net)) (is_refuted net (log_of net)) is
-  where
-    by_tests : (a b : Bool) → (if a then Full else if b then No (load_of net) else Yes (load_of net)) ≡ No load → load ≡ load_of net
-    by_tests true b here = absurd (cc)
-    by_tests false true here = cc
-    by_tests false false here = absurd (cc)
 
 -- the state that lines lead to has names and what is unseen as at the start
 module _ (start s : Following) (keeps : KeepsPoints start s) where

@@ -37,3 +37,5 @@ pub mod Replayed
 pub mod LeftDocuments
 pub mod LeftReplayed
 pub mod LeftChecked
+-- The document of a plan in sentences.
+pub mod PlanDocuments

@@ -13,9 +13,8 @@ use Rattle.cstn_tree.specs.Texts.{shown}
 use Rattle.cstn_graphml.specs.Document.{Parts}
 use Rattle.cstn_graphml.specs.Networks.{IsFit, IsUnfit, IsMislabelled}
 use Rattle.cstn_closed.specs.Certificates.{fault_words}
-use Rattle.cstn_request.specs.Refusals.{fault_text, label_fault_text}
 use Rattle.cstn_reply.specs.Texts.{Said, say}
-use Rattle.cstn_top.specs.Plans.{Plan, says, replays, certifies, branches, talks, judges, unlabelled, IsOutput}
+use Rattle.cstn_top.specs.Plans.{Plan, says, replays, certifies, branches, talks, judges, unlabelled, Form, fault_line, label_fault_line, IsOutput}
 use Rattle.cstn_replay.specs.Texts.{IsReplay}
 use Rattle.cstn_closed.specs.Certificates.{IsCertificate}
 use Rattle.cstn_tree.specs.Unfolded.{IsTreeText}
@@ -81,18 +80,18 @@ pub record OneJudgement : Type 0 where
   pub unfit : (parts : Parts) (error other : NetError) → IsUnfit parts error → IsUnfit parts other → error ≡ other
   pub mislabelled : (parts : Parts) (error other : LiftError) → IsMislabelled parts error → IsMislabelled parts other → error ≡ other
 
-one_judged : OneJudgement → (parts : Parts) (plan : Plan) (live : List ℕ) (a b : Said) → (IsOutput plan live a → IsOutput plan live b → a ≡ b) → IsOutput (judges parts plan) live a → IsOutput (judges parts plan) live b → a ≡ b
-one_judged one parts plan live a b same (inl x) (inl y) = same x.1 y.1
-one_judged one parts plan live a b same (inl x) (inr (inl y)) = absurd (one.fit parts y.0 x.0 y.1)
-one_judged one parts plan live a b same (inl x) (inr (inr y)) = absurd (one.labelled parts y.0 x.0 y.1)
-one_judged one parts plan live a b same (inr (inl x)) (inl y) = absurd (one.fit parts x.0 y.0 x.1)
-one_judged one parts plan live a b same (inr (inl x)) (inr (inl y)) =
-    x.2 ∙ ap (λ (e : NetError). say Document (fault_text parts.names e)) (one.unfit parts x.0 y.0 x.1 y.1) ∙ sym y.2
-one_judged one parts plan live a b same (inr (inl x)) (inr (inr y)) = absurd (one.either parts x.0 y.0 x.1 y.1)
-one_judged one parts plan live a b same (inr (inr x)) (inl y) = absurd (one.labelled parts x.0 y.0 x.1)
-one_judged one parts plan live a b same (inr (inr x)) (inr (inl y)) = absurd (one.either parts y.0 x.0 y.1 x.1)
-one_judged one parts plan live a b same (inr (inr x)) (inr (inr y)) =
-    x.2 ∙ ap (λ (e : LiftError). say Document (label_fault_text parts.names e)) (one.mislabelled parts x.0 y.0 x.1 y.1) ∙ sym y.2
+one_judged : OneJudgement → (form : Form) (parts : Parts) (plan : Plan) (live : List ℕ) (a b : Said) → (IsOutput plan live a → IsOutput plan live b → a ≡ b) → IsOutput (judges form parts plan) live a → IsOutput (judges form parts plan) live b → a ≡ b
+one_judged one form parts plan live a b same (inl x) (inl y) = same x.1 y.1
+one_judged one form parts plan live a b same (inl x) (inr (inl y)) = absurd (one.fit parts y.0 x.0 y.1)
+one_judged one form parts plan live a b same (inl x) (inr (inr y)) = absurd (one.labelled parts y.0 x.0 y.1)
+one_judged one form parts plan live a b same (inr (inl x)) (inl y) = absurd (one.fit parts x.0 y.0 x.1)
+one_judged one form parts plan live a b same (inr (inl x)) (inr (inl y)) =
+    x.2 ∙ ap (λ (e : NetError). say Document (fault_line form parts.names e)) (one.unfit parts x.0 y.0 x.1 y.1) ∙ sym y.2
+one_judged one form parts plan live a b same (inr (inl x)) (inr (inr y)) = absurd (one.either parts x.0 y.0 x.1 y.1)
+one_judged one form parts plan live a b same (inr (inr x)) (inl y) = absurd (one.labelled parts x.0 y.0 x.1)
+one_judged one form parts plan live a b same (inr (inr x)) (inr (inl y)) = absurd (one.either parts y.0 x.0 y.1 x.1)
+one_judged one form parts plan live a b same (inr (inr x)) (inr (inr y)) =
+    x.2 ∙ ap (λ (e : LiftError). say Document (label_fault_line form parts.names e)) (one.mislabelled parts x.0 y.0 x.1 y.1) ∙ sym y.2
 
 -- ---- a plan
 
@@ -102,8 +101,8 @@ module _ (judgement : OneJudgement) (fault : OneFault) (tree : OneTree) where
   one_output (replays steps net) live a b x y = one_replay net steps a b x y
   one_output (certifies printed bounds net) live a b x y = one_certificate fault printed bounds net a b x y
   one_output (branches printed load bounds net) live a b x y = one_text tree printed load bounds net a b x y
-  one_output (talks ends opening whole heard) live a b x y = x ∙ sym y
-  one_output (judges parts plan) live a b x y = one_judged judgement parts plan live a b (one_output plan live a b) x y
+  one_output (talks ends opening whole heard wants) live a b x y = x ∙ sym y
+  one_output (judges form parts plan) live a b x y = one_judged judgement form parts plan live a b (one_output plan live a b) x y
   one_output (unlabelled labels plan) live a b (inl x) (inl y) = one_output plan live a b x.1 y.1
   one_output (unlabelled labels plan) live a b (inl x) (inr y) = absurd (y.0 x.0)
   one_output (unlabelled labels plan) live a b (inr x) (inl y) = absurd (x.0 y.0)

@@ -5,11 +5,11 @@ use Rattle.cstn_io.specs.Contents.{IsAllOf}
 use Rattle.cstn_reply.specs.Texts.{Said}
 use Rattle.cstn_top.specs.Plans.{IsOutput}
 use Rattle.cstn_top.specs.Dispatch.{plan_at, file_in, proof_in}
-use Rattle.cstn_request.specs.Requests.{Request, of_network, of_labelled, of_text, of_document, drill, host, version}
+use Rattle.cstn_request.specs.Requests.{Request, of_network, of_labelled, of_text, of_document, of_plan, drill, host, version}
 use Rattle.cstn_request.specs.declared.words.NetworkVerb.TheVariants.{Check, Closed, Tight, Conflict, Tree, Edit}
 use Rattle.cstn_request.specs.declared.words.LabelledVerb.TheVariants.{Follow, Run}
 use Rattle.cstn_request.specs.declared.words.TextVerb.TheVariants.{Replay, Closedcheck, Treecheck}
-use Rattle.cstn_request.specs.declared.words.DocumentVerb.TheVariants.{Save}
+use Rattle.cstn_request.specs.declared.words.DocumentVerb.TheVariants.{Save, Sentences}
 use Rattle.cstn_top.specs.Meanings.{IsRanged}
 use Rattle.cstn_top.specs.Answers.{of_lowered, by_text}
 use Rattle.cstn_top.specs.commands.Check.{checked}
@@ -24,6 +24,8 @@ use Rattle.cstn_top.specs.commands.Replay.{replayed}
 use Rattle.cstn_top.specs.commands.Closedcheck.{certified}
 use Rattle.cstn_top.specs.commands.Treecheck.{tree_checked}
 use Rattle.cstn_top.specs.commands.Save.{saved}
+use Rattle.cstn_top.specs.commands.Sentences.{worded}
+use Rattle.cstn_sentences.specs.Plans.{plan}
 use Rattle.cstn_headline.specs.Tells.{RequestTells}
 use Rattle.cstn_headline.specs.commands.Check.{check_telling}
 use Rattle.cstn_headline.specs.commands.Closed.{closed_telling}
@@ -37,6 +39,7 @@ use Rattle.cstn_headline.specs.commands.Replay.{replay_telling}
 use Rattle.cstn_headline.specs.commands.Closedcheck.{closedcheck_telling}
 use Rattle.cstn_headline.specs.commands.Treecheck.{treecheck_telling}
 use Rattle.cstn_headline.specs.commands.Save.{save_telling}
+use Rattle.cstn_headline.specs.commands.Sentences.{sentences_telling}
 use Rattle.cstn_headline.proofs.Drills.{counts_right}
 use Rattle.cstn_headline.proofs.Standing.{YesAccepted, NoAccepted}
 use Rattle.cstn_headline.proofs.Telling.{labelled_told, network_told, only_told}
@@ -52,6 +55,7 @@ use Rattle.cstn_headline.proofs.records.Host.{host_told}
 use Rattle.cstn_headline.proofs.records.Replay.{replay_tells}
 use Rattle.cstn_headline.proofs.records.Closedcheck.{closedcheck_tells}
 use Rattle.cstn_headline.proofs.records.Treecheck.{treecheck_tells}
+use Rattle.cstn_headline.proofs.records.Plan.{plan_tells}
 
 -- each output of a request tells what its outcome does
 pub tells : YesAccepted → NoAccepted → (request : Request) → IsRanged request → (told : Option (List ℕ)) (contents : List (List ℕ)) (live : List ℕ) (said : Said) → IsAllOf told live → IsOutput (plan_at request contents) live said →
@@ -80,6 +84,9 @@ tells yes_text no_text (of_text Treecheck asked proof) ranged told contents live
     network_told (by_text tree_checked (proof_in contents)) (file_in contents) asked.deadline live said (treecheck_telling (proof_in contents)) (treecheck_tells (proof_in contents) live said) output
 tells yes_text no_text (of_document Save asked) ranged told contents live said all output =
     labelled_told saved (file_in contents) asked.deadline live said (save_telling said.text) (λ names m of is. only_told _ said.outcome (ap (λ (s : Said). s.outcome) is) (ap (λ (s : Said). s.text) is)) output
+tells yes_text no_text (of_document Sentences asked) ranged told contents live said all output =
+    labelled_told worded (file_in contents) asked.deadline live said (sentences_telling said.text) (λ names m of is. only_told _ said.outcome (ap (λ (s : Said). s.outcome) is) (ap (λ (s : Said). s.text) is)) output
+tells yes_text no_text (of_plan asked) ranged told contents live said all output = plan_tells (plan (file_in contents) asked.deadline) live said output
 tells yes_text no_text (drill number) ranged told contents live said all output =
     only_told _ said.outcome (ap (λ (s : Said). s.outcome) output) (counts_right number 64, ap (λ (s : Said). s.text) output)
 tells yes_text no_text (host files deadline cap) capped told contents live said all output = host_told no_text cap capped deadline contents told live said all output

@@ -40,7 +40,7 @@ use Rattle.cstn_top.specs.commands.Closedcheck.{certified_bounds, certified}
 use Rattle.cstn_headline.specs.Accepted.{IsAccepted, IsYesText, IsNoText, HasIds}
 use Rattle.cstn_reply.specs.declared.output.Outcome.TheVariants.{Good, Script}
 use Rattle.cstn_tight.proofs.ClosedLemmas.{live_short, some_live}
-use Rattle.cstn_top.proofs.Listing.{limit_in_time}
+use Rattle.cstn_net.proofs.Kept.{limit_in_time}
 use Rattle.cstn_headline.proofs.Lengths.{bounds_text_short, steps_text_short}
 use Rattle.cstn_headline.proofs.LogTexts.{listed_faultless, refuted_by_log, no_refutation}
 

@@ -8,7 +8,7 @@ use Rattle.cstn_graphml.specs.Networks.{labelled_of, IsFit}
 use Rattle.cstn_request.specs.Requests.{Asked, check, run, closed, replay, closedcheck}
 use Rattle.cstn_reply.specs.Texts.{Said, say}
 use Rattle.cstn_request.specs.Limits.{most_document}
-use Rattle.cstn_top.specs.Plans.{Plan, says, judges, IsOutput}
+use Rattle.cstn_top.specs.Plans.{Plan, a_document, says, judges, IsOutput}
 use Rattle.cstn_top.specs.Answers.{LabelledAnswer, of_lowered, judged, on_labelled, by_text}
 use Rattle.cstn_top.specs.commands.Check.{checked}
 use Rattle.cstn_headline.specs.Accepted.{IsAccepted, IsYesText, IsNoText}
@@ -45,7 +45,7 @@ pub labelled_accepted : OneJudgement → (answer : LabelledAnswer) (bytes : List
 labelled_accepted one answer bytes deadline short has =
     subst (λ (long : Bool). IsAccepted (if long then says (say Document (codes "document long")) else judged answer (document bytes deadline))) (sym short) (by_told (document bytes deadline) has)
   where
-    fit_says : (parts : Parts) (plan : Plan) (live : List ℕ) (said : Said) → IsFit parts → IsOutput (judges parts plan) live said → IsOutput plan live said
+    fit_says : (parts : Parts) (plan : Plan) (live : List ℕ) (said : Said) → IsFit parts → IsOutput (judges a_document parts plan) live said → IsOutput plan live said
     fit_says parts plan live said fit (inl has) = has.1
     fit_says parts plan live said fit (inr (inl unfit)) = absurd (one.fit parts unfit.0 fit unfit.1)
     fit_says parts plan live said fit (inr (inr wrong)) = absurd (one.labelled parts wrong.0 fit wrong.1)

@@ -42,13 +42,17 @@ use Rattle.cstn_tree.specs.Written.{AreWritten as IsWrittenTree}
 use Rattle.cstn_request.specs.Requests.{tree}
 use Rattle.cstn_reply.specs.Texts.{Said, say, yes_line}
 use Rattle.cstn_request.specs.Limits.{most_document}
-use Rattle.cstn_top.specs.Plans.{Plan, says, replays, branches, IsOutput, session}
+use Rattle.cstn_top.specs.Plans.{Plan, says, replays, branches, IsOutput, session, wanting_session}
 use Rattle.cstn_top.specs.Answers.{Answer, LabelledAnswer, of_plain, judged, on_labelled, on_document, on_verdict, by_text}
 use Rattle.cstn_top.specs.commands.Replay.{replayed, replayed_steps}
 use Rattle.cstn_top.specs.commands.Closedcheck.{certified, certified_bounds}
 use Rattle.cstn_top.specs.commands.Tree.{unfolded}
 use Rattle.cstn_top.specs.commands.Treecheck.{checked_lines}
 use Rattle.cstn_top.specs.commands.Run.{carried_out}
+use Rattle.cstn_top.specs.commands.Plan.{planned_of, planned}
+use Rattle.cstn_sentences.specs.Held.{CanBeHeld as PlanCanBeHeld}
+use Rattle.cstn_sentences.specs.Plans.{plan}
+use Rattle.cstn_sentences.specs.Refusals.{Refusal as PlanRefusal}
 use Rattle.cstn_top.specs.commands.Host.{on_documents, on_verdicts, attended}
 use Rattle.cstn_reply.specs.declared.output.Outcome.TheVariants.{Document, Script, Wide}
 use Rattle.cstn_check.specs.Decisions.{verdict, IsYes}
@@ -57,7 +61,7 @@ use Rattle.cstn_top.proofs.Documents.{IsOfDocument}
 use Rattle.cstn_tree.specs.Unfolded.{observed}
 use Rattle.cstn_exec.specs.Guides.{begun}
 use Rattle.cstn_run.specs.Sessions.{guide_turn, guide_ending}
-use Rattle.cstn_run.specs.hosted.Sessions.{begun as begun_host, host_turn, host_ending}
+use Rattle.cstn_run.specs.hosted.Sessions.{begun as begun_host, host_turn, host_wants, host_ending}
 use Rattle.cstn_run.specs.hosted.Files.{Named, the_file, yes_lines}
 use Rattle.cstn_top.proofs.Documents.{of_network}
 use Rattle.cstn_headline.proofs.SomeFault.{faultless, faultless_is_closed}
@@ -151,6 +155,20 @@ module _ (made : PartsMade) where
   plain_some answer bytes deadline live held each = document_some (of_plain answer) bytes deadline live held (λ parts is fit none.
       none _ (inr ((λ empty. each parts.names (network_of parts) (of_network bytes deadline parts is fit) (λ said output. none said (inl (empty, output)))), refl)))
 
+-- likewise of the parts of a plan in sentences
+abbrev pub PlansMade : Type 0
+PlansMade = (bytes : List ℕ) (deadline : Option ℕ) (parts : Parts) → plan bytes deadline ≡ Ok parts → IsHeld parts → ((error : NetError) → IsUnfit parts error → ⊥) → ((error : LiftError) → IsMislabelled parts error → ⊥) → IsFit parts
+
+pub plan_some : PlansMade → (bytes : List ℕ) (deadline : Option ℕ) (live : List ℕ) → PlanCanBeHeld bytes deadline → HasSome (planned bytes deadline) live
+plan_some made bytes deadline live held = by_told (plan bytes deadline) refl
+  where
+    by_told : (told : Result Parts PlanRefusal) → plan bytes deadline ≡ told → HasSome (planned_of told) live
+    by_told (Err refusal) is = said_some _ live
+    by_told (Ok parts) is = λ none.
+        let fit : IsFit parts = made bytes deadline parts is (held parts is)
+        (λ error unfit. none _ (inr (inl (error, unfit, refl)))) (λ error wrong. none _ (inr (inr (error, wrong, refl)))) in
+        none _ (inl (fit, refl))
+
 -- what is known of the tree of a network, by bounds that have a strategy with each time-point at the least moment that they leave
 -- it: there is one, no line of it breaks, its table has the least moments, and its text is read back
 pub record TreesMade : Type 0 where
@@ -219,7 +237,7 @@ verdicts_some cap after_yes live (named ∷ rest) some =
     verdict_any cap named.names named.net (on_verdicts cap after_yes rest) (verdict cap named.net) live (verdicts_some cap after_yes live rest some)
 
 pub attended_some : (cap : ℕ) (live : List ℕ) (all : List Named) → HasSome (attended cap all) live
-attended_some cap live all = verdicts_some cap (session host_turn host_ending (yes_lines all) (begun_host (map the_file all))) live all (λ none. none _ refl)
+attended_some cap live all = verdicts_some cap (wanting_session host_wants host_turn host_ending (yes_lines all) (begun_host (map the_file all))) live all (λ none. none _ refl)
 
 pub documents_some : PartsMade → (answer : List Named → Plan) (deadline : Option ℕ) (live : List ℕ) → ((all : List Named) → HasSome (answer all) live) → (before : List Named) (contents : List (List ℕ)) → All (λ bytes. CanBeHeld bytes deadline) contents → HasSome (on_documents answer deadline before contents) live
 documents_some made answer deadline live each before [] held = each before

@@ -17,7 +17,8 @@ use Rattle.cstn_check.proofs.Said.{said_is, said_no}
 use Rattle.cstn_conflict.specs.Conflicts.{conflict_set}
 use Rattle.cstn_conflict.proofs.ConflictLemmas.{inconsistent, needed, no_with}
 use Rattle.cstn_tight.specs.Deadlines.{at_deadline, least_deadline}
-use Rattle.cstn_tight.proofs.LeastLemmas.{good_at_deadline, IsRefuted, IsFound, found}
+use Rattle.cstn_tight.proofs.LeastLemmas.{IsRefuted, IsFound, found}
+use Rattle.cstn_headline.proofs.EvidenceLemmas.{at_well}
 use Rattle.cstn_headline.specs.Accepted.{IsYesText, IsNoText, HasIds}
 use Rattle.cstn_headline.specs.commands.Tight.{IsTightText}
 use Rattle.cstn_headline.specs.commands.Conflict.{IsConflictText}
@@ -25,12 +26,6 @@ use Rattle.cstn_check.specs.Decisions.{IsNo}
 use Rattle.cstn_conflict.specs.Texts.{blame_text}
 use Rattle.cstn_tight.specs.Texts.{refuted_text, tight_text}
 use Rattle.cstn_top.proofs.Documents.{IsOfDocument}
-
--- a network with a deadline up to its own is well-formed
-at_well : (net : Network) (h : ℕ) → IsWellFormed net → h ≤ net.deadline → IsWellFormed (at_deadline net h)
-at_well net h good below =
-    let soon = good.in_time in
-    good_at_deadline net good h (omega (arith, soon, below))
 
 zero_of : (n : ℕ) → nat_eq n 0 ≡ true → n ≡ 0
 zero_of n is = grind arith

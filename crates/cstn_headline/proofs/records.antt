@@ -10,3 +10,4 @@ pub mod Host
 pub mod Replay
 pub mod Closedcheck
 pub mod Treecheck
+pub mod Plan

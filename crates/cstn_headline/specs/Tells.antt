@@ -3,11 +3,12 @@ use Rattle.std.specs.Prelude.{◌≡◌, ℕ, List, Option}
 use Rattle.std.specs.List.{All}
 use Rattle.cstn_io.specs.Contents.{with_bytes}
 use Rattle.cstn_graphml.specs.Answers.{CanBeHeld}
-use Rattle.cstn_request.specs.Requests.{Request, of_network, of_labelled, of_text, of_document, drill, host, version}
+use Rattle.cstn_sentences.specs.Held.{CanBeHeld as PlanCanBeHeld}
+use Rattle.cstn_request.specs.Requests.{Request, of_network, of_labelled, of_text, of_document, of_plan, drill, host, version}
 use Rattle.cstn_request.specs.declared.words.NetworkVerb.TheVariants.{Check, Closed, Tight, Conflict, Tree, Edit}
 use Rattle.cstn_request.specs.declared.words.LabelledVerb.TheVariants.{Follow, Run}
 use Rattle.cstn_request.specs.declared.words.TextVerb.TheVariants.{Replay, Closedcheck, Treecheck}
-use Rattle.cstn_request.specs.declared.words.DocumentVerb.TheVariants.{Save}
+use Rattle.cstn_request.specs.declared.words.DocumentVerb.TheVariants.{Save, Sentences}
 use Rattle.cstn_reply.specs.Statuses.{status_of}
 use Rattle.cstn_reply.specs.declared.status.Status.{Status}
 use Rattle.cstn_reply.specs.declared.output.Outcome.{Outcome}
@@ -25,6 +26,8 @@ use Rattle.cstn_headline.specs.commands.Replay.{replay_telling}
 use Rattle.cstn_headline.specs.commands.Closedcheck.{closedcheck_telling}
 use Rattle.cstn_headline.specs.commands.Treecheck.{treecheck_telling}
 use Rattle.cstn_headline.specs.commands.Save.{save_telling}
+use Rattle.cstn_headline.specs.commands.Sentences.{sentences_telling}
+use Rattle.cstn_headline.specs.commands.Plan.{OfPlan}
 use Rattle.cstn_headline.specs.commands.Drill.{drill_telling}
 use Rattle.cstn_headline.specs.commands.Host.{HostTells}
 use Rattle.cstn_headline.specs.commands.Version.{version_telling}
@@ -44,16 +47,19 @@ RequestTells (of_text Replay asked proof) outcome live text contents = OfLabelle
 RequestTells (of_text Closedcheck asked proof) outcome live text contents = OfLabelled (file_in contents) asked.deadline outcome (closedcheck_telling (proof_in contents))
 RequestTells (of_text Treecheck asked proof) outcome live text contents = OfNetwork (file_in contents) asked.deadline outcome (treecheck_telling (proof_in contents))
 RequestTells (of_document Save asked) outcome live text contents = OfLabelled (file_in contents) asked.deadline outcome (save_telling text)
+RequestTells (of_document Sentences asked) outcome live text contents = OfLabelled (file_in contents) asked.deadline outcome (sentences_telling text)
+RequestTells (of_plan asked) outcome live text contents = OfPlan (file_in contents) asked.deadline outcome text
 RequestTells (drill number) outcome live text contents = Tells (drill_telling number text) outcome
 RequestTells (host files deadline cap) outcome live text contents = HostTells cap deadline outcome live text contents
 RequestTells (version release) outcome live text contents = Tells (version_telling release text) outcome
 
--- values of the program can hold what each document of the request says
+-- values of the program can hold what each document of the request says, or its plan in sentences
 abbrev pub AreHeld : Request → List (List ℕ) → Type 0
 AreHeld (of_network verb asked cap) contents = CanBeHeld (file_in contents) asked.deadline
 AreHeld (of_labelled verb asked cap) contents = CanBeHeld (file_in contents) asked.deadline
 AreHeld (of_text verb asked proof) contents = CanBeHeld (file_in contents) asked.deadline
 AreHeld (of_document verb asked) contents = CanBeHeld (file_in contents) asked.deadline
+AreHeld (of_plan asked) contents = PlanCanBeHeld (file_in contents) asked.deadline
 AreHeld (drill number) contents = Unit {0}
 AreHeld (host files deadline cap) contents = All (λ bytes. CanBeHeld bytes deadline) contents
 AreHeld (version release) contents = Unit {0}

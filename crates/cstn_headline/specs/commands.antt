@@ -12,5 +12,7 @@ pub mod Tree
 pub mod Treecheck
 pub mod Replay
 pub mod Save
+pub mod Sentences
+pub mod Plan
 pub mod Drill
 pub mod Version

@@ -10,7 +10,8 @@ ghost use Rattle.cstn_headline.specs.commands.Run.{AnswersLeast};
 ghost use Rattle.cstn_headline.specs.Headline.{Document, network, printed_names, HasStrategy, load, edited, Call, CallTells, HasContents, IsCall};
 ghost use Rattle.cstn_headline.specs.Headline.{Checked, Ran, Replayed, Edited, Decides, IsEditedVerdict, IsExecutedOver};
 ghost use Rattle.cstn_top.specs.Meanings.{IsStopped};
-ghost use Rattle.cstn_top.specs.Told.{IsTold, view};
+ghost use Rattle.cstn_reply.specs.Written.{view};
+ghost use Rattle.cstn_top.specs.Told.{IsTold};
 ghost use Rattle.cstn_headline.specs.Told.{IsToldOf};
 
 use crate::evidence_laws::evidence_is_accepted;
@@ -42,8 +43,8 @@ pub fn the_headline()
 /// case, and what was written as evidence is accepted.
 pub fn calls_tell<S: Source>()
     ensures told { (words : Option Request) (files : Option (List ℕ → Option (List ℕ))) (before after : S) (old new : Option (List ℕ)) (status : Status)
-        (told : IsTold words files (view S.left S.faults) before after old new status)
-        → IfSome words (IsToldOf (view S.left S.faults before) old new status told.contents) }
+        (told : IsTold words files (view S.left S.faults S.reads) before after old new status)
+        → IfSome words (IsToldOf (view S.left S.faults S.reads before) old new status told.contents) }
     ensures call { (request : Request) (contents : List (List ℕ)) (c : Call request contents)
         → CallTells request contents c }
 {
@@ -54,7 +55,7 @@ pub fn calls_tell<S: Source>()
 /// request, and neither a fault nor want of memory stopped the call, it is a call of that request over the contents of its files.
 pub fn calls_are_told<S: Source>()
     ensures call { (request : Request) (contents : List (List ℕ)) (live had : List ℕ) (words : Option Request) (files : Option (List ℕ → Option (List ℕ)))
-        (before after : S) (old new : Option (List ℕ)) (status : Status) → IsTold words files (view S.left S.faults) before after old new status
+        (before after : S) (old new : Option (List ℕ)) (status : Status) → IsTold words files (view S.left S.faults S.reads) before after old new status
         → words ≡ Some request → HasContents files request contents → S.left before ≡ Some live → old ≡ Some had → (IsStopped status → ⊥)
         → IsCall request contents live had new status }
 {}

@@ -18,7 +18,8 @@ ghost use Rattle.cstn_top.specs.Lines.{AreAnswered};
 ghost use Rattle.cstn_top.specs.Dispatch.{plan_at};
 ghost use Rattle.cstn_top.specs.Meanings.{IsRanged};
 ghost use Rattle.cstn_headline.specs.Tells.{AreHeld};
-ghost use Rattle.cstn_request.specs.Requests.{Asked, Request, check, run, closed, replay, closedcheck};
+ghost use Rattle.cstn_headline.specs.commands.Plan.{HasPlan, IsReadAs};
+ghost use Rattle.cstn_request.specs.Requests.{Asked, Request, of_plan, check, run, closed, replay, closedcheck};
 ghost use Rattle.cstn_reply.specs.Texts.{Said, line};
 ghost use Rattle.cstn_reply.specs.declared.output.Outcome.TheVariants.{Good, Bad};
 ghost use Rattle.cstn_lift.specs.Labelled.{Labelled};
@@ -36,6 +37,7 @@ use cstn_closed::{closed_lists_are_accepted, closed_texts_are_read_back};
 use cstn_graphml::documents_have_one_answer;
 use cstn_refute::texts_are_read_back;
 use cstn_save::documents_are_read_back;
+use cstn_sentences::plans_have_one_answer;
 use cstn_tree::{made_trees_are_good, networks_have_one_tree, tree_texts_are_read_back};
 
 /// After any edit lines that are answered, the session's network is the network as edited by them, which is well-formed. The
@@ -66,13 +68,14 @@ pub fn least_deadlines_are_lowered()
 {}
 
 /// What a request says is determined by the contents of its files and the bytes of the live source: the outputs of a plan are one.
-/// And it can't be that a request has none, where values of the program can hold what its documents say, and its cap is in range.
+/// And it can't be that a request has none, where values of the program can hold what its documents say, or its plan in sentences, and its cap is in range.
 pub fn outputs_are_one()
     ensures one { (plan : Plan) (live : List ℕ) (one other : Said) → IsOutput plan live one → IsOutput plan live other → one ≡ other }
     ensures some { (request : Request) (contents : List (List ℕ)) (live : List ℕ) → IsRanged request → AreHeld request contents
         → ((said : Said) → IsOutput (plan_at request contents) live said → ⊥) → ⊥ }
 {
     documents_have_one_answer();
+    plans_have_one_answer();
     closed_lists_are_accepted();
     closed_texts_are_read_back();
     texts_are_read_back();
@@ -99,6 +102,15 @@ pub fn evidence_passes()
 {
     documents_have_one_answer();
     evidence_is_accepted();
+}
+
+/// The document that `plan` writes is the plan: without a deadline handed in it is read as the very network of the plan, under the same
+/// names.
+pub fn documents_of_plans_are_the_plans()
+    ensures { (asked : Asked) (bytes live : List ℕ) (said : Said) → IsOutput (plan_at (of_plan asked) (bytes ∷ [])) live said → said.outcome ≡ Good
+        → HasPlan bytes asked.deadline (IsReadAs said.text) }
+{
+    documents_are_read_back();
 }
 
 /// After no, the refutation that `check` answers, less its line `end`, passes: `replay` accepts it on the document that `rest` answers

@@ -2,6 +2,7 @@
 ghost use Rattle.std.specs.Prelude.{◌≡◌, ◌<◌, ◌≤◌, ◌+◌, ℕ, List, [], Option, Bool, length, is_some, IsTrue, OnOk, OnErr};
 ghost use Rattle.cstn_io.specs.Causes.{HasCause, HasChoiceCause};
 ghost use Rattle.cstn_io.specs.Contents.{Takes, Chooses, named, taken_after};
+ghost use Rattle.cstn_io.specs.Asked.{asked_after};
 
 use crate::Failed;
 use std::alloc::AllocError;
@@ -35,8 +36,8 @@ impl From<io::Error> for ChooseError {
     }
 }
 
-/// Named files, of which one is read at a time. Failures are counted. A shelf tells contracts the bytes of its files either
-/// always, as one in memory does, or never.
+/// Named files, of which one is read at a time. Failures are counted. A shelf tells contracts the bytes of its files, and which
+/// names it was asked for, either always, as one in memory does, or never.
 pub trait Shelf {
     /// Whether a name may be asked for.
     ghost may_ask: { Self → List ℕ → Bool };
@@ -59,6 +60,9 @@ pub trait Shelf {
     /// The bytes left of the chosen file, where they are told.
     ghost left: { Self → Option (List ℕ) };
 
+    /// The names that were asked for, in their order, where they are told. Where memory was refused, nothing was asked for.
+    ghost asked: { Self → Option (List (List ℕ)) };
+
     /// Chooses the named file, which is then read from its start. It fails where no file has the name or the system fails.
     /// Where it fails or memory is refused, the file that was chosen before stays chosen.
     fn choose(&mut self, name: &str) -> Result<(), ChooseError>
@@ -71,6 +75,7 @@ pub trait Shelf {
         ensures refused_named { OnErr result (chosen self.new ≡ chosen self.old) }
         ensures refused_left { OnErr result (left self.new ≡ left self.old) }
         ensures refused_taken { OnErr result (taken self.new ≡ taken self.old) }
+        ensures asked { asked self.new ≡ asked_after (asked self.old) name.now result }
         ensures names { may_ask self.new ≡ may_ask self.old }
         ensures files { files self.new ≡ files self.old }
         ensures cause { HasChoiceCause (faults self.old) (faults self.new) result };
@@ -84,6 +89,7 @@ pub trait Shelf {
         ensures taken { taken self.new ≡ taken_after (taken self.old) result }
         ensures chosen { is_chosen self.new ≡ is_chosen self.old }
         ensures named { chosen self.new ≡ chosen self.old }
+        ensures asked { asked self.new ≡ asked self.old }
         ensures names { may_ask self.new ≡ may_ask self.old }
         ensures files { files self.new ≡ files self.old }
         ensures cause { HasCause (faults self.old) (faults self.new) result };

@@ -15,7 +15,8 @@ pub struct Label {
 impl Label {
     ghost use Rattle.cstn_label.specs.declared.marks.Mark.TheVariants.{Absent};
     ghost use Rattle.cstn_label.specs.Labels.{IsMarked, empty, joined, with_mark, without, IsPlain, IsWithin, Holds, IsPossible};
-    ghost use Rattle.cstn_label.specs.Read.{marks, the_scenario, is_known, the_values};
+    ghost use Rattle.cstn_label.specs.Read.{marks, mark_of, the_scenario, is_known, the_values};
+    ghost use Rattle.cstn_label.specs.Words.{has_bit};
 
     /// The label with no mark.
     pub fn empty() -> Label
@@ -34,6 +35,13 @@ impl Label {
             (false, true) => Mark::No,
             (false, false) => Mark::Absent,
         }
+    }
+
+    /// Two words: bit p of the first tells whether p's mark is yes or unknown, and bit p of the second whether it is no or unknown.
+    pub fn words(self) -> (u64, u64)
+        ensures words { (p : ℕ) → mark_of (has_bit result.0 p) (has_bit result.1 p) ≡ marks self p }
+    {
+        (self.yes, self.no)
     }
 
     /// The least marked proposition whose number is `from` or higher; none where no such proposition is marked. A walk that

@@ -5,7 +5,16 @@ use Rattle.std.proofs.lemmas.List.{get_or-replicate, get_or_past, length-replica
 use Rattle.cstn_label.specs.Words.{has_bit}
 use Rattle.cstn_log.specs.Blocks.{has_number, AreSummed}
 use Rattle.cstn_log.proofs.BitLemmas.{none_in_zero}
-use Rattle.cstn_log.proofs.ListLemmas.{cases_same}
+
+-- two numbers are one, or they aren't
+cases_same : (a b : ℕ) → (a ≡ b) ⊎ (a ≡ b → ⊥)
+cases_same a b = elim (cases_lt a b) [
+  | inl less ↦ inr (λ s. omega (arith, s, less))
+  | inr more ↦ elim (cases_lt b a) [
+    | inl above ↦ inr (λ s. omega (arith, s, above))
+    | inr upto ↦ inl (omega (arith, more, upto))
+  ]
+]
 
 zero_at : (n k : ℕ) → get_or (replicate n zero) k zero ≡ zero
 zero_at n k = elim (cases_lt k n) [

@@ -12,7 +12,7 @@ use Rattle.cstn_rules.specs.Rules.{base}
 use Rattle.cstn_rules.specs.Derivations.{Entry as TheEntry}
 use Rattle.cstn_rules.specs.Read.{the_entry}
 use Rattle.cstn_log.specs.Entries.{State, HasId, AreBornFrom, the_entries, bases}
-use Rattle.cstn_log.proofs.ListLemmas.{get_more}
+use Rattle.cstn_facts.proofs.Places.{get_more}
 
 pub none_born : (birth : ℕ) → AreBornFrom birth []
 none_born birth k id is = absurd (none-some id is)

@@ -5,7 +5,7 @@ use Rattle.std.proofs.lemmas.Bool.{cases_Bool, cases_lt}
 use Rattle.std.proofs.lemmas.List.{take_more_set, drop-set-lt, length-set}
 use Rattle.std.proofs.lemmas.Option.{none-some, slice_get_within}
 use Rattle.cstn_log.specs.Cuts.{is_marked, rank, chosen_from, chosen}
-use Rattle.cstn_log.proofs.ListLemmas.{drop_step}
+use Rattle.cstn_facts.proofs.Places.{drop_step}
 
 pub rank_marked : (marks : List Bool) (k : ℕ) → is_marked marks k ≡ true → rank marks (suc k) ≡ rank marks k + 1
 rank_marked marks k h = rw h refl

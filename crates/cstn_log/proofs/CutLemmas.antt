@@ -10,7 +10,7 @@ use Rattle.cstn_rules.specs.declared.entries.Why.{Why}
 use Rattle.cstn_rules.specs.declared.entries.Why.TheVariants.{Base, Chain, Wait}
 use Rattle.cstn_rules.specs.Derivations.{Entry, IsEarlier, Follows, IsDerivation}
 use Rattle.cstn_log.specs.Cuts.{is_marked, rank, renumbered, moved, chosen_from, chosen, cut_from, cut, PremisesBelow, PremisesMarked, AllEarlier, IsClosedUnder}
-use Rattle.cstn_log.proofs.ListLemmas.{get_map}
+use Rattle.cstn_facts.proofs.Places.{get_map}
 use Rattle.cstn_log.proofs.ChoiceLemmas.{rank_less, rank_same, chosen_marked, chosen_unmarked, length_chosen, chosen_comes, chosen_goes, chosen_all}
 
 pub cut_marked : (marks : List Bool) (k : ℕ) (x : Entry) (xs : List Entry) → is_marked marks k ≡ true →

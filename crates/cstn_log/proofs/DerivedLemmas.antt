@@ -18,7 +18,7 @@ use Rattle.cstn_rules.specs.Read.{the_entry}
 use Rattle.cstn_rules.proofs.Derived.{grown_derivation}
 use Rattle.cstn_rules.proofs.Shapes.{chain_within, wait_within}
 use Rattle.cstn_log.specs.Entries.{the_entries, IsCoveredBy, bases}
-use Rattle.cstn_log.proofs.ListLemmas.{get_map, get_more}
+use Rattle.cstn_facts.proofs.Places.{get_map, get_more}
 
 -- a bound that follows is at a time-point of the network
 pub follows_inside : (net : Network) (L : List Entry) (k : ℕ) (why : Why) (r : Bound) → IsWellFormed net → ((j : ℕ) (e : Entry) → slice_get L j ≡ Some e → e.bound.node.0 < count net) → Follows net (the_entries L) k why r → r.node < count net

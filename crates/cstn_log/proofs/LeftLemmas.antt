@@ -11,7 +11,7 @@ use Rattle.cstn_pool.specs.Slots.{live_of}
 use Rattle.cstn_log.specs.Entries.{HasId, the_entries}
 use Rattle.cstn_log.specs.Kept.{AreLeft, IsPooled, renewed}
 use Rattle.cstn_log.specs.Cuts.{is_marked, rank, chosen_from, chosen, cut_from, cut}
-use Rattle.cstn_log.proofs.ListLemmas.{one_there}
+use Rattle.cstn_facts.proofs.Places.{one_there}
 use Rattle.cstn_log.proofs.KeptLemmas.{same_place, same_slot, slot_inside}
 use Rattle.cstn_log.proofs.ChoiceLemmas.{rank_marked, rank_unmarked, rank_grows, length_chosen, chosen_comes, chosen_goes}
 

@@ -1,6 +1,5 @@
 -- Words as sets, and lists.
 pub mod BitLemmas
-pub mod ListLemmas
 pub mod ChoiceLemmas
 -- A log that grows.
 pub mod LiveLemmas

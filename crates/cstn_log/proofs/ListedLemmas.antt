@@ -15,7 +15,7 @@ use Rattle.cstn_pool.specs.Slots.{Slots}
 use Rattle.cstn_log.specs.Cuts.{PremisesBelow, PremisesMarked, is_marked, rank, renumbered, replaced, chosen_from, chosen}
 use Rattle.cstn_log.specs.Lists.{Listing, IsFiled, IsSlot, AreSlots, AreApart, AreHeldIn, placed, with_held, stored_in, birth_of, id_in, ids_in}
 use Rattle.cstn_log.specs.Kept.{AreLeft, AreStored, slots_of}
-use Rattle.cstn_log.proofs.ListLemmas.{get_left, get_more, get_map, map_same}
+use Rattle.cstn_facts.proofs.Places.{get_left, get_more, get_map, map_same}
 use Rattle.cstn_log.proofs.KeptLemmas.{one_read}
 use Rattle.cstn_log.proofs.PushLemmas.{count_filled}
 use Rattle.cstn_log.proofs.ChoiceLemmas.{chosen_marked, chosen_unmarked, chosen_comes, chosen_goes, length_chosen}

@@ -5,7 +5,7 @@ use Rattle.std.proofs.lemmas.Option.{slice_get_within}
 use Rattle.cstn_rules.specs.declared.entries.Entry.{Entry}
 use Rattle.cstn_minset.specs.Sets.{IsOver}
 use Rattle.cstn_log.specs.Entries.{IsCoveredBy, IsLive, AllNew}
-use Rattle.cstn_log.proofs.ListLemmas.{get_left, get_last, get_more, one_there}
+use Rattle.cstn_facts.proofs.Places.{get_left, get_last, get_more, one_there}
 
 pub live_more : (L : List Entry) (x : Entry) (k : ℕ) (e : Entry) → slice_get L k ≡ Some e → IsLive L k → ¬ IsOver x.bound e.bound → IsLive (L ++ x ∷ []) k
 live_more L x k e there live not = record {

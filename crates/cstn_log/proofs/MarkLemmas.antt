@@ -15,7 +15,7 @@ use Rattle.cstn_rules.specs.Derivations.{Entry, Follows, IsDerivation, IsRefutat
 use Rattle.cstn_rules.specs.declared.entries.Entry.{Entry as DeclaredEntry}
 use Rattle.cstn_rules.specs.Read.{the_entry}
 use Rattle.cstn_log.specs.Entries.{the_entries}
-use Rattle.cstn_log.proofs.ListLemmas.{get_map, get_more}
+use Rattle.cstn_facts.proofs.Places.{get_map, get_more}
 use Rattle.cstn_rules.proofs.Derived.{with_constraints, derivation_elsewhere}
 use Rattle.cstn_log.specs.Cuts.{PremisesBelow, AllEarlier, is_marked, rank, renumbered, moved, PremisesMarked, IsClosedUnder, with_premises, with_premises_of, with_ancestors, last_marked, part, stays, marked_staying, dropped}
 use Rattle.cstn_log.proofs.ChoiceLemmas.{rank_marked}

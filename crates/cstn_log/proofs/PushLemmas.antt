@@ -14,7 +14,7 @@ use Rattle.cstn_pool.specs.Slots.{Slots, live_of}
 use Rattle.cstn_minset.specs.Sets.{Places, Entries, IsPlaced, IsOver, IsCovered, IsCleared}
 use Rattle.cstn_log.specs.Entries.{IsCoveredBy, IsLive}
 use Rattle.cstn_log.specs.Kept.{IsKept, IsPooled, IsTabled, IsIdAt}
-use Rattle.cstn_log.proofs.ListLemmas.{get_left, get_last, get_more}
+use Rattle.cstn_facts.proofs.Places.{get_left, get_last, get_more}
 use Rattle.cstn_log.proofs.LiveLemmas.{live_more, live_less, last_not_over, live_last, new_more}
 use Rattle.cstn_log.proofs.KeptLemmas.{other_slot, unplaced}
 

@@ -16,7 +16,7 @@ use Rattle.cstn_minset.specs.Sets.{Entries, IsCovered, IsCleared}
 use Rattle.cstn_log.specs.Kept.{IsPooled, IsTabled}
 use Rattle.cstn_log.specs.Entries.{the_entries, IsCoveredBy, AllNew}
 use Rattle.cstn_log.specs.Cuts.{PremisesBelow, PremisesMarked, AllEarlier, IsClosedUnder, is_marked, rank, renumbered, cut, moved}
-use Rattle.cstn_log.proofs.ListLemmas.{get_map, get_taken, take_step, length_taken}
+use Rattle.cstn_facts.proofs.Places.{get_map, get_taken, take_step, length_taken}
 use Rattle.cstn_log.proofs.KeptLemmas.{same_slot, slot_inside, unplaced, uncovered_there, born_before}
 use Rattle.cstn_log.proofs.PushLemmas.{IsThrough, tabled_more}
 use Rattle.cstn_log.proofs.ChoiceLemmas.{rank_grows, rank_less}

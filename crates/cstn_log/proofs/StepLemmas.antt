@@ -12,7 +12,7 @@ use Rattle.cstn_rules.specs.Derivations.{Entry as TheEntry}
 use Rattle.cstn_rules.specs.Read.{the_entry}
 use Rattle.cstn_log.specs.Entries.{the_entries}
 use Rattle.cstn_log.specs.Cuts.{PremisesBelow, is_marked, rank, renumbered, replaced, moved, cut_from, cut, with_premises, with_premises_of, with_ancestors, last_marked, part, stays, marked_staying}
-use Rattle.cstn_log.proofs.ListLemmas.{drop_step, same_front}
+use Rattle.cstn_facts.proofs.Places.{drop_step, same_front}
 use Rattle.cstn_log.proofs.CutLemmas.{cut_marked, cut_unmarked}
 
 -- what an entry of the program's list stands for

@@ -10,7 +10,8 @@ ghost use Rattle.cstn_net.specs.Read.{the_network};
 ghost use Rattle.cstn_rules.specs.Rules.{base};
 ghost use Rattle.cstn_rules.specs.Derivations.{Follows, IsDerivation, IsRefutation};
 ghost use Rattle.cstn_minset.specs.Sets.{IsPlaced, IsSoughtAbove};
-ghost use Rattle.cstn_log.specs.Entries.{State, HasId, AreBornFrom, the_entries, IsBoundAt, IsDominator, IsCoveredBy, IsLive, HasLeast, AllNew, bases, first_entries};
+ghost use Rattle.cstn_log.specs.Entries.{State, HasId, AreBornFrom, the_entries, IsBoundAt, IsDominator};
+ghost use Rattle.cstn_log.specs.Entries.{IsCoveredBy, IsLive, HasLeast, AllNew, bases, first_entries};
 ghost use Rattle.cstn_log.specs.Cuts.{PremisesBelow, is_marked as is_marked_at, chosen, marked_staying, with_ancestors, last_marked, cut, part, dropped};
 ghost use Rattle.cstn_log.specs.Kept.{IsIdAt, AreStored};
 ghost use Rattle.cstn_log.specs.Agendas.{has_place};
@@ -34,7 +35,7 @@ use std::marker::Model;
 /// An entry is live while no later one dominates it. A pool has the bound of each entry, and a minimal set those of the live
 /// ones, each under the id that [`Log::slot`] answers. An entry keeps its id while entries before it are taken out, and only
 /// its place changes: premises are kept by slot, and a table tells the place of each. All memory of the log is taken by
-/// [`Log::start`]: 149.1 bytes for each entry that there may be, so 625 MB for the largest cap of 4,194,304, and 2,440 bytes for each
+/// [`Log::start`]: 111.5 bytes for each entry that there may be, so 468 MB for the largest cap of 4,194,304, and 2,424 bytes for each
 /// time-point. Of these, 4 bytes an entry are written only as far as a time-point has live entries, and one byte an entry is used
 /// by [`Log::retract`] alone.
 #[derive(Drop)]

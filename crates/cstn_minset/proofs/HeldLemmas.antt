@@ -28,13 +28,6 @@ module _ {X : Type 0} where
   swap_last : (xs ys zs : List X) → IsPermutation ((xs ++ ys) ++ zs) ((xs ++ zs) ++ ys)
   swap_last xs ys zs = rw (append_assoc xs ys zs, append_assoc xs zs ys) (IsPermutation-append_right xs (ys ++ zs) (zs ++ ys) (IsPermutation-append_comm ys zs))
 
-  -- an element moves from the one list to the end of the other
-  pub moved_over : (old xs ys us : List X) (i : ℕ) (x : X) → IsPermutation old (xs ++ us) → i < length xs → x ≡ get_or xs i x → ys ≡ swap_remove xs i x → IsPermutation old (ys ++ (us ++ x ∷ []))
-  moved_over old xs ys us i x before inside is left =
-      IsPermutation-trans _ _ _ before
-      (IsPermutation-trans _ _ _ (IsPermutation-append_left us xs (x ∷ ys) (rw left (IsPermutation-swap_remove xs i x inside is)))
-      (IsPermutation-trans _ _ _ (IsPermutation-sym _ _ (IsPermutation-to_front (ys ++ us) x)) (rw (append_assoc ys us (x ∷ [])) (IsPermutation-refl _))))
-
 pub less_by_one : {X : Type 0} (xs ys : List X) (i : ℕ) (x : X) → i < length xs → ys ≡ swap_remove xs i x → length ys + 1 ≡ length xs
 less_by_one xs ys i x inside is = rw is (omega (arith, inside, length-take (length xs - 1) (set xs i (get_or xs (length xs - 1) x)), length-set xs i (get_or xs (length xs - 1) x)))
 
@@ -103,24 +96,18 @@ page_less p q i r head inside is left =
     let step : IsPermutation p.records.items (r ∷ q.records.items) = rw left (IsPermutation-swap_remove p.records.items i r inside is) in
     IsPermutation-trans _ _ _ (IsPermutation-map f _ _ step) (rw head (IsPermutation-sym _ _ (IsPermutation-to_front (map f q.records.items) (f r))))
 
--- a page whose records went to two
-pub page_split : (p q u : Page) → q.head ≡ p.head → u.head ≡ p.head → IsPermutation p.records.items (q.records.items ++ u.records.items) → IsPermutation (on_page p) (on_page q ++ on_page u)
-page_split p q u head upper step =
-    let f : Record → ℕ × Record = λ x. (p.head, x) in
-    rw (head, upper, ← map-append f q.records.items u.records.items) (IsPermutation-map f _ _ step)
-
 pub page_size : (p : Page) → length (on_page p) ≡ length p.records.items
 page_size p = length-map p.records.items (λ x. (p.head, x))
 
--- where each page behind the first ones is half full, all hold so many records
-pub halves : (n : ℕ) (pages : List Page) → ((k : ℕ) (p : Page) → n ≤ k → slice_get pages k ≡ Some p → 32 ≤ length p.records.items) → 32 * (length pages - n) ≤ length (held pages)
-halves n [] half = omega arith
-halves zero (p ∷ pages) half =
-    let first = half 0 p (omega arith) refl in
-    let more = halves 0 pages (λ k q le is. half (suc k) q (omega arith) is) in
+-- where each page behind the first ones lacks one record at most, all hold so many
+pub dense_pages : (n : ℕ) (pages : List Page) → ((k : ℕ) (p : Page) → n ≤ k → slice_get pages k ≡ Some p → 63 ≤ length p.records.items) → 63 * (length pages - n) ≤ length (held pages)
+dense_pages n [] dense = omega arith
+dense_pages zero (p ∷ pages) dense =
+    let first = dense 0 p (omega arith) refl in
+    let more = dense_pages 0 pages (λ k q le is. dense (suc k) q (omega arith) is) in
     omega (arith, first, more, page_size p, length-append (on_page p) (held pages))
-halves (suc n) (p ∷ pages) half =
-    let more = halves n pages (λ k q le is. half (suc k) q (omega (arith, le)) is) in
+dense_pages (suc n) (p ∷ pages) dense =
+    let more = dense_pages n pages (λ k q le is. dense (suc k) q (omega (arith, le)) is) in
     omega (arith, more, length-append (on_page p) (held pages))
 
 pub none_on : (p : Page) → p.records.items ≡ [] → on_page p ≡ []

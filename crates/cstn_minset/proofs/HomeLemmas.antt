@@ -80,7 +80,7 @@ table_length n pages within = padded_length None n (homes 0 pages) (omega (arith
 -- a page that is in order, in its place
 pub record IsFit (heads k : ℕ) (q : Page) : Type 0 where
   pub order : IsInOrder heads q
-  pub half : heads ≤ k → q.head < heads → 32 ≤ length q.records.items
+  pub dense : heads ≤ k → q.head < heads → 63 ≤ length q.records.items
 
 own_set : (heads k : ℕ) (pages : List Page) (p q : Page) → slice_get pages k ≡ Some p → (k < heads → q.head ≡ k) → ((h : ℕ) → h < heads → IsPageOf pages h h) → (h : ℕ) → h < heads → IsPageOf (set pages k q) h h
 own_set heads k pages p q is head own h inside = elim (cases_eq k h) [
@@ -88,12 +88,12 @@ own_set heads k pages p q is head own h inside = elim (cases_eq k h) [
   | inr other ↦ (let old = own h inside in (old.0, got_other pages k h q other ∙ old.1, old.2))
 ]
 
-half_set : (heads k : ℕ) (pages : List Page) (p q : Page) → slice_get pages k ≡ Some p → IsFit heads k q → ((j : ℕ) (x : Page) → heads ≤ j → slice_get pages j ≡ Some x → x.head < heads → 32 ≤ length x.records.items) → (j : ℕ) (x : Page) → heads ≤ j → slice_get (set pages k q) j ≡ Some x → x.head < heads → 32 ≤ length x.records.items
-half_set heads k pages p q is fit half j x above there row = elim (cases_eq k j) [
+dense_set : (heads k : ℕ) (pages : List Page) (p q : Page) → slice_get pages k ≡ Some p → IsFit heads k q → ((j : ℕ) (x : Page) → heads ≤ j → slice_get pages j ≡ Some x → x.head < heads → 63 ≤ length x.records.items) → (j : ℕ) (x : Page) → heads ≤ j → slice_get (set pages k q) j ≡ Some x → x.head < heads → 63 ≤ length x.records.items
+dense_set heads k pages p q is fit dense j x above there row = elim (cases_eq k j) [
   | inl same ↦
       let here : q ≡ x = same_Some q x (sym (got_set pages k q p is) ∙ rw (← same) at there) in
-      subst (λ y. 32 ≤ length y.records.items) here (fit.half (omega (arith, same, above)) (subst (λ y. y.head < heads) (sym here) row))
-  | inr other ↦ half j x above (sym (got_other pages k j q other) ∙ there) row
+      subst (λ y. 63 ≤ length y.records.items) here (fit.dense (omega (arith, same, above)) (subst (λ y. y.head < heads) (sym here) row))
+  | inr other ↦ dense j x above (sym (got_other pages k j q other) ∙ there) row
 ]
 
 -- rows stay in order where a page of theirs changes, and stays in its row
@@ -107,7 +107,7 @@ changed heads capacity room k pages links p q is there head fit = record {
   small = is.small;
   own = own_set heads k pages p q there (λ below. let old = is.own k below in head ∙ ap (λ y. y.head) (same_Some p old.0 (sym there ∙ old.1)) ∙ old.2) is.own;
   order = All-set (IsInOrder heads) pages k q fit.order is.order;
-  half = half_set heads k pages p q there fit is.half;
+  dense = dense_set heads k pages p q there fit is.dense;
 }
 
 -- rows stay in order where a page behind the first ones goes to another row, and its chains with it
@@ -121,7 +121,7 @@ rehomed heads capacity room k pages links links' p q is there behind size linked
   small = is.small;
   own = own_set heads k pages p q there (λ below. absurd (omega (arith, below, behind))) is.own;
   order = All-set (IsInOrder heads) pages k q fit.order is.order;
-  half = half_set heads k pages p q there fit is.half;
+  dense = dense_set heads k pages p q there fit is.dense;
 }
 
 pub page_of_in : (n k : ℕ) (pages : List Page) (h : ℕ) → IsPageOf pages h k → IsIn (padded None n (homes 0 pages)) h k k
@@ -197,8 +197,8 @@ pushed heads capacity room room' pages links links' q is few more size linked fi
   small = is.small;
   own = λ h inside. let old = is.own h inside in (old.0, got_before pages q old.0 h old.1, old.2);
   order = All-push (IsInOrder heads) pages q is.order fit.order;
-  half = λ j x above there below. elim (slice_get_push pages q x j there) [
-    | inl here ↦ subst (λ y. 32 ≤ length y.records.items) here.1 (fit.half (omega arith) row)
-    | inr old ↦ is.half j x above old below
+  dense = λ j x above there below. elim (slice_get_push pages q x j there) [
+    | inl here ↦ subst (λ y. 63 ≤ length y.records.items) here.1 (fit.dense (omega arith) row)
+    | inr old ↦ is.dense j x above old below
   ];
 }

@@ -11,7 +11,7 @@ use Rattle.cstn_minset.specs.declared.page.Page.{Page}
 use Rattle.cstn_minset.specs.Chains.{Table, IsIn}
 use Rattle.cstn_minset.specs.Links.{Ring, AreLinks, SameSize}
 use Rattle.cstn_minset.specs.Pages.{IsPage, IsPageOf, held, homes, most_pages, AreOpened, IsInOrder, IsPaged}
-use Rattle.cstn_minset.proofs.HeldLemmas.{less_by_one, halves}
+use Rattle.cstn_minset.proofs.HeldLemmas.{less_by_one, dense_pages}
 use Rattle.cstn_minset.proofs.HomeLemmas.{IsFit, Inserts, in_page, page_of_in, past_table, table_push, slice_get_push}
 
 pub got : {X : Type 0} (xs : List X) (i : ℕ) → i < length xs → (x : X) × (slice_get xs i ≡ Some x)
@@ -26,37 +26,43 @@ pub read_page : (pages : List Page) (i : ℕ) (p read : Page) → slice_get page
 read_page pages i p read is reads = reads ∙ get_or_from_slice_get pages i p read is
 
 -- a page with one record more, or one less, still fits
-pub fit_more : (heads k : ℕ) (p q : Page) (r : Record) → IsInOrder heads p → p.head < heads → length p.records.items < 64 → q.head ≡ p.head → q.records.items ≡ p.records.items ++ r ∷ [] → IsPage q → (heads ≤ k → p.head < heads → 32 ≤ length p.records.items) → IsFit heads k q
-fit_more heads k p q r is row room head items range half =
+pub fit_more : (heads k : ℕ) (p q : Page) (r : Record) → IsInOrder heads p → p.head < heads → length p.records.items < 64 → q.head ≡ p.head → q.records.items ≡ p.records.items ++ r ∷ [] → IsPage q → (heads ≤ k → p.head < heads → 63 ≤ length p.records.items) → IsFit heads k q
+fit_more heads k p q r is row room head items range dense =
     let size : length q.records.items ≡ length p.records.items + 1 = rw items (length-append p.records.items (r ∷ [])) in
     record {
       order = record { range = range; room = omega (arith, size, room); head = omega (arith, head, row); free = λ at_end. absurd (omega (arith, at_end, head, row)) };
-      half = λ behind below. omega (arith, size, half behind row);
+      dense = λ behind below. omega (arith, size, dense behind row);
     }
 
-pub fit_less : (heads k i : ℕ) (p q : Page) (r : Record) → IsInOrder heads p → p.head < heads → i < length p.records.items → q.head ≡ p.head → q.records.items ≡ swap_remove p.records.items i r → IsPage q → (heads ≤ k → 32 < length p.records.items) → IsFit heads k q
-fit_less heads k i p q r is row inside head items range half =
+pub fit_less : (heads k i : ℕ) (p q : Page) (r : Record) → IsInOrder heads p → p.head < heads → i < length p.records.items → q.head ≡ p.head → q.records.items ≡ swap_remove p.records.items i r → IsPage q → (heads ≤ k → 63 < length p.records.items) → IsFit heads k q
+fit_less heads k i p q r is row inside head items range dense =
     let size = less_by_one p.records.items q.records.items i r inside items in
     record {
       order = record { range = range; room = omega (arith, size, is.room); head = omega (arith, head, row); free = λ at_end. absurd (omega (arith, at_end, head, row)) };
-      half = λ behind below. omega (arith, size, half behind);
+      dense = λ behind below. omega (arith, size, dense behind);
     }
 
-pub fit_half : (heads k : ℕ) (q : Page) → q.head < heads → length q.records.items ≡ 32 → IsPage q → IsFit heads k q
-fit_half heads k q row size range = record {
+pub fit_full : (heads k : ℕ) (q : Page) → q.head < heads → length q.records.items ≡ 64 → IsPage q → IsFit heads k q
+fit_full heads k q row size range = record {
   order = record { range = range; room = omega (arith, size); head = omega (arith, row); free = λ at_end. absurd (omega (arith, at_end, row)) };
-  half = λ behind below. omega (arith, size);
+  dense = λ behind below. omega (arith, size);
 }
 
 -- an empty page of no row fits, and a page in order fits as a first page
 pub fit_none : (heads k : ℕ) (q : Page) → q.head ≡ heads → q.records.items ≡ [] → IsPage q → IsFit heads k q
 fit_none heads k q head none range = record {
   order = record { range = range; room = omega (arith, ap length none); head = omega (arith, head); free = λ at_end. none };
-  half = λ behind below. absurd (omega (arith, head, below));
+  dense = λ behind below. absurd (omega (arith, head, below));
+}
+
+pub fit_first_empty : (heads k : ℕ) (q : Page) → k < heads → q.head ≡ k → q.records.items ≡ [] → IsPage q → IsFit heads k q
+fit_first_empty heads k q first head none range = record {
+  order = record { range = range; room = omega (arith, ap length none); head = omega (arith, head, first); free = λ at_end. none };
+  dense = λ behind below. absurd (omega (arith, first, behind));
 }
 
 pub fit_first : (heads k : ℕ) (q : Page) → k < heads → IsInOrder heads q → IsFit heads k q
-fit_first heads k q first order = record { order = order; half = λ behind below. absurd (omega (arith, first, behind)) }
+fit_first heads k q first order = record { order = order; dense = λ behind below. absurd (omega (arith, first, behind)) }
 
 -- a page with records is of a row
 pub of_row : (heads i : ℕ) (p : Page) → IsInOrder heads p → i < length p.records.items → p.head < heads
@@ -73,11 +79,11 @@ behind_first heads k pages own free = elim (cases_lt k heads) [
 ]
 
 -- where no page is of no row, and records find room, there is a page that was never used
-pub page_left : (heads capacity room : ℕ) (pages : List Page) (links : Ring) → IsPaged heads capacity pages links room → ((u j : ℕ) → IsIn (padded None (most_pages heads capacity) (homes 0 pages)) heads u j → j < 0) → length (held pages) + 32 ≤ capacity → length pages < most_pages heads capacity
+pub page_left : (heads capacity room : ℕ) (pages : List Page) (links : Ring) → IsPaged heads capacity pages links room → ((u j : ℕ) → IsIn (padded None (most_pages heads capacity) (homes 0 pages)) heads u j → j < 0) → length (held pages) ≤ capacity → length pages < most_pages heads capacity
 page_left heads capacity room pages links is none left = elim (cases_lt (length pages) (most_pages heads capacity)) [
   | inl less ↦ less
   | inr all ↦
-      let many = halves heads pages (λ k p behind there. is.half k p behind there (row k p there)) in
+      let many = dense_pages heads pages (λ k p behind there. is.dense k p behind there (row k p there)) in
       absurd (omega (arith, many, all, left))
 ]
   where
@@ -111,7 +117,7 @@ opened_all heads capacity room pages links slots chains opened linked enough sma
       let is = opened.1 k p there in
       let within = slice_get_within pages k p there in
       record { range = is.2; room = omega (arith, ap length is.1); head = omega (arith, is.0, within, opened.0); free = λ at_end. is.1 });
-  half = λ k p behind there below. let within = slice_get_within pages k p there in absurd (omega (arith, behind, within, opened.0));
+  dense = λ k p behind there below. let within = slice_get_within pages k p there in absurd (omega (arith, behind, within, opened.0));
 }
 
 -- one first page more

@@ -1,7 +1,7 @@
 -- Scans of the pages of a row.
-use Rattle.std.proofs.Common.{◌≡◌, inl, inr, ℕ, ◌+◌, ◌<◌, ◌≤◌, List, Bool, false, refl, sym, ◌∙◌, subst, arith}
+use Rattle.std.proofs.Common.{◌≡◌, inl, inr, ℕ, ◌+◌, ◌<◌, List, Bool, true, false, refl, sym, ap, ◌∙◌, subst, arith}
 use Rattle.std.specs.Prelude.{Option, None, Some, slice_get, IsTrue, ◌↔◌}
-use Rattle.std.proofs.lemmas.Bool.{cases_eq, cases_lt, false≢true}
+use Rattle.std.proofs.lemmas.Bool.{cases_eq, false≢true}
 use Rattle.std.proofs.lemmas.Option.{same_Some}
 use Rattle.cstn_label.specs.Words.{has_bit}
 use Rattle.cstn_minset.specs.Columns.{AreThose}
@@ -56,22 +56,29 @@ none_next rs n Kind x none here not = λ i r less there kind.
 pub none_more : (rs : List Record) (n : ℕ) (Kind : Record → Type 0) (x : Record) (test : Bool) → IsNoneUpto rs n Kind → slice_get rs n ≡ Some x → (IsTrue test ↔ Kind x) → test ≡ false → IsNoneUpto rs (n + 1) Kind
 none_more rs n Kind x test none here is no' = none_next rs n Kind x none here (λ kind. (let sure = is.1 kind in cc))
 
--- where records of the kind have a bit, none is of the kind up to the next bit that is set, if that one's record isn't
-pub none_among : (rs : List Record) (word from i : ℕ) (Kind Wide : Record → Type 0) (x : Record) → AreThose Wide rs word → ((r : Record) → Kind r → Wide r) → IsNoneUpto rs from Kind →
-    ((j : ℕ) → from ≤ j → j < i → has_bit word j ≡ false) → slice_get rs i ≡ Some x → ¬ Kind x → IsNoneUpto rs (i + 1) Kind
-none_among rs word from i Kind Wide x those wide before clear here not = none_next rs i Kind x (λ j r less there kind.
-    elim (cases_lt j from) [
-      | inl low ↦ before j r low there kind
-      | inr high ↦ false≢true (sym (clear j high less) ∙ (those j).1 (r, there, wide r kind))
-    ]) here not
+-- the bits are those of records of a wide kind that are still to be looked at, and no other record is of the kind
+pub record IsLookedThrough (rs : List Record) (Kind Wide : Record → Type 0) (rest : ℕ) : Type 0 where
+  pub among : (i : ℕ) → has_bit rest i ≡ true → (r : Record) × (slice_get rs i ≡ Some r) × Wide r
+  pub none : (i : ℕ) (r : Record) → has_bit rest i ≡ false → slice_get rs i ≡ Some r → ¬ Kind r
 
-pub none_behind : (rs : List Record) (word from : ℕ) (Kind Wide : Record → Type 0) → AreThose Wide rs word → ((r : Record) → Kind r → Wide r) → IsNoneUpto rs from Kind →
-    ((j : ℕ) → from ≤ j → has_bit word j ≡ false) → (i : ℕ) (r : Record) → slice_get rs i ≡ Some r → ¬ Kind r
-none_behind rs word from Kind Wide those wide before clear i r there kind =
-    elim (cases_lt i from) [
-      | inl low ↦ before i r low there kind
-      | inr high ↦ false≢true (sym (clear i high) ∙ (those i).1 (r, there, wide r kind))
-    ]
+pub looked_start : (rs : List Record) (Kind Wide : Record → Type 0) (word : ℕ) → AreThose Wide rs word → ((r : Record) → Kind r → Wide r) → IsLookedThrough rs Kind Wide word
+looked_start rs Kind Wide word those wide = record {
+  among = λ i set. (those i).0 set;
+  none = λ i r out there kind. false≢true (sym out ∙ (those i).1 (r, there, wide r kind));
+}
+
+pub looked_next : (rs : List Record) (Kind Wide : Record → Type 0) (rest rest' i : ℕ) (x : Record) → IsLookedThrough rs Kind Wide rest →
+    has_bit rest' i ≡ false → ((k : ℕ) → (k ≡ i → ⊥) → has_bit rest' k ≡ has_bit rest k) → slice_get rs i ≡ Some x → ¬ Kind x → IsLookedThrough rs Kind Wide rest'
+looked_next rs Kind Wide rest rest' i x was gone others here not = record {
+  among = λ j set. elim (cases_eq j i) [
+    | inl same ↦ absurd (false≢true (sym gone ∙ sym (ap (has_bit rest') same) ∙ set))
+    | inr other ↦ was.among j (sym (others j other) ∙ set)
+  ];
+  none = λ j r out there kind. elim (cases_eq j i) [
+    | inl same ↦ not (subst Kind (sym (same_Some x r (sym here ∙ rw same at there))) kind)
+    | inr other ↦ was.none j r (sym (others j other) ∙ out) there kind
+  ];
+}
 
 -- no record of the first n pages is of the kind
 abbrev pub AreNoneUpto : List Page → ℕ → (Record → Type 0) → Type 0

@@ -12,9 +12,13 @@ use Rattle.cstn_label.specs.Words.{has_bit}
 use Rattle.cstn_label.specs.Read.{marks, mark_of}
 use Rattle.cstn_label.proofs.MarkLemmas.{absent_from_joined_left, absent_from_joined_right}
 use Rattle.cstn_label.proofs.WordLemmas.{has_bit_and, has_bit-zero}
-use Rattle.cstn_minset.specs.Literals.{AreLiterals}
 use Rattle.cstn_minset.specs.Sheets.{Marks, mark_in, IsInside, IsOutside, IsInNone, IsInAll}
+use Rattle.cstn_minset.proofs.BitLemmas.{IsPart, part_less}
 use Rattle.cstn_minset.proofs.BoundLemmas.{MarksEnd}
+
+-- the first word has the positive literals of the label, and the second the negative ones
+abbrev AreLiterals : TheLabel → ℕ → ℕ → Type 0
+AreLiterals label positive negative = (p : ℕ) → mark_of (has_bit positive p) (has_bit negative p) ≡ marks label p
 
 abbrev pub sheet_of : List ℕ → List ℕ → Marks
 sheet_of ys ns = record { positive = ys; negative = ns }
@@ -69,51 +73,47 @@ replaced_end start sheet a b both i index was is none p small = elim (cases_lt p
   | inr behind ↦ (let gone = both_absent a b both p is (none p behind) in was.left p small behind ∙ gone.0 ∙ sym gone.1)
 ]
 
--- exactly the bits are left that each word of the numbers below `from` has so
+-- exactly the bits are left that each word of the numbers has so, but for the numbers that are still to be looked at
 module _ (words : List ℕ) (numbers front : ℕ) (v : Bool) where
-  abbrev pub IsLeftUpto : ℕ → ℕ → Type 0
-  IsLeftUpto from left = (i : ℕ) → (has_bit left i ≡ true ↔ ((has_bit front i ≡ true) × ((p : ℕ) → p < from → has_bit numbers p ≡ true → has_bit (get_or words p 0) i ≡ v)))
+  pub record IsLeftBut (rest left : ℕ) : Type 0 where
+    pub part : IsPart rest numbers
+    pub bits : (i : ℕ) → (has_bit left i ≡ true ↔ ((has_bit front i ≡ true)
+        × ((p : ℕ) → has_bit rest p ≡ false → has_bit numbers p ≡ true → has_bit (get_or words p 0) i ≡ v)))
 
   abbrev pub IsLeft : ℕ → Type 0
   IsLeft left = (i : ℕ) → (has_bit left i ≡ true ↔ ((has_bit front i ≡ true) × ((p : ℕ) → has_bit numbers p ≡ true → has_bit (get_or words p 0) i ≡ v)))
 
-  pub left_start : IsLeftUpto 0 front
-  left_start i = (λ set. (set, λ p low in'. absurd (omega (arith, low))), λ both. both.0)
+  pub left_start : IsLeftBut numbers front
+  left_start = record {
+    part = λ k set. set;
+    bits = λ i. (λ set. (set, λ p out in'. absurd (false≢true (sym out ∙ in'))), λ both. both.0);
+  }
 
-  pub left_next : (from p left left' : ℕ) → from ≤ p → ((j : ℕ) → from ≤ j → j < p → has_bit numbers j ≡ false) → has_bit numbers p ≡ true → IsLeftUpto from left →
-      ((i : ℕ) → (has_bit left' i ≡ true ↔ ((has_bit left i ≡ true) × (has_bit (get_or words p 0) i ≡ v)))) → IsLeftUpto (p + 1) left'
-  left_next from p left left' above clear mine was bits i = (
-    λ set.
-        let both = (bits i).0 set in
-        let old = (was i).0 both.0 in (
-          old.0,
-          λ q low in'. elim (cases_eq q p) [
-            | inl same ↦ subst (λ (k : ℕ). has_bit (get_or words k 0) i ≡ v) (sym same) both.1
-            | inr other ↦ elim (cases_lt q from) [
-              | inl before ↦ old.1 q before in'
-              | inr behind ↦ absurd (false≢true (sym (clear q behind (omega (arith, low, other))) ∙ in'))
-            ]
-          ],
-        ),
-    λ both. (bits i).1 ((was i).1 (both.0, λ q low in'. both.1 q (omega (arith, low, above)) in'), both.1 p (omega arith) mine),
-  )
+  pub left_next : (rest rest' p left left' : ℕ) → has_bit rest p ≡ true → has_bit rest' p ≡ false → ((k : ℕ) → (k ≡ p → ⊥) → has_bit rest' k ≡ has_bit rest k) →
+      IsLeftBut rest left → ((i : ℕ) → (has_bit left' i ≡ true ↔ ((has_bit left i ≡ true) × (has_bit (get_or words p 0) i ≡ v)))) → IsLeftBut rest' left'
+  left_next rest rest' p left left' mine gone others was step = record {
+    part = part_less rest rest' p gone others numbers was.part;
+    bits = λ i. (
+      λ set.
+          let both = (step i).0 set in
+          let old = (was.bits i).0 both.0 in (
+            old.0,
+            λ q out in'. elim (cases_eq q p) [
+              | inl same ↦ subst (λ (k : ℕ). has_bit (get_or words k 0) i ≡ v) (sym same) both.1
+              | inr other ↦ old.1 q (sym (others q other) ∙ out) in'
+            ],
+          ),
+      λ both. (step i).1 (
+        (was.bits i).1 (both.0, λ q out in'. both.1 q (others q (λ same. false≢true (sym out ∙ ap (has_bit rest) same ∙ mine)) ∙ out) in'),
+        both.1 p gone (was.part p mine),
+      ),
+    );
+  }
 
-  pub left_end : (from left : ℕ) → ((j : ℕ) → from ≤ j → has_bit numbers j ≡ false) → IsLeftUpto from left → IsLeft left
-  left_end from left clear was i = (
-    λ set. (
-      ((was i).0 set).0,
-      λ p in'. elim (cases_lt p from) [
-        | inl before ↦ ((was i).0 set).1 p before in'
-        | inr behind ↦ absurd (false≢true (sym (clear p behind) ∙ in'))
-      ],
-    ),
-    λ both. (was i).1 (both.0, λ p low in'. both.1 p in'),
-  )
-
-  pub left_none : (from left : ℕ) → left ≡ 0 → IsLeftUpto from left → IsLeft 0
-  left_none from left none was i = (
-    λ set. absurd (false≢true (sym (has_bit-zero i) ∙ set)),
-    λ both. rw none at ((was i).1 (both.0, λ p low in'. both.1 p in')),
+  pub left_end : (rest left : ℕ) → ((p : ℕ) → 0 ≤ p → has_bit rest p ≡ false) → IsLeftBut rest left → IsLeft left
+  left_end rest left clear was i = (
+    λ set. (((was.bits i).0 set).0, λ p in'. ((was.bits i).0 set).1 p (clear p (omega arith)) in'),
+    λ both. (was.bits i).1 (both.0, λ p out in'. both.1 p in'),
   )
 
 both_bits : (a b : Bool) → ((a && b) ≡ true) ↔ ((a ≡ true) × (b ≡ true))

@@ -33,9 +33,9 @@ abbrev pub homes : ℕ → List Page → Table
 homes n [] = []
 homes n (page ∷ pages) = Some (page.head, n) ∷ homes (suc n) pages
 
--- how many pages there may be: one for each head, and enough for all records where each of these pages is half full
+-- how many pages there may be: one for each head, and enough for all records where each of these pages lacks one record at most
 abbrev pub most_pages : ℕ → ℕ → ℕ
-most_pages heads capacity = heads + capacity / 32 + 1
+most_pages heads capacity = heads + capacity / 63 + 1
 
 -- the chains of pages: each page that was used is in that of its row, under its number
 abbrev pub numbered : Paged → Table
@@ -52,7 +52,7 @@ pub record IsInOrder (heads : ℕ) (page : Page) : Type 0 where
   pub head : page.head ≤ heads
   pub free : page.head ≡ heads → page.records.items ≡ []
 
--- rows that are in order: each head has its own page, and every other page of a row is half full
+-- rows that are in order: each head has its own page, and every other page of a row lacks one record at most
 pub record IsPaged (heads capacity : ℕ) (pages : List Page) (links : Ring) (room : ℕ) : Type 0 where
   pub slots : links.slots ≡ most_pages heads capacity
   pub chains : links.heads ≡ heads + 1
@@ -62,7 +62,7 @@ pub record IsPaged (heads capacity : ℕ) (pages : List Page) (links : Ring) (ro
   pub small : (heads < 2 ^ 16) × (capacity < 2 ^ 32)
   pub own : (h : ℕ) → h < heads → IsPageOf pages h h
   pub order : All (IsInOrder heads) pages
-  pub half : (k : ℕ) (page : Page) → heads ≤ k → slice_get pages k ≡ Some page → page.head < heads → 32 ≤ length page.records.items
+  pub dense : (k : ℕ) (page : Page) → heads ≤ k → slice_get pages k ≡ Some page → page.head < heads → 63 ≤ length page.records.items
 
 -- the pages are those with which rows begin: each is the first page of a head, and empty
 abbrev pub AreOpened : ℕ → List Page → Type 0

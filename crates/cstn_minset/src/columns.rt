@@ -6,7 +6,6 @@ ghost use Rattle.cstn_label.specs.Read.{marks};
 ghost use Rattle.cstn_minset.specs.Columns.{AreThose};
 
 use crate::bits::first_bits;
-use crate::literals::Literals;
 use crate::sheet::Sheet;
 use arrayvec::ArrayVec;
 use cstn_label::{Label, Prop, joined_is_the_least_above, labels_are_their_marks};
@@ -37,7 +36,7 @@ pub struct Columns {
     records: ArrayVec<Record, 64>,
     sheet: Sheet,
     // A label within which all labels of the records are.
-    used: Literals,
+    used: Label,
 }
 
 impl Model for Columns {
@@ -58,7 +57,7 @@ impl Columns {
         Columns {
             records: ArrayVec::new(),
             sheet: Sheet::empty(),
-            used: Literals::of(Label::empty()),
+            used: Label::empty(),
         }
     }
 
@@ -93,13 +92,6 @@ impl Columns {
         self.records.as_slice()[index as usize].least
     }
 
-    /// The records alone.
-    pub fn into_records(self) -> ArrayVec<Record, 64>
-        ensures { result.items ≡ self.items }
-    {
-        self.records
-    }
-
     /// Adds a record.
     pub fn push(&mut self, added: Record)
         requires room { length self.old.items < 64 }
@@ -108,7 +100,7 @@ impl Columns {
         joined_is_the_least_above();
         let place = self.records.len() as u32;
         self.sheet.replace(Label::empty(), added.label, place);
-        self.used = self.used.join(&Literals::of(added.label));
+        self.used = self.used.join(added.label);
         self.records.push(added);
     }
 
@@ -128,17 +120,17 @@ impl Columns {
     }
 
     /// The records whose label is within this one, as bits.
-    pub fn within(&self, label: &Literals) -> u64
-        ensures { AreThose (λ r. IsWithin (marks r.label) (marks label.now)) self.now.items result }
+    pub fn within(&self, label: Label) -> u64
+        ensures { AreThose (λ r. IsWithin (marks r.label) (marks label)) self.now.items result }
     {
         labels_are_their_marks();
         let front = first_bits(self.records.len() as u32);
-        self.sheet.within(front, &self.used, label)
+        self.sheet.within(front, self.used, label)
     }
 
     /// The records within whose label this one is, as bits.
-    pub fn above(&self, label: &Literals) -> u64
-        ensures { AreThose (λ r. IsWithin (marks label.now) (marks r.label)) self.now.items result }
+    pub fn above(&self, label: Label) -> u64
+        ensures { AreThose (λ r. IsWithin (marks label) (marks r.label)) self.now.items result }
     {
         labels_are_their_marks();
         let front = first_bits(self.records.len() as u32);

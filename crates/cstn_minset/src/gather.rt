@@ -9,9 +9,8 @@ ghost use Rattle.cstn_minset.specs.Pages.{IsPage, held};
 ghost use Rattle.cstn_minset.specs.Columns.{AreThose};
 ghost use Rattle.cstn_minset.specs.Sets.{IsRecordAbove, IsRecordOf, AreSlotsOf, IsRecordAt, IsNoneOf, IsNoneOn};
 
-use crate::bits::{bits_without, first_bit_from, first_bits};
+use crate::bits::{bits_without, first_bit_from, first_bits, with_bit};
 use crate::columns::{Columns, Record};
-use crate::literals::Literals;
 use crate::page::{Page, higher};
 use crate::rows::Rows;
 use cstn_label::{Label, NodeId, Prop};
@@ -20,19 +19,18 @@ use cstn_label::{Label, NodeId, Prop};
 pub fn greatest_within(rows: &Rows, node: NodeId, label: Label) -> i32
     ensures { (result ≡ pos 0) ⊎ ((k i : ℕ) × (r : TheRecord) × IsRecordAt rows.now.pages node.0 k i r × IsRecordOf (marks label) result r) }
 {
-    let literals = Literals::of(label);
     let mut greatest = 0;
     let mut place = rows.first(node.0 as u32);
     while let Some(number) = place {
-        greatest = greatest_on_page(rows.page(number), &literals, greatest);
+        greatest = greatest_on_page(rows.page(number), label, greatest);
         place = rows.next(number);
     }
     greatest
 }
 
 // The greatest least value of a record of a page whose label is within this one, or the floor where that is lower.
-fn greatest_on_page(page: &Page, label: &Literals, floor: i32) -> i32
-    ensures { (result ≡ floor) ⊎ ((i : ℕ) × (r : TheRecord) × (slice_get page.now.records.items i ≡ Some r) × IsRecordOf (marks label.now) result r) }
+fn greatest_on_page(page: &Page, label: Label, floor: i32) -> i32
+    ensures { (result ≡ floor) ⊎ ((i : ℕ) × (r : TheRecord) × (slice_get page.now.records.items i ≡ Some r) × IsRecordOf (marks label) result r) }
 {
     if page.high <= floor {
         return floor;
@@ -46,10 +44,10 @@ fn greatest_among(page: &Page, bits: u64, floor: i32) -> i32
     ensures { (result ≡ floor) ⊎ ((i : ℕ) × (r : TheRecord) × (slice_get page.now.records.items i ≡ Some r) × (has_bit bits i ≡ true) × (r.least ≡ result)) }
 {
     let mut greatest = floor;
-    let mut from = 0;
-    while let Some(i) = first_bit_from(bits, from) {
+    let mut rest = bits;
+    while let Some(i) = first_bit_from(rest, 0) {
         greatest = higher(greatest, page.records.least(i));
-        from = i + 1;
+        rest = with_bit(rest, i, false);
     }
     greatest
 }
@@ -60,11 +58,10 @@ pub fn greatest_without(rows: &Rows, node: NodeId, label: Label) -> [i32; 52]
     ensures { (p : ℕ) → p < 52 → (slice_index_or result p (pos 0) ≡ pos 0) ⊎ ((k i : ℕ) × (r : TheRecord) × IsRecordAt rows.now.pages node.0 k i r
         × IsRecordOf (without (marks label) p) (slice_index_or result p (pos 0)) r) }
 {
-    let literals = Literals::of(label);
     let mut greatest = [0; 52];
     let mut place = rows.first(node.0 as u32);
     while let Some(number) = place {
-        raise_on_page(rows.page(number), label, &literals, &mut greatest);
+        raise_on_page(rows.page(number), label, &mut greatest);
         place = rows.next(number);
     }
     greatest
@@ -72,12 +69,11 @@ pub fn greatest_without(rows: &Rows, node: NodeId, label: Label) -> [i32; 52]
 
 // Raises each of these to the greatest least value of a record of a page whose label is within this one and doesn't mark the
 // proposition, where that is higher.
-fn raise_on_page(page: &Page, label: Label, literals: &Literals, greatest: &mut [i32; 52])
-    requires { literals.now ≡ label }
+fn raise_on_page(page: &Page, label: Label, greatest: &mut [i32; 52])
     ensures { (p : ℕ) → p < 52 → (slice_index_or greatest.new p (pos 0) ≡ slice_index_or greatest.old p (pos 0))
         ⊎ ((i : ℕ) × (r : TheRecord) × (slice_get page.now.records.items i ≡ Some r) × IsRecordOf (without (marks label) p) (slice_index_or greatest.new p (pos 0)) r) }
 {
-    let within = page.records.within(literals);
+    let within = page.records.within(label);
     if within == 0 {
         return;
     }

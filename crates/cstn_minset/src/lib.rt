@@ -8,7 +8,6 @@ mod columns;
 mod gather;
 mod laws;
 mod links;
-mod literals;
 mod min_set;
 mod page;
 mod passes;

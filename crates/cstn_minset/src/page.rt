@@ -3,13 +3,12 @@ ghost use Rattle.std.specs.List.{swap_remove};
 ghost use Rattle.cstn_minset.specs.Pages.{IsPage};
 
 use crate::columns::{Columns, Record};
-use std::mem;
 
 /// How many records a page has room for.
 pub const ROOM: usize = 64;
 
 /// How many records a page has at least, unless it is the first of its row.
-pub const HALF: usize = 32;
+pub const LEAST: usize = 63;
 
 /// Some records of one row, in no order. Their least values are from `low` to `high`.
 #[derive(Drop)]
@@ -59,55 +58,6 @@ impl Page {
     {
         self.records.swap_remove(index)
     }
-
-    /// Leaves half of the records of a full page here, and answers a page with the other half: those with the greatest least
-    /// values.
-    pub fn split(&mut self) -> Page
-        requires full { length self.old.records.items ≡ 64 }
-        requires page { IsPage self.old }
-        ensures heads { (self.new.head ≡ self.old.head) × (result.head ≡ self.old.head) }
-        ensures halves { (length self.new.records.items ≡ 32) × (length result.records.items ≡ 32) }
-        ensures pages { IsPage self.new × IsPage result }
-        ensures same { IsPermutation self.old.records.items (self.new.records.items ++ result.records.items) }
-    {
-        let mut left = mem::replace(&mut self.records, Columns::empty()).into_records();
-        let mut upper = Page::empty(self.head);
-        for _ in 0..HALF {
-            let greatest = place_of_greatest(left.as_slice());
-            upper.add(left.swap_remove(greatest));
-        }
-        self.refill(left.as_slice());
-        upper
-    }
-
-    // Has these records alone from now on, with `low` and `high` drawn together.
-    fn refill(&mut self, records: &[Record])
-        requires few { length records.now ≤ 64 }
-        ensures head { self.new.head ≡ self.old.head }
-        ensures records { self.new.records.items ≡ records.now }
-        ensures page { IsPage self.new }
-    {
-        let mut fresh = Page::empty(self.head);
-        for kept in records {
-            fresh.add(*kept);
-        }
-        *self = fresh;
-    }
-}
-
-// The place of a record with the greatest least value.
-fn place_of_greatest(records: &[Record]) -> usize
-    requires some { 0 < length records.now }
-    requires few { length records.now ≤ 64 }
-    ensures { result < length records.now }
-{
-    let mut best = 0;
-    for index in 1..records.len() {
-        if records[index].least > records[best].least {
-            best = index;
-        }
-    }
-    best
 }
 
 fn lower(a: i32, b: i32) -> i32

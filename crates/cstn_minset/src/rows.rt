@@ -9,16 +9,17 @@ ghost use Rattle.cstn_minset.specs.Pages.{IsPage, IsPageOf, on_page, held, homes
 
 use crate::columns::Record;
 use crate::links::Links;
-use crate::page::{HALF, Page, ROOM};
+use crate::page::{LEAST, Page, ROOM};
 use std::alloc::{AllocError, Global};
 use std::marker::Model;
 use std::mem;
 
 /// For each head a row of records, in pages. A row has no order; the least values of a page are told by its range.
 ///
-/// Each head has a first page of its own, which may have few records or none. Every other page of a row is at least half full.
-/// So at most `capacity` records find room, and no call but [`Rows::start`] takes memory: 76 bytes for each record of the
-/// capacity, and 2,440 bytes for each head. Pages that were never used are not written.
+/// Each head has a first page of its own, into which records go. Once that is full, what it has becomes another page of the row,
+/// and it begins again. A page that loses a record gets one of the first page, so every page but the first lacks one record at
+/// most. So at most `capacity` records find room, and no call but [`Rows::start`] takes memory: 39 bytes for each record of the
+/// capacity, and 2,424 bytes for each head. Pages that were never used are not written.
 #[derive(Drop)]
 pub struct Rows {
     // The first pages are those of the heads.
@@ -47,7 +48,7 @@ impl Rows {
         ensures empty { IfOk result (λ rows. held rows.pages ≡ []) }
     {
         let heads = heads as u32;
-        let total = heads + capacity / HALF as u32 + 1;
+        let total = heads + capacity / LEAST as u32 + 1;
         let mut links = Links::start(alloc, heads + 1, total)?;
         let mut pages = Vec::with_capacity(alloc, total as usize)?;
         open_all(&mut links, &mut pages, heads);
@@ -99,8 +100,8 @@ impl Rows {
         ensures size { SameRows self.old self.new }
         ensures put { IsPermutation ((head, added) ∷ held self.old.pages) (held self.new.pages) }
     {
-        let page = self.place_for(head, added.least);
-        self.pages[page as usize].add(added);
+        self.make_room(head);
+        self.pages[head as usize].add(added);
     }
 
     /// Takes a record out of a page.
@@ -125,61 +126,39 @@ impl Rows {
         open_all(&mut self.links, &mut self.pages, self.heads);
     }
 
-    // A page of the head's row that has room. A page that is full is split for it.
-    fn place_for(&mut self, head: u32, least: i32) -> u32
+    // Leaves room on the first page of the head's row.
+    fn make_room(&mut self, head: u32)
         requires head { head < self.old.heads }
         requires room { length (held self.old.pages) < self.old.capacity }
         ensures size { SameRows self.old self.new }
-        ensures page { (p : ThePage) × (slice_get self.new.pages result ≡ Some p) × (p.head ≡ head) × (length p.records.items < 64) }
+        ensures page { (p : ThePage) × (slice_get self.new.pages head ≡ Some p) × (p.head ≡ head) × (length p.records.items < 64) }
         ensures same { IsPermutation (held self.old.pages) (held self.new.pages) }
     {
-        let page = self.nearest(head, least);
-        if self.pages[page as usize].records.len() < ROOM {
-            return page;
+        if self.pages[head as usize].records.len() == ROOM {
+            self.pass_on(head);
         }
-        self.divide(page, least)
     }
 
-    // Splits a full page, and answers the half whose range is nearer to the least value.
-    fn divide(&mut self, page: u32, least: i32) -> u32
-        requires page { (p : ThePage) × (slice_get self.old.pages page ≡ Some p) × (p.head < self.old.heads) × (length p.records.items ≡ 64) }
+    // Makes what is on the full first page of the head's row another page of the row, and leaves the first page empty.
+    fn pass_on(&mut self, head: u32)
+        requires head { head < self.old.heads }
+        requires full { (p : ThePage) → slice_get self.old.pages head ≡ Some p → length p.records.items ≡ 64 }
         requires room { length (held self.old.pages) < self.old.capacity }
         ensures size { SameRows self.old self.new }
-        ensures page { (p : ThePage) → slice_get self.old.pages page ≡ Some p
-            → (q : ThePage) × (slice_get self.new.pages result ≡ Some q) × (q.head ≡ p.head) × (length q.records.items < 64) }
+        ensures page { (p : ThePage) × (slice_get self.new.pages head ≡ Some p) × (p.head ≡ head) × (length p.records.items < 64) }
         ensures same { IsPermutation (held self.old.pages) (held self.new.pages) }
     {
-        let upper = self.pages[page as usize].split();
-        let is_above = upper.low <= least;
-        let number = self.install(upper);
-        if is_above { number } else { page }
-    }
-
-    // The page whose range ends next above the least value; where none ends above it, the one whose range ends highest.
-    fn nearest(&self, head: u32, least: i32) -> u32
-        requires { head < self.now.heads }
-        ensures { IsPageOf self.now.pages head result }
-    {
-        let mut place = self.first(head);
-        let mut best = head;
-        let mut end = self.page(head).high;
-        while let Some(page) = place {
-            let high = self.page(page).high;
-            if is_nearer(high, end, least) {
-                best = page;
-                end = high;
-            }
-            place = self.next(page);
-        }
-        best
+        let none = Page::empty(head);
+        let full = mem::replace(&mut self.pages[head as usize], none);
+        self.install(full);
     }
 
     // Makes a page one of the row that it names.
     fn install(&mut self, page: Page) -> u32
         requires row { page.head < self.old.heads }
-        requires half { length page.records.items ≡ 32 }
+        requires full { length page.records.items ≡ 64 }
         requires is { IsPage page }
-        requires room { length (held self.old.pages) + 32 ≤ self.old.capacity }
+        requires room { length (held self.old.pages) ≤ self.old.capacity }
         ensures size { SameRows self.old self.new }
         ensures there { slice_get self.new.pages result ≡ Some page }
         ensures kept { (k : ℕ) (p : ThePage) → slice_get self.old.pages k ≡ Some p → p.head < self.old.heads → slice_get self.new.pages k ≡ Some p }
@@ -198,7 +177,7 @@ impl Rows {
     fn reuse(&mut self, number: u32, page: Page)
         requires free { IsPageOf self.old.pages self.old.heads number }
         requires row { page.head < self.old.heads }
-        requires half { length page.records.items ≡ 32 }
+        requires full { length page.records.items ≡ 64 }
         requires is { IsPage page }
         ensures { self.new ≡ record self.old { pages = slice_set self.old.pages number page } }
     {
@@ -212,7 +191,7 @@ impl Rows {
     fn append(&mut self, page: Page) -> u32
         requires few { length self.old.pages < most_pages self.old.heads self.old.capacity }
         requires row { page.head < self.old.heads }
-        requires half { length page.records.items ≡ 32 }
+        requires full { length page.records.items ≡ 64 }
         requires is { IsPage page }
         ensures number { result ≡ length self.old.pages }
         ensures pages { self.new ≡ record self.old { pages = self.old.pages ++ page ∷ [] } }
@@ -224,7 +203,7 @@ impl Rows {
         number
     }
 
-    // A page that has the records of this one at the same places, and that may lose one of them: a page that is only half full
+    // A page that has the records of this one at the same places, and that may lose one of them: a page that lacks one already
     // gets one from the row's first page, or becomes that page where it is empty.
     fn page_to_take_from(&mut self, page: u32) -> u32
         requires page { page < length self.old.pages }
@@ -232,10 +211,10 @@ impl Rows {
         ensures size { SameRows self.old self.new }
         ensures front { (p : ThePage) → slice_get self.old.pages page ≡ Some p
             → (q : ThePage) × (slice_get self.new.pages result ≡ Some q) × (q.head ≡ p.head) × StartsWith p.records.items q.records.items }
-        ensures spare { (q : ThePage) → slice_get self.new.pages result ≡ Some q → (result < self.new.heads) ⊎ (32 < length q.records.items) }
+        ensures spare { (q : ThePage) → slice_get self.new.pages result ≡ Some q → (result < self.new.heads) ⊎ (63 < length q.records.items) }
         ensures same { IsPermutation (held self.old.pages) (held self.new.pages) }
     {
-        if page < self.heads || self.pages[page as usize].records.len() > HALF {
+        if page < self.heads || self.pages[page as usize].records.len() > LEAST {
             return page;
         }
         let first = self.pages[page as usize].head;
@@ -251,7 +230,7 @@ impl Rows {
     fn refill(&mut self, page: u32, first: u32)
         requires behind { self.old.heads ≤ page }
         requires row { first < self.old.heads }
-        requires page { (p : ThePage) × (slice_get self.old.pages page ≡ Some p) × (p.head ≡ first) × (length p.records.items ≤ 32) }
+        requires page { (p : ThePage) × (slice_get self.old.pages page ≡ Some p) × (p.head ≡ first) × (length p.records.items ≤ 63) }
         requires some { (p : ThePage) → slice_get self.old.pages first ≡ Some p → 0 < length p.records.items }
         ensures size { SameRows self.old self.new }
         ensures filled { (p : ThePage) → slice_get self.old.pages page ≡ Some p
@@ -279,15 +258,6 @@ impl Rows {
         let none = Page::empty(self.heads);
         let full = mem::replace(&mut self.pages[page as usize], none);
         self.pages[first as usize] = full;
-    }
-}
-
-// Whether a range that ends at `high` is nearer to a least value than one that ends at `end`.
-fn is_nearer(high: i32, end: i32, least: i32) -> bool {
-    if end < least {
-        high > end
-    } else {
-        least <= high && high < end
     }
 }
 

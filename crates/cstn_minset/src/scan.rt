@@ -4,8 +4,7 @@ ghost use Rattle.cstn_minset.specs.declared.columns.Record.{Record as TheRecord}
 ghost use Rattle.cstn_minset.specs.Pages.{IsPage};
 ghost use Rattle.cstn_minset.specs.Sets.{IsRecordOver, IsRecordUnder, IsRecordAt, IsNoneOf, IsNoneOn, IsNoneInSlot, IsInSlot, bound_of};
 
-use crate::bits::first_bit_from;
-use crate::literals::Literals;
+use crate::bits::{first_bit_from, with_bit};
 use crate::page::Page;
 use crate::rows::Rows;
 use cstn_label::{Bound, NodeId};
@@ -15,10 +14,9 @@ pub fn slot_over(rows: &Rows, b: &Bound) -> Option<u32>
     ensures some { IfSome result (λ s. (k i : ℕ) × (r : TheRecord) × IsRecordAt rows.now.pages b.now.node.0 k i r × (r.slot ≡ s) × IsRecordOver b.now r) }
     ensures none { IfNone result (IsNoneOf rows.now.pages b.now.node.0 (IsRecordOver b.now)) }
 {
-    let label = Literals::of(b.label);
     let mut place = rows.first(b.node.0 as u32);
     while let Some(number) = place {
-        if let Some(slot) = over_on_page(rows.page(number), b, &label) {
+        if let Some(slot) = over_on_page(rows.page(number), b) {
             return Some(slot);
         }
         place = rows.next(number);
@@ -31,10 +29,9 @@ pub fn place_under(rows: &Rows, b: &Bound) -> Option<(u32, usize)>
     ensures some { IfSome result (λ at. (r : TheRecord) × IsRecordAt rows.now.pages b.now.node.0 at.0 at.1 r × IsRecordUnder b.now r) }
     ensures none { IfNone result (IsNoneOf rows.now.pages b.now.node.0 (IsRecordUnder b.now)) }
 {
-    let label = Literals::of(b.label);
     let mut place = rows.first(b.node.0 as u32);
     while let Some(number) = place {
-        if let Some(index) = under_on_page(rows.page(number), b, &label) {
+        if let Some(index) = under_on_page(rows.page(number), b) {
             return Some((number, index));
         }
         place = rows.next(number);
@@ -75,9 +72,8 @@ fn bound_on_page(page: &Page, slot: u32) -> Option<Bound>
 }
 
 // The slot of a record of a page of the bound's time-point that dominates the bound.
-fn over_on_page(page: &Page, b: &Bound, label: &Literals) -> Option<u32>
+fn over_on_page(page: &Page, b: &Bound) -> Option<u32>
     requires page { IsPage page.now }
-    requires label { label.now ≡ b.now.label }
     ensures some { IfSome result (λ s. (i : ℕ) × (r : TheRecord) × (slice_get page.now.records.items i ≡ Some r) × (r.slot ≡ s) × IsRecordOver b.now r) }
     ensures none { IfNone result (IsNoneOn page.now (IsRecordOver b.now)) }
 {
@@ -85,22 +81,20 @@ fn over_on_page(page: &Page, b: &Bound, label: &Literals) -> Option<u32>
         return None;
     }
     let records = page.records.as_slice();
-    let within = page.records.within(label);
-    let mut from = 0;
-    while let Some(i) = first_bit_from(within, from) {
+    let mut rest = page.records.within(b.label);
+    while let Some(i) = first_bit_from(rest, 0) {
         let kept = records[i as usize];
         if b.least <= kept.least {
             return Some(kept.slot);
         }
-        from = i + 1;
+        rest = with_bit(rest, i, false);
     }
     None
 }
 
 // The place of a record of a page of the bound's time-point that the bound dominates.
-fn under_on_page(page: &Page, b: &Bound, label: &Literals) -> Option<usize>
+fn under_on_page(page: &Page, b: &Bound) -> Option<usize>
     requires page { IsPage page.now }
-    requires label { label.now ≡ b.now.label }
     ensures some { IfSome result (λ i. (r : TheRecord) × (slice_get page.now.records.items i ≡ Some r) × IsRecordUnder b.now r) }
     ensures none { IfNone result (IsNoneOn page.now (IsRecordUnder b.now)) }
 {
@@ -108,14 +102,13 @@ fn under_on_page(page: &Page, b: &Bound, label: &Literals) -> Option<usize>
         return None;
     }
     let records = page.records.as_slice();
-    let above = page.records.above(label);
-    let mut from = 0;
-    while let Some(i) = first_bit_from(above, from) {
+    let mut rest = page.records.above(b.label);
+    while let Some(i) = first_bit_from(rest, 0) {
         let kept = records[i as usize];
         if kept.least <= b.least {
             return Some(i as usize);
         }
-        from = i + 1;
+        rest = with_bit(rest, i, false);
     }
     None
 }

@@ -7,7 +7,6 @@ ghost use Rattle.cstn_label.specs.Words.{has_bit};
 ghost use Rattle.cstn_minset.specs.Sheets.{mark_in, IsInside, IsOutside, IsInNone, IsInAll};
 
 use crate::bits::{bits_without, first_bit_from, with_bit};
-use crate::literals::Literals;
 use cstn_label::{Label, Mark, Prop, labels_are_their_marks};
 use std::marker::Model;
 
@@ -69,9 +68,9 @@ impl Sheet {
     }
 
     /// Of these labels, those that are within the other label. `used` is a label within which they all are.
-    pub fn within(&self, front: u64, used: &Literals, label: &Literals) -> u64
-        requires used { (i : ℕ) → IsInside self.now i (marks used.now) }
-        ensures { (i : ℕ) → (has_bit result i ≡ true ↔ ((has_bit front i ≡ true) × IsInside self.now i (marks label.now))) }
+    pub fn within(&self, front: u64, used: Label, label: Label) -> u64
+        requires used { (i : ℕ) → IsInside self.now i (marks used) }
+        ensures { (i : ℕ) → (has_bit result i ≡ true ↔ ((has_bit front i ≡ true) × IsInside self.now i (marks label))) }
     {
         labels_are_their_marks();
         let (used_positive, used_negative) = used.words();
@@ -81,8 +80,8 @@ impl Sheet {
     }
 
     /// Of these labels, those that the other label is within.
-    pub fn above(&self, front: u64, label: &Literals) -> u64
-        ensures { (i : ℕ) → (has_bit result i ≡ true ↔ ((has_bit front i ≡ true) × IsOutside self.now i (marks label.now))) }
+    pub fn above(&self, front: u64, label: Label) -> u64
+        ensures { (i : ℕ) → (has_bit result i ≡ true ↔ ((has_bit front i ≡ true) × IsOutside self.now i (marks label))) }
     {
         labels_are_their_marks();
         let (positive, negative) = label.words();
@@ -104,14 +103,11 @@ fn in_none(front: u64, words: &[u64; 52], numbers: u64) -> u64
     ensures { (i : ℕ) → (has_bit result i ≡ true ↔ ((has_bit front i ≡ true) × IsInNone words.now numbers i)) }
 {
     let mut left = front;
-    let mut from = 0;
-    while let Some(p) = first_bit_from(numbers, from) {
+    let mut rest = numbers;
+    while let Some(p) = first_bit_from(rest, 0) {
         let word = words[p as usize];
         left = bits_without(left, word);
-        if left == 0 {
-            return 0;
-        }
-        from = p + 1;
+        rest = with_bit(rest, p, false);
     }
     left
 }
@@ -122,14 +118,11 @@ fn in_all(front: u64, words: &[u64; 52], numbers: u64) -> u64
     ensures { (i : ℕ) → (has_bit result i ≡ true ↔ ((has_bit front i ≡ true) × IsInAll words.now numbers i)) }
 {
     let mut left = front;
-    let mut from = 0;
-    while let Some(p) = first_bit_from(numbers, from) {
+    let mut rest = numbers;
+    while let Some(p) = first_bit_from(rest, 0) {
         let word = words[p as usize];
         left &= word;
-        if left == 0 {
-            return 0;
-        }
-        from = p + 1;
+        rest = with_bit(rest, p, false);
     }
     left
 }

@@ -1,11 +1,11 @@
 -- The states that lines lead a session to, and what it says to the next line.
-use Rattle.std.specs.Prelude.{◌≡◌, ℕ, ◌+◌, Bool, true, false, if◌then◌else◌, List, [], ◌∷◌, ◌++◌, length, Option, None, Some}
+use Rattle.std.specs.Prelude.{◌≡◌, ◌≤◌, ℕ, ◌+◌, Bool, true, false, if◌then◌else◌, List, [], ◌∷◌, ◌++◌, length, Option, None, Some}
 use Rattle.std.specs.Option.{option_map}
 use Rattle.cstn_io.specs.Contents.{after_bytes, IsAllOf}
 use Rattle.cstn_lines.specs.Pieces.{whole_lines, heard_lines, is_past}
 use Rattle.cstn_lines.specs.Steps.{LinesState}
 use Rattle.cstn_reply.specs.Texts.{Said, after_text}
-use Rattle.cstn_reply.specs.Written.{EndsLine}
+use Rattle.cstn_reply.specs.Written.{LiveState, ReadsLeadOn}
 use Rattle.cstn_reply.specs.Sessions.{Turn, on_turn, play, answers}
 
 -- The state to which these lines lead from the given state, before which there were `count` lines. There is none where one of
@@ -36,21 +36,28 @@ pub record ComesToLine (heard : List (List ℕ) → Option (List ℕ)) (kind : L
   pub within : is_past (length before + 1) next ≡ false
   pub is_kind : kind next ≡ true
 
--- a session over the lines of the live source, which has these bytes, comes to a line of this kind
-abbrev pub MeetsLine : (ends : Bool) → (List (List ℕ) → Option (List ℕ)) → (List ℕ → Bool) → Option (List ℕ) → Type 0
-MeetsLine ends heard kind told = (live : List ℕ) × IsAllOf told live × ComesToLine heard kind (heard_lines ends live)
+-- What is said by an opening and then a session over the lines of the live source, which has these bytes, before it comes to a
+-- line of this kind: `heard` gives the answers to the lines before that one.
+abbrev pub StopsAtLine : (ends : Bool) → (List (List ℕ) → Option (List ℕ)) → (List ℕ → Bool) → List ℕ → Option (List ℕ) → List ℕ → Type 0
+StopsAtLine ends heard kind opening told said =
+    (live : List ℕ) × IsAllOf told live × (comes : ComesToLine heard kind (heard_lines ends live)) × (said ≡ opening ++ comes.said)
+
+-- what is said before an answer for which memory is refused, where only those to lines of this kind may want memory
+abbrev pub session_stops : {S : Type 0} → (ends : Bool) → (S → List ℕ → Turn S) → (List ℕ → Bool) → List ℕ → S → Option (List ℕ) → List ℕ → Type 0
+session_stops ends turn kind opening start told said = StopsAtLine ends (heard turn start) kind opening told said
 
 -- How far a session has come: the bytes that it took are the lines `before`, each of which was answered and leads on, and then
--- the bytes kept.
-pub record Progress {S : Type 0} (ends : Bool) (turn : S → List ℕ → Turn S) (start : S) (told now : Option (List ℕ)) (lines : LinesState) (state : S) (taken said : List ℕ) : Type 0 where
+-- the bytes kept. Unless the source has ended, each read took a byte or more.
+pub record Progress {S : Type 0} (ends : Bool) (turn : S → List ℕ → Turn S) (start : S) (source now : LiveState) (lines : LinesState) (state : S) (taken said : List ℕ) : Type 0 where
   pub before : List (List ℕ)
-  pub read : told ≡ after_bytes taken now
+  pub read : source.left ≡ after_bytes taken now.left
   pub lines_are : (rest : List ℕ) → (lines.ended ≡ true → rest ≡ []) → heard_lines ends (taken ++ rest) ≡ before ++ heard_lines ends (lines.kept ++ rest)
   pub whole_are : (rest : List ℕ) → lines.ended ≡ false → whole_lines (taken ++ rest) ≡ before ++ whole_lines (lines.kept ++ rest)
   pub counts : lines.count ≡ length before
   pub leads : state_after turn start 0 before ≡ Some state
   pub answered : said ≡ answers turn start 0 before
-  pub lines_end : EndsLine said
+  pub reads : ReadsLeadOn (session_heard turn [] start) taken source.reads now.reads
+  pub few : lines.ended ≡ false → now.reads ≤ source.reads + length taken
 
 -- the state in which a session over these lines ends, where `led` gives the state after a line that has the last answer
 abbrev pub ended : {S : Type 0} → (S → List ℕ → Turn S) → (S → List ℕ → S) → S → ℕ → List (List ℕ) → S

@@ -1,5 +1,5 @@
 // Lines of the live source, answered one after another.
-ghost use Rattle.std.specs.Prelude.{◌≡◌, ◌≢◌, ◌⊎◌, ◌≤◌, ◌+◌, ◌++◌, ℕ, List, Option, [], Bool, true, IsTrue, IfOk, IfSome, IfNone, OnErr};
+ghost use Rattle.std.specs.Prelude.{◌≡◌, ◌≢◌, ◌⊎◌, ◌≤◌, ◌+◌, ◌++◌, ℕ, List, [], Bool, true, IsTrue, IfOk, IfSome, IfNone, OnErr};
 ghost use Rattle.std.specs.Prelude.{length, codes};
 ghost use Rattle.std.specs.Option.{option_map};
 ghost use Rattle.cstn_io.specs.Causes.{Rose};
@@ -7,9 +7,9 @@ ghost use Rattle.cstn_io.specs.Contents.{with_bytes, IsAtEnd};
 ghost use Rattle.cstn_lines.specs.Steps.{heard_line};
 ghost use Rattle.cstn_reply.specs.Room.{HasRoom};
 ghost use Rattle.cstn_reply.specs.Texts.{Said, line};
-ghost use Rattle.cstn_reply.specs.Written.{EndsLine, LiveState, IsText, Ends};
+ghost use Rattle.cstn_reply.specs.Written.{EndsLine, LiveState, view, IsText, Ends};
 ghost use Rattle.cstn_reply.specs.Sessions.{Turn, script, session_says, the_turn};
-ghost use Rattle.cstn_reply.specs.Reached.{heard, session_heard, MeetsLine, Progress};
+ghost use Rattle.cstn_reply.specs.Reached.{session_heard, session_stops, Progress};
 
 use crate::output::{Outcome, finish, send};
 use crate::{AnswerText, Status};
@@ -101,21 +101,23 @@ fn next<T: Talk, S: Source>(
     text: &mut AnswerText,
 ) -> Option<Status>
     requires at_end { lines.old.ended ≡ true → IsAtEnd (S.left live.old) }
-    ensures goes_on { IfNone result ((start : T.State) (told : Option (List ℕ)) (taken said : List ℕ)
-        → Progress T.ends T.turn start told (S.left live.old) lines.old (T.state talk.old) taken said
-        → (bytes : List ℕ) × Progress T.ends T.turn start told (S.left live.new) lines.new (T.state talk.new) (taken ++ bytes) (said ++ text.new)) }
+    ensures goes_on { IfNone result ((start : T.State) (before : LiveState) (taken said : List ℕ)
+        → Progress T.ends T.turn start before (view S.left S.faults S.reads live.old) lines.old (T.state talk.old) taken said
+        → (bytes : List ℕ) × Progress T.ends T.turn start before (view S.left S.faults S.reads live.new) lines.new (T.state talk.new) (taken ++ bytes)
+        (said ++ text.new)) }
     ensures ends { IfSome result (λ status. (start : T.State) (before : LiveState) (taken said opening : List ℕ)
-        → Progress T.ends T.turn start before.left (S.left live.old) lines.old (T.state talk.old) taken said → before.faults ≤ S.faults live.old
-        → EndsLine opening → IsText (session_says T.ends T.turn T.ending opening start) (session_heard T.turn opening start) before
-        (record { left = S.left live.new; faults = S.faults live.new }) status ((opening ++ said) ++ text.new)) }
+        → Progress T.ends T.turn start before (view S.left S.faults S.reads live.old) lines.old (T.state talk.old) taken said
+        → before.faults ≤ S.faults live.old
+        → IsText (session_says T.ends T.turn T.ending opening start) (session_heard T.turn opening start)
+        (session_stops T.ends T.turn T.may_stop opening start) before (view S.left S.faults S.reads live.new) status ((opening ++ said) ++ text.new)) }
     ensures at_end { lines.new.ended ≡ true → IsAtEnd (S.left live.new) }
     ensures count { IfNone result ((lines.new.count ≡ lines.old.count + 1) × (lines.new.count ≤ 16777216)) }
     ensures later { S.faults live.old ≤ S.faults live.new }
     ensures read { result ≡ Some Status.ReadFault → Rose (S.faults live.old) (S.faults live.new) }
     ensures write { result ≢ Some Status.WriteFault }
-    ensures memory { result ≡ Some Status.Memory → (start : T.State) (told : Option (List ℕ)) (taken said : List ℕ)
-        → Progress T.ends T.turn start told (S.left live.old) lines.old (T.state talk.old) taken said
-        → MeetsLine T.ends (heard T.turn start) T.may_stop told }
+    ensures memory { result ≡ Some Status.Memory → (start : T.State) (before : LiveState) (taken said opening : List ℕ)
+        → Progress T.ends T.turn start before (view S.left S.faults S.reads live.old) lines.old (T.state talk.old) taken said
+        → session_stops T.ends T.turn T.may_stop opening start before.left (opening ++ said) }
 {
     text.clear();
     match lines.step(live) {
@@ -152,14 +154,14 @@ pub fn converse<T: Talk, S: Source, K: Sink>(
     live: &mut S,
     out: &mut K,
 ) -> Status
-    requires { EndsLine opening.now }
     ensures ends { Ends (session_says T.ends T.turn T.ending opening.now (T.state talk)) (session_heard T.turn opening.now (T.state talk))
-        (record { left = S.left live.old; faults = S.faults live.old })
-        (record { left = S.left live.new; faults = S.faults live.new }) (K.written out.old) (K.written out.new) result }
+        (session_stops T.ends T.turn T.may_stop opening.now (T.state talk)) (view S.left S.faults S.reads live.old) (view S.left S.faults S.reads live.new)
+        (K.written out.old) (K.written out.new) result }
     ensures flushed { result ≢ Status.WriteFault → K.flushed out.new ≡ option_map length (K.written out.new) }
     ensures read { result ≡ Status.ReadFault → Rose (S.faults live.old) (S.faults live.new) }
     ensures write { result ≡ Status.WriteFault → Rose (K.faults out.old) (K.faults out.new) }
-    ensures memory { result ≡ Status.Memory → MeetsLine T.ends (heard T.turn (T.state talk)) T.may_stop (S.left live.old)
+    ensures memory { result ≡ Status.Memory
+        → ((said : List ℕ) × session_stops T.ends T.turn T.may_stop opening.now (T.state talk) (S.left live.old) said)
         ⊎ ((K.written out.new ≡ with_bytes (K.written out.old) (line (codes "memory"))) × (live.new ≡ live.old)) }
     ensures later { (S.faults live.old ≤ S.faults live.new) × (K.faults out.old ≤ K.faults out.new) }
 {

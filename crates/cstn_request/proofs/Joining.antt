@@ -6,12 +6,6 @@ use Rattle.std.proofs.lemmas.List.{append_assoc}
 pub between : (a b : List ℕ) (x : ℕ) → (a ++ x ∷ []) ++ b ≡ a ++ x ∷ b
 between a b x = append_assoc a (x ∷ []) b
 
--- a line of four parts
-pub line_of_four : (a b c d : List ℕ) → a ++ (b ++ (c ++ (d ++ 10 ∷ []))) ≡ (((a ++ b) ++ c) ++ d) ++ 10 ∷ []
-line_of_four a b c d = sym (append_assoc ((a ++ b) ++ c) d (10 ∷ []) ∙ append_assoc (a ++ b) c (d ++ 10 ∷ []) ∙ append_assoc a b (c ++ (d ++ 10 ∷ [])))
-
--- a line of six parts
-pub line_of_six : (a b c d e f : List ℕ) → a ++ (b ++ (c ++ (d ++ (e ++ (f ++ 10 ∷ []))))) ≡ (((((a ++ b) ++ c) ++ d) ++ e) ++ f) ++ 10 ∷ []
-line_of_six a b c d e f =
-    let rest : List ℕ = d ++ (e ++ (f ++ 10 ∷ [])) in
-    sym (append_assoc (a ++ b) c rest ∙ append_assoc a b (c ++ rest)) ∙ line_of_four ((a ++ b) ++ c) d e f
+-- a text of four parts
+pub four_parts : (a b c d : List ℕ) → a ++ (b ++ (c ++ d)) ≡ ((a ++ b) ++ c) ++ d
+four_parts a b c d = sym (append_assoc (a ++ b) c d ∙ append_assoc a b (c ++ d))

@@ -34,7 +34,7 @@ use Rattle.cstn_request.specs.Documents.{AreEmpty, IsRefusalOf, IsLabelsTold}
 use Rattle.cstn_request.specs.Requests.{Asked}
 use Rattle.cstn_request.specs.declared.reading.NamedNetwork.{NamedNetwork}
 use Rattle.cstn_request.specs.declared.reading.NamedLabelled.{NamedLabelled}
-use Rattle.cstn_request.specs.Opened.{IsToldBy, IsFile, IsAsked, IsLabelledOf, IsPlainDocument, IsPlainOf, IsRefusal, IsPlainRefusal, IsTakenOf, TellsLabels, IsLongText}
+use Rattle.cstn_request.specs.Opened.{IsToldBy, IsFile, IsAsked, IsLabelledOf, IsPlainDocument, IsPlainOf, IsRefusal, IsPlainRefusal, IsTakenOf, TellsLabels, IsLongText, IsLongPlan}
 use Rattle.cstn_reply.specs.Read.{the_said}
 use Rattle.cstn_reply.specs.declared.output.Said.{Said as SaidText}
 use Rattle.cstn_reply.specs.declared.output.Outcome.TheVariants.{Document, Script}
@@ -99,6 +99,12 @@ pub long_text : (told : Option (List ℕ → Option (List ℕ))) (name : List �
 long_text told name said long is =
     let found = long_content told name most_text long in
     record { bytes = found.0; content = found.1; there = long_is_there told name most_text long; is = (found.2, is) }
+
+-- a file that is too long for a plan in sentences
+pub long_plan : (told : Option (List ℕ → Option (List ℕ))) (name : List ℕ) (said : SaidText) → IsLongFile told name most_document → the_said said ≡ say Document (codes "plan long") → IsFile told name (IsLongPlan said)
+long_plan told name said long is =
+    let found = long_content told name most_document long in
+    record { bytes = found.0; content = found.1; there = long_is_there told name most_document long; is = (found.2, is) }
 
 -- a file that was read
 pub whole_file : (told : Option (List ℕ → Option (List ℕ))) (name bytes : List ℕ) (holds : List ℕ → Type 0) → IsRead told name bytes → holds bytes → IsFile told name holds

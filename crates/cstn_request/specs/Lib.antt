@@ -5,6 +5,7 @@ pub mod Requests
 pub mod Read
 -- Files and refusals.
 pub mod Files
+pub mod Asked
 pub mod Refusals
 -- Documents, and those that were opened.
 pub mod Documents

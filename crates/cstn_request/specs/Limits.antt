@@ -13,6 +13,6 @@ most_host_cap = 65536
 abbrev pub most_files : ℕ
 most_files = 8
 
--- the most bytes of a document
+-- the most bytes of a document, and of a plan in sentences
 abbrev pub most_document : ℕ
 most_document = 8388608

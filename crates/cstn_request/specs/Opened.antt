@@ -125,3 +125,11 @@ IsTextOf text bytes = (bytes ≡ text) × (length bytes ≤ most_text)
 -- the bytes are a text that is too long, and that is said
 abbrev pub IsLongText : SaidText → List ℕ → Type 0
 IsLongText said bytes = (most_text < length bytes) × (the_said said ≡ say Script (codes "script long"))
+
+-- the bytes are the text of a plan in sentences, which isn't too long
+abbrev pub IsSentencesOf : List ℕ → List ℕ → Type 0
+IsSentencesOf text bytes = (bytes ≡ text) × (length bytes ≤ most_document)
+
+-- the bytes are more than a plan in sentences may have, and that is said
+abbrev pub IsLongPlan : SaidText → List ℕ → Type 0
+IsLongPlan said bytes = (most_document < length bytes) × (the_said said ≡ say Document (codes "plan long"))

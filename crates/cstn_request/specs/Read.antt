@@ -1,12 +1,12 @@
 -- How values of the program are read.
 use Rattle.std.specs.Prelude.{ℕ, List, Option, map, String, string_bytes}
-use Rattle.cstn_request.specs.Requests.{Asked, Taken, Request, of_network, of_labelled, of_text, of_document, drill, host, version, request_of, names_of}
+use Rattle.cstn_request.specs.Requests.{Asked, Taken, Request, of_network, of_labelled, of_text, of_document, of_plan, drill, host, version, request_of, names_of}
 use Rattle.cstn_log.specs.declared.caps.Cap.{Cap}
 use Rattle.cstn_request.specs.declared.words.Asked.{Asked as AskedWords}
 use Rattle.cstn_request.specs.declared.words.Taken.{Taken as TakenWords}
 use Rattle.cstn_request.specs.declared.words.Release.{Release}
 use Rattle.cstn_request.specs.declared.words.Request.{Request as RequestWords}
-use Rattle.cstn_request.specs.declared.words.Request.TheVariants.{OfNetwork, OfLabelled, OfText, OfDocument, Drill, Host, Version}
+use Rattle.cstn_request.specs.declared.words.Request.TheVariants.{OfNetwork, OfLabelled, OfText, OfDocument, OfPlan, Drill, Host, Version}
 
 -- the file and the deadline that are asked for
 abbrev pub the_asked : AskedWords → Asked
@@ -25,6 +25,7 @@ the_request (OfNetwork verb asked cap) = of_network verb (the_asked asked) cap.e
 the_request (OfLabelled verb asked cap) = of_labelled verb (the_asked asked) cap.entries
 the_request (OfText verb asked proof) = of_text verb (the_asked asked) proof.now
 the_request (OfDocument verb asked) = of_document verb (the_asked asked)
+the_request (OfPlan asked) = of_plan (the_asked asked)
 the_request (Drill number) = drill number
 the_request (Host files deadline cap) = host (map string_bytes files.names.now) deadline cap.entries
 the_request (Version release) = version release

@@ -25,34 +25,42 @@ refusal_text (contingent at) = at_place 7 at
 refusal_text (edge_type at) = at_place 8 at
 refusal_text no_deadline = codes "document X9"
 
--- a refusal of the document's network, with a number
+-- why a network is refused, with a number
 abbrev pub with_number : ℕ → ℕ → List ℕ
-with_number kind n = codes "document X10 N" ++ decimal kind ++ codes " " ++ decimal n
+with_number kind n = codes "N" ++ decimal kind ++ codes " " ++ decimal n
 
 -- the name of a time-point in its printed form
 abbrev pub printed : List (List ℕ) → ℕ → List ℕ
 printed names x = printed_name (slice_index_or names x [])
 
+-- why a network is refused, under the names of its time-points
+abbrev pub network_fault : List (List ℕ) → NetError → List ℕ
+network_fault names TooManyNodes = codes "N1"
+network_fault names NoOrigin = codes "N2"
+network_fault names TooManyConstraints = codes "N3"
+network_fault names (DeadlineRange deadline) = with_number 4 deadline
+network_fault names (ValueRange constraint) = with_number 5 constraint
+network_fault names (NotObserved prop) = codes "N6 " ++ letter_of prop.index ∷ []
+network_fault names (TwoObservers prop first second) =
+    codes "N7 " ++ letter_of prop.index ∷ 32 ∷ printed names first.0 ++ 32 ∷ printed names second.0
+network_fault names (NotPlain constraint) = with_number 8 constraint
+network_fault names (ReactionRange node) = codes "N9 " ++ printed names node.0
+network_fault names (Memory e) = []
+
+-- why the labels of time-points are refused, under the names of these
+abbrev pub label_fault : List (List ℕ) → LiftError → List ℕ
+label_fault names OriginLabel = codes "L1"
+label_fault names (NotPlainLabel node) = codes "L2 " ++ printed names node.0
+label_fault names (NotObservedLabel node prop) = codes "L3 " ++ printed names node.0 ++ 32 ∷ letter_of prop.index ∷ []
+label_fault names (Circle node) = codes "L4 " ++ printed names node.0
+label_fault names (Never node) = codes "L5 " ++ printed names node.0
+label_fault names TooManyLowered = codes "L6"
+label_fault names (NoMemory e) = []
+
 -- a refusal of the document's network, under the names of its time-points
 abbrev pub fault_text : List (List ℕ) → NetError → List ℕ
-fault_text names TooManyNodes = codes "document X10 N1"
-fault_text names NoOrigin = codes "document X10 N2"
-fault_text names TooManyConstraints = codes "document X10 N3"
-fault_text names (DeadlineRange deadline) = with_number 4 deadline
-fault_text names (ValueRange constraint) = with_number 5 constraint
-fault_text names (NotObserved prop) = codes "document X10 N6 " ++ letter_of prop.index ∷ []
-fault_text names (TwoObservers prop first second) =
-    codes "document X10 N7 " ++ letter_of prop.index ∷ 32 ∷ printed names first.0 ++ 32 ∷ printed names second.0
-fault_text names (NotPlain constraint) = with_number 8 constraint
-fault_text names (ReactionRange node) = codes "document X10 N9 " ++ printed names node.0
-fault_text names (Memory e) = []
+fault_text names error = codes "document X10 " ++ network_fault names error
 
 -- a refusal of the labels of the document's time-points, under their names
 abbrev pub label_fault_text : List (List ℕ) → LiftError → List ℕ
-label_fault_text names OriginLabel = codes "document X12 L1"
-label_fault_text names (NotPlainLabel node) = codes "document X12 L2 " ++ printed names node.0
-label_fault_text names (NotObservedLabel node prop) = codes "document X12 L3 " ++ printed names node.0 ++ 32 ∷ letter_of prop.index ∷ []
-label_fault_text names (Circle node) = codes "document X12 L4 " ++ printed names node.0
-label_fault_text names (Never node) = codes "document X12 L5 " ++ printed names node.0
-label_fault_text names TooManyLowered = codes "document X12 L6"
-label_fault_text names (NoMemory e) = []
+label_fault_text names error = codes "document X12 " ++ label_fault names error

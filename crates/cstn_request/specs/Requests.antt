@@ -13,7 +13,7 @@ use Rattle.cstn_request.specs.declared.words.LabelledVerb.TheVariants.{Follow, R
 use Rattle.cstn_request.specs.declared.words.TextVerb.{TextVerb}
 use Rattle.cstn_request.specs.declared.words.TextVerb.TheVariants.{Replay, Closedcheck, Treecheck}
 use Rattle.cstn_request.specs.declared.words.DocumentVerb.{DocumentVerb}
-use Rattle.cstn_request.specs.declared.words.DocumentVerb.TheVariants.{Save}
+use Rattle.cstn_request.specs.declared.words.DocumentVerb.TheVariants.{Save, Sentences}
 
 -- the two texts are the same
 abbrev pub is_same : List ℕ → List ℕ → Bool
@@ -25,14 +25,15 @@ pub record Asked : Type 0 where
   pub deadline : Option ℕ
 
 -- A request: what is asked of a network, by the file of its document with the deadline that is to hold, and how many entries a log may
--- have; of a labelled network, likewise; of a network and the file of a text that is to be checked against it; of a document alone; or
--- the number of a drill; or the files of a host, with the deadline that is to hold for each and how many entries the log of each may
--- have; or what the program is.
+-- have; of a labelled network, likewise; of a network and the file of a text that is to be checked against it; of a document alone; of
+-- a plan in sentences, by its file with the deadline that is to hold; or the number of a drill; or the files of a host, with the deadline
+-- that is to hold for each and how many entries the log of each may have; or what the program is.
 pub data Request : Type 0 where
   of_network : NetworkVerb → Asked → ℕ → Request
   of_labelled : LabelledVerb → Asked → ℕ → Request
   of_text : TextVerb → Asked → List ℕ → Request
   of_document : DocumentVerb → Asked → Request
+  of_plan : Asked → Request
   drill : ℕ → Request
   host : List (List ℕ) → Option ℕ → ℕ → Request
   version : Release → Request
@@ -73,6 +74,9 @@ treecheck asked proof = of_text Treecheck asked proof
 
 abbrev pub save : Asked → Request
 save asked = of_document Save asked
+
+abbrev pub sentences : Asked → Request
+sentences asked = of_document Sentences asked
 
 -- the time-points of the network may have labels: it is then lowered
 abbrev pub network_labels : NetworkVerb → Bool
@@ -181,6 +185,8 @@ capped_at command found =
 abbrev pub request_at : Release → List ℕ → List (List ℕ) → Option Request
 request_at release command rest =
     if is_same command (codes "save") then option_map save (asked_of rest)
+    else if is_same command (codes "sentences") then option_map sentences (asked_of rest)
+    else if is_same command (codes "plan") then option_map of_plan (asked_of rest)
     else if is_same command (codes "replay") then option_map (λ found. replay found.0 found.1) (checked_of rest)
     else if is_same command (codes "closedcheck") then option_map (λ found. closedcheck found.0 found.1) (checked_of rest)
     else if is_same command (codes "treecheck") then option_map (λ found. treecheck found.0 found.1) (checked_of rest)
@@ -200,6 +206,7 @@ files_of (of_network verb asked cap) = asked.file ∷ []
 files_of (of_labelled verb asked cap) = asked.file ∷ []
 files_of (of_text verb asked proof) = asked.file ∷ proof ∷ []
 files_of (of_document verb asked) = asked.file ∷ []
+files_of (of_plan asked) = asked.file ∷ []
 files_of (drill number) = []
 files_of (host files deadline cap) = files
 files_of (version release) = []

@@ -8,6 +8,7 @@ ghost use Rattle.cstn_reply.specs.declared.output.Said.{Said as SaidText};
 ghost use Rattle.cstn_reply.specs.Read.{the_said};
 ghost use Rattle.cstn_reply.specs.Texts.{say};
 ghost use Rattle.cstn_request.specs.Read.{the_asked};
+ghost use Rattle.cstn_request.specs.Asked.{AsksOnce};
 ghost use Rattle.cstn_request.specs.Opened.{IsAsked, IsLabelledOf, IsLoweredOf, IsPlainOf, IsNetworkOf, IsRefusal, IsPlainRefusal, IsNetworkRefusal, IsTakenOf, TellsLabels};
 
 use crate::refusals::refuse;
@@ -32,6 +33,7 @@ pub fn open<F: Shelf>(
     ensures opened { IfOk result (λ d. IsAsked (F.files shelf.old) (the_asked asked.entry) (λ bytes deadline. IsPlainOf bytes deadline d)) }
     ensures refused { (said : SaidText) → result ≡ Err (Unread.Told said)
         → IsAsked (F.files shelf.old) (the_asked asked.entry) (λ bytes deadline. IsPlainRefusal bytes deadline said) }
+    ensures once { AsksOnce asked.entry.file.now (F.asked shelf.old) (F.asked shelf.new) result }
     ensures names { F.may_ask shelf.new ≡ F.may_ask shelf.old }
     ensures files { F.files shelf.new ≡ F.files shelf.old }
     ensures later { F.faults shelf.old ≤ F.faults shelf.new }
@@ -52,6 +54,7 @@ pub fn open_lowered<F: Shelf>(
     ensures opened { IfOk result (λ d. IsAsked (F.files shelf.old) (the_asked asked.entry) (λ bytes deadline. IsLoweredOf bytes deadline d)) }
     ensures refused { (said : SaidText) → result ≡ Err (Unread.Told said)
         → IsAsked (F.files shelf.old) (the_asked asked.entry) (λ bytes deadline. IsRefusal bytes deadline said) }
+    ensures once { AsksOnce asked.entry.file.now (F.asked shelf.old) (F.asked shelf.new) result }
     ensures names { F.may_ask shelf.new ≡ F.may_ask shelf.old }
     ensures files { F.files shelf.new ≡ F.files shelf.old }
     ensures later { F.faults shelf.old ≤ F.faults shelf.new }
@@ -77,6 +80,7 @@ pub fn open_network<F: Shelf>(
     ensures opened { IfOk result (λ d. IsAsked (F.files shelf.old) (the_asked asked.entry) (λ bytes deadline. IsNetworkOf takes_labels bytes deadline d)) }
     ensures refused { (said : SaidText) → result ≡ Err (Unread.Told said)
         → IsAsked (F.files shelf.old) (the_asked asked.entry) (λ bytes deadline. IsNetworkRefusal takes_labels bytes deadline said) }
+    ensures once { AsksOnce asked.entry.file.now (F.asked shelf.old) (F.asked shelf.new) result }
     ensures names { F.may_ask shelf.new ≡ F.may_ask shelf.old }
     ensures files { F.files shelf.new ≡ F.files shelf.old }
     ensures later { F.faults shelf.old ≤ F.faults shelf.new }
@@ -99,6 +103,7 @@ pub fn open_labelled<F: Shelf>(
     ensures opened { IfOk result (λ d. IsAsked (F.files shelf.old) (the_asked asked.entry) (λ bytes deadline. IsLabelledOf bytes deadline d)) }
     ensures refused { (said : SaidText) → result ≡ Err (Unread.Told said)
         → IsAsked (F.files shelf.old) (the_asked asked.entry) (λ bytes deadline. IsRefusal bytes deadline said) }
+    ensures once { AsksOnce asked.entry.file.now (F.asked shelf.old) (F.asked shelf.new) result }
     ensures names { F.may_ask shelf.new ≡ F.may_ask shelf.old }
     ensures files { F.files shelf.new ≡ F.files shelf.old }
     ensures later { F.faults shelf.old ≤ F.faults shelf.new }

@@ -11,7 +11,8 @@ mod words;
 pub use documents::{open, open_labelled, open_lowered, open_network};
 pub use files::HostFiles;
 pub use reading::{NamedLabelled, NamedNetwork, Unread};
-pub use texts::read_text;
+pub use refusals::{label_fault, network_fault, refusal};
+pub use texts::{read_sentences, read_text};
 pub use words::{
     Asked, DocumentVerb, LabelledVerb, NetworkVerb, Release, Request, TextVerb, parse,
 };

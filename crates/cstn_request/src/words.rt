@@ -4,7 +4,7 @@ ghost use Rattle.std.specs.Option.{option_map, option_and_then, unwrap_or};
 ghost use Rattle.cstn_net.specs.Limits.{most_load};
 ghost use Rattle.cstn_request.specs.Requests.{number_within, value_at, option_at, deadline_at, cap_at, deadline_of, cap_of};
 ghost use Rattle.cstn_request.specs.Requests.{asked_of, capped_of, capped_at, checked_of, drill_of, request_at};
-ghost use Rattle.cstn_request.specs.Requests.{of_network, of_labelled, of_text, of_document, network_labels, text_labels};
+ghost use Rattle.cstn_request.specs.Requests.{of_network, of_labelled, of_text, of_document, of_plan, network_labels, text_labels};
 ghost use Rattle.cstn_request.specs.Requests.{hosted_of, host_of, version_of};
 ghost use Rattle.cstn_request.specs.Limits.{usual_cap};
 ghost use Rattle.cstn_request.specs.Read.{the_asked, the_capped, the_taken, the_request, request_in};
@@ -82,10 +82,11 @@ impl TextVerb {
 #[derive(Clone, Copy)]
 pub enum DocumentVerb {
     Save,
+    Sentences,
 }
 
 /// What the words ask for, by what they name: a document, with how many entries a log may have, with a text, or with no more; a
-/// number; files; or nothing but the program.
+/// plan in sentences; a number; files; or nothing but the program.
 #[derive(Clone, Copy)]
 pub enum Request<'a> {
     OfNetwork {
@@ -107,6 +108,7 @@ pub enum Request<'a> {
         verb: DocumentVerb,
         asked: Asked<'a>,
     },
+    OfPlan(Asked<'a>),
     Drill(u64),
     Host {
         files: HostFiles<'a>,
@@ -143,6 +145,8 @@ fn request_at<'a>(release: Release, command: &str, rest: &'a [String]) -> Option
 {
     match command {
         "save" => document_request(DocumentVerb::Save, rest),
+        "sentences" => document_request(DocumentVerb::Sentences, rest),
+        "plan" => plan_request(rest),
         "replay" => text_request(TextVerb::Replay, rest),
         "closedcheck" => text_request(TextVerb::Closedcheck, rest),
         "treecheck" => text_request(TextVerb::Treecheck, rest),
@@ -159,6 +163,14 @@ fn document_request(verb: DocumentVerb, words: &[String]) -> Option<Request<'_>>
 {
     let asked = asked_of(words)?;
     Some(Request::OfDocument { verb, asked })
+}
+
+// The request for the document of a plan in sentences, by the words after it.
+fn plan_request(words: &[String]) -> Option<Request<'_>>
+    ensures request { option_map the_request result ≡ option_map of_plan (asked_of (map string_bytes words.now)) }
+{
+    let asked = asked_of(words)?;
+    Some(Request::OfPlan(asked))
 }
 
 // The request of a verb that takes a document and a text, by the words after it.

@@ -18,7 +18,8 @@ ghost use Rattle.cstn_reply.specs.declared.output.Outcome.TheVariants.{Good, Unf
 ghost use Rattle.cstn_check.specs.Decisions.{verdict};
 ghost use Rattle.cstn_exec.specs.Running.{run_turn, run_ending};
 ghost use Rattle.cstn_run.specs.Sessions.{guide_turn, guide_ending};
-ghost use Rattle.cstn_run.specs.Meanings.{GuidesTo, GuideNamesLeast, AcceptsExactly, SeesExactly, GuideTellsDue, IsTimely, said_to, EndsUnfinished, IsCarriedThrough};
+ghost use Rattle.cstn_run.specs.Meanings.{GuidesTo, GuideNamesLeast, AcceptsExactly, SeesExactly, GuideTellsDue};
+ghost use Rattle.cstn_run.specs.Meanings.{IsTimely, said_to, EndsUnfinished, IsCarriedThrough};
 
 /// After yes, the live bounds of the log of the lowered network are those of a plan.
 pub fn yes_is_planned()

@@ -14,7 +14,7 @@ use Rattle.cstn_check.specs.Growth.{log_of, load_of, live_bounds}
 use Rattle.cstn_check.specs.declared.verdicts.Verdict.{Verdict}
 use Rattle.cstn_check.specs.declared.verdicts.Verdict.TheVariants.{Yes}
 use Rattle.cstn_reply.specs.Texts.{Said, yes_line}
-use Rattle.cstn_top.specs.Plans.{Plan, says, ComesTo, session}
+use Rattle.cstn_top.specs.Plans.{Plan, says, ComesTo, wanting_session}
 use Rattle.cstn_top.specs.Answers.{on_verdict, unless_said}
 use Rattle.cstn_top.specs.commands.Host.{on_verdicts, attended}
 use Rattle.cstn_top.specs.Prepared.{the_plan, FitsKind}
@@ -26,7 +26,7 @@ use Rattle.cstn_exec.specs.Running.{AreShort}
 use Rattle.cstn_check.specs.Decisions.{verdict, TellsVerdict}
 use Rattle.cstn_check.specs.declared.decisions.Judged.TheVariants.{Told}
 use Rattle.cstn_run.specs.hosted.Hosts.{no_plan}
-use Rattle.cstn_run.specs.hosted.Sessions.{File, HostSession, begun as begun_session, host_turn, host_ending}
+use Rattle.cstn_run.specs.hosted.Sessions.{File, HostSession, begun as begun_session, host_turn, host_wants, host_ending}
 use Rattle.cstn_run.specs.hosted.Files.{Named, the_file, yes_lines}
 use Rattle.cstn_run.specs.hosted.SessionRead.{the_planned, the_files, the_names, the_host_session, IsHostSession}
 use Rattle.cstn_top.specs.Begun.{HasBegun, the_named, IsBegin, IsSound}
@@ -43,8 +43,8 @@ files_more (p ∷ ps) [] plan texts same = absurd (omega (arith, same))
 files_more (p ∷ ps) (n ∷ ns) plan texts same = ap (λ (fs : List File). the_planned p n ∷ fs) (files_more ps ns plan texts (omega (arith, same)))
 
 -- plans with printed names, and one more plan with its printed names
-ward_more : (plans : List PlanParts) (names : List (List (List ℕ))) (plan : PlanParts) (texts : List (List ℕ)) → IsHostSession plans names → AreShort plan.net texts → IsHostSession (plans ++ plan ∷ []) (names ++ texts ∷ [])
-ward_more plans names plan texts is short =
+hosted_more : (plans : List PlanParts) (names : List (List (List ℕ))) (plan : PlanParts) (texts : List (List ℕ)) → IsHostSession plans names → AreShort plan.net texts → IsHostSession (plans ++ plan ∷ []) (names ++ texts ∷ [])
+hosted_more plans names plan texts is short =
     let many = is.as_many in
     let more = length-append plans (plan ∷ []) in
     let texts_more = length-append names (texts ∷ []) in
@@ -82,7 +82,7 @@ begun_none cap begun opening plans names = record {
   opening = opening;
   files = ap (λ (ps : List PlanParts). the_files ps (the_names begun.names.items)) plans;
   many = ap length plans;
-  ward = record { as_many = ap (λ ns. length (the_names ns)) names ∙ sym (ap length plans); short = λ k inside. absurd (let none = ap length plans in omega (arith, inside, none)) };
+  hosted = record { as_many = ap (λ ns. length (the_names ns)) names ∙ sym (ap length plans); short = λ k inside. absurd (let none = ap length plans in omega (arith, inside, none)) };
   verdicts = λ after_yes rest. refl;
 }
 
@@ -101,13 +101,13 @@ begun_more cap all old new net check_net names load plan so_far yes' load_is sam
       files =
           ap (λ (ps : List PlanParts). the_files ps (the_names new.names.items)) plans_are
           ∙ ap (λ (ns : List (List (List ℕ))). the_files (old.plans.items ++ plan ∷ []) ns) names_are
-          ∙ files_more old.plans.items (the_names old.names.items) plan (map printed_name names) so_far.ward.as_many
+          ∙ files_more old.plans.items (the_names old.names.items) plan (map printed_name names) so_far.hosted.as_many
           ∙ ap (λ (fs : List File). fs ++ the_planned plan (map printed_name names) ∷ []) so_far.files
           ∙ ap (λ (n : Network). map the_file all ++ record { names = map printed_name names; net = n; bounds = the_bounds plan.bounds } ∷ []) net_is
           ∙ ap (λ (bs : List Bound). map the_file all ++ record { names = map printed_name names; net = the_network net; bounds = bs } ∷ []) bounds_are
           ∙ sym (map-append the_file all (one ∷ []));
       many = let was = so_far.many in let more = length-append old.plans.items (plan ∷ []) in let all_more = length-append all (one ∷ []) in let is = ap length plans_are in omega (arith, was, more, all_more, is);
-      ward = subst (λ (ps : List PlanParts). IsHostSession ps (the_names new.names.items)) (sym plans_are) (subst (λ (ns : List (List (List ℕ))). IsHostSession (old.plans.items ++ plan ∷ []) ns) (sym names_are) (ward_more old.plans.items (the_names old.names.items) plan (map printed_name names) so_far.ward short));
+      hosted = subst (λ (ps : List PlanParts). IsHostSession ps (the_names new.names.items)) (sym plans_are) (subst (λ (ns : List (List (List ℕ))). IsHostSession (old.plans.items ++ plan ∷ []) ns) (sym names_are) (hosted_more old.plans.items (the_names old.names.items) plan (map printed_name names) so_far.hosted short));
       verdicts = λ after_yes rest.
           ap (λ (ns : List Named). on_verdicts cap after_yes ns) (append_assoc all (one ∷ []) rest)
           ∙ so_far.verdicts after_yes (one ∷ rest)
@@ -131,7 +131,7 @@ sound_at all front later document sound is =
 
 -- the session after yes of all networks
 abbrev pub attending : List Named → Plan
-attending all = session host_turn host_ending (yes_lines all) (begun_session (map the_file all))
+attending all = wanting_session host_wants host_turn host_ending (yes_lines all) (begun_session (map the_file all))
 
 -- a verdict that isn't yes
 pub told_at : (cap : ℕ) (all front later : List NamedNetwork) (document : NamedNetwork) (begun : Begun) (said : SaidText) → all ≡ front ++ document ∷ later → HasBegun cap (map the_named front) begun → TellsVerdict cap document.names document.network (Told said) → ComesTo (attended cap (map the_named all)) (says (the_said said))
@@ -140,7 +140,7 @@ told_at cap all front later document begun said all_is so_far decided =
     ap (λ (ns : List Named). on_verdicts cap (attending (map the_named all)) ns) (ap (map the_named) all_is ∙ map-append the_named front (document ∷ later))
     ∙ so_far.verdicts (attending (map the_named all)) (the_named document ∷ map the_named later)
     ∙ ap (λ (o : Option Said). unless_said o (on_verdicts cap (attending (map the_named all)) (map the_named later))) decided in
-    subst (λ (p : Plan). ComesTo p (says (the_said said))) (sym same) (record { output = λ live s is. is; talks = λ may. may; fault = λ may taken. refl })
+    subst (λ (p : Plan). ComesTo p (says (the_said said))) (sym same) (record { output = λ live s is. is; talks = λ may. may; fault = λ may taken. refl; stops = λ told said is. is })
 
 -- all verdicts were yes
 pub all_begun : {E : Type 0} (cap : ℕ) (all front : List NamedNetwork) (begun : Begun) (r : Result Prepared E) → all ≡ front → HasBegun cap (map the_named front) begun → IfOk r (IsBegin begun) → IfOk r (λ prepared. ComesTo (attended cap (map the_named all)) (the_plan prepared))
@@ -149,15 +149,15 @@ all_begun cap all front begun (Ok (Says said)) all_is so_far is = absurd is
 all_begun cap all front begun (Ok (Runs opening run)) all_is so_far is = absurd is
 all_begun cap all front begun (Ok (Edits editing)) all_is so_far is = absurd is
 all_begun cap all front begun (Ok (Follows opening session')) all_is so_far is = absurd is
-all_begun cap all front begun (Ok (Hosts opening ward)) all_is so_far is =
+all_begun cap all front begun (Ok (Hosts opening hosted)) all_is so_far is =
     let named : List Named = map the_named front in
-    let same : attended cap (map the_named all) ≡ session host_turn host_ending opening.items (the_host_session ward) =
+    let same : attended cap (map the_named all) ≡ wanting_session host_wants host_turn host_ending opening.items (the_host_session hosted) =
     ap (λ (ds : List NamedNetwork). attended cap (map the_named ds)) all_is
     ∙ ap (λ (ns : List Named). on_verdicts cap (attending named) ns) (sym (nothing_more named))
     ∙ so_far.verdicts (attending named) []
-    ∙ ap (λ (o : List ℕ). session host_turn host_ending o (begun_session (map the_file named))) (sym (ap (λ (v : Vec ℕ Global). v.items) is.0 ∙ so_far.opening))
-    ∙ ap (λ (w : HostSession). session host_turn host_ending opening.items w) (sym (is.1 ∙ ap begun_session so_far.files)) in
-    subst (λ (p : Plan). ComesTo p (session host_turn host_ending opening.items (the_host_session ward))) (sym same) (record { output = λ live s is. is; talks = λ may. may; fault = λ may taken. refl })
+    ∙ ap (λ (o : List ℕ). wanting_session host_wants host_turn host_ending o (begun_session (map the_file named))) (sym (ap (λ (v : Vec ℕ Global). v.items) is.0 ∙ so_far.opening))
+    ∙ ap (λ (w : HostSession). wanting_session host_wants host_turn host_ending opening.items w) (sym (is.1 ∙ ap begun_session so_far.files)) in
+    subst (λ (p : Plan). ComesTo p (wanting_session host_wants host_turn host_ending opening.items (the_host_session hosted))) (sym same) (record { output = λ live s is. is; talks = λ may. may; fault = λ may taken. refl; stops = λ told said is. is })
 
 -- the lines that say yes are whole lines
 yes_ends : (all : List Named) → EndsLine (yes_lines all)
@@ -174,4 +174,4 @@ opening_ends cap all begun (Ok (Says said)) so_far is = absurd is
 opening_ends cap all begun (Ok (Runs opening run)) so_far is = absurd is
 opening_ends cap all begun (Ok (Edits editing)) so_far is = absurd is
 opening_ends cap all begun (Ok (Follows opening session')) so_far is = absurd is
-opening_ends cap all begun (Ok (Hosts opening ward)) so_far is = (subst EndsLine (sym (ap (λ (v : Vec ℕ Global). v.items) is.0 ∙ so_far.opening)) (yes_ends all), refl)
+opening_ends cap all begun (Ok (Hosts opening hosted)) so_far is = (subst EndsLine (sym (ap (λ (v : Vec ℕ Global). v.items) is.0 ∙ so_far.opening)) (yes_ends all), refl)

@@ -4,7 +4,7 @@ use Rattle.std.specs.Prelude.{Option, Some, IfSome}
 use Rattle.cstn_request.specs.Requests.{Request}
 use Rattle.cstn_request.specs.Read.{the_request}
 use Rattle.cstn_request.specs.declared.words.Request.{Request as RequestWords}
-use Rattle.cstn_request.specs.declared.words.Request.TheVariants.{OfNetwork, OfLabelled, OfText, OfDocument, Drill, Host, Version}
+use Rattle.cstn_request.specs.declared.words.Request.TheVariants.{OfNetwork, OfLabelled, OfText, OfDocument, OfPlan, Drill, Host, Version}
 use Rattle.cstn_top.specs.Meanings.{IsRanged}
 
 -- a request that the words give has its cap in range
@@ -13,6 +13,7 @@ request_ranged (OfNetwork verb asked cap) = cap.most
 request_ranged (OfLabelled verb asked cap) = cap.most
 request_ranged (OfText verb asked proof) = tt
 request_ranged (OfDocument verb asked) = tt
+request_ranged (OfPlan asked) = tt
 request_ranged (Drill number) = tt
 request_ranged (Host files deadline cap) = cap.most
 request_ranged (Version release) = tt

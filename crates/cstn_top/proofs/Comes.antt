@@ -18,7 +18,7 @@ use Rattle.cstn_request.specs.Documents.{AreUnlabelled, IsRefusalOf, IsSaidOf, I
 use Rattle.cstn_request.specs.Opened.{IsLabelledOf, IsLoweredOf, IsPlainOf, IsRefusal, IsPlainRefusal}
 use Rattle.cstn_request.specs.declared.reading.NamedNetwork.{NamedNetwork}
 use Rattle.cstn_request.specs.declared.reading.NamedLabelled.{NamedLabelled}
-use Rattle.cstn_top.specs.Plans.{Plan, says, judges, unlabelled, IsOutput, ComesTo}
+use Rattle.cstn_top.specs.Plans.{Plan, Form, a_document, says, judges, unlabelled, IsOutput, ComesTo}
 use Rattle.cstn_top.specs.Answers.{Answer, LabelledAnswer, of_plain, of_lowered, judged, on_labelled, on_document}
 
 within : (n m : ℕ) (plan other : Plan) → m ≤ n → (if nat_lt n m then plan else other) ≡ other
@@ -57,7 +57,7 @@ plain_refusal_output answer bytes deadline said (inr (short, is)) live =
 
 -- a plan says what it says itself
 pub comes_itself : (plan : Plan) → ComesTo plan plan
-comes_itself plan = record { output = λ live said is. is; talks = λ may. may; fault = λ may taken. refl }
+comes_itself plan = record { output = λ live said is. is; talks = λ may. may; fault = λ may taken. refl; stops = λ told said is. is }
 
 pub comes_same : (plan other : Plan) → other ≡ plan → ComesTo plan other
 comes_same plan other is = subst (ComesTo plan) (sym is) (comes_itself plan)
@@ -68,14 +68,16 @@ comes_to_text plan said output = record {
   output = λ live other is. subst (λ (s : Said). IsOutput plan live s) (sym is) (output live);
   talks = λ may. absurd may;
   fault = λ may taken. absurd may;
+  stops = λ told said is. absurd is;
 }
 
 -- what is said of the parts of a document, where they make a network without labels
-judges_comes : (parts : Parts) (plan other : Plan) → AreUnlabelled parts → ComesTo plan other → ComesTo (judges parts (unlabelled parts.labels plan)) other
+judges_comes : (parts : Parts) (plan other : Plan) → AreUnlabelled parts → ComesTo plan other → ComesTo (judges a_document parts (unlabelled parts.labels plan)) other
 judges_comes parts plan other good comes = record {
   output = λ live said is. inl (good.0, inl (good.1, comes.output live said is));
   talks = λ may. (good.0, (good.1, comes.talks may));
   fault = λ may taken. comes.fault may taken;
+  stops = λ told said is. (good.0, (good.1, comes.stops told said is));
 }
 
 -- what is said of a document that was accepted
@@ -83,34 +85,35 @@ pub accepted_comes : (answer : Answer) (bytes : List ℕ) (deadline : Option ℕ
 accepted_comes answer bytes deadline d plan opens comes =
     let is = opens.is in
     let parts : Parts = is.parts in
-    let same : on_document answer bytes deadline ≡ judges parts (unlabelled parts.labels (answer d.names (the_network d.network))) =
+    let same : on_document answer bytes deadline ≡ judges a_document parts (unlabelled parts.labels (answer d.names (the_network d.network))) =
     short_document (of_plain answer) bytes deadline opens.short
     ∙ ap (judged (of_plain answer)) is.told_are
-    ∙ ap (λ (ns : List (List ℕ)). judges parts (unlabelled parts.labels (answer ns (network_of parts)))) (sym is.names_are)
-    ∙ ap (λ (n : Network). judges parts (unlabelled parts.labels (answer d.names n))) (sym is.network_is) in
+    ∙ ap (λ (ns : List (List ℕ)). judges a_document parts (unlabelled parts.labels (answer ns (network_of parts)))) (sym is.names_are)
+    ∙ ap (λ (n : Network). judges a_document parts (unlabelled parts.labels (answer d.names n))) (sym is.network_is) in
     subst (λ (p : Plan). ComesTo p plan) (sym same) (judges_comes parts (answer d.names (the_network d.network)) plan is.unlabelled comes)
 
 -- what is said of a document that was refused
 pub told_comes : (answer : Answer) (bytes : List ℕ) (deadline : Option ℕ) (said : SaidText) → IsPlainRefusal bytes deadline said → ComesTo (on_document answer bytes deadline) (says (the_said said))
 told_comes answer bytes deadline said opens = comes_to_text (on_document answer bytes deadline) (the_said said) (plain_refusal_output answer bytes deadline (the_said said) opens.0)
 
--- what is said of the parts of a document, where they make a labelled network
-fit_comes : (parts : Parts) (plan other : Plan) → IsFit parts → ComesTo plan other → ComesTo (judges parts plan) other
-fit_comes parts plan other fit comes = record {
+-- what is said of the parts of a file, where they make a labelled network
+pub fit_comes : (form : Form) (parts : Parts) (plan other : Plan) → IsFit parts → ComesTo plan other → ComesTo (judges form parts plan) other
+fit_comes form parts plan other fit comes = record {
   output = λ live said is. inl (fit, comes.output live said is);
   talks = λ may. (fit, comes.talks may);
   fault = λ may taken. comes.fault may taken;
+  stops = λ told said is. (fit, comes.stops told said is);
 }
 
 -- what is said of a labelled network
 document_comes : (answer : LabelledAnswer) (bytes : List ℕ) (deadline : Option ℕ) (m : Labelled) (names : List (List ℕ)) (plan : Plan) → length bytes ≤ most_document → IsDocument (document bytes deadline) m names → ComesTo (answer names m) plan → ComesTo (on_labelled answer bytes deadline) plan
 document_comes answer bytes deadline m names plan short is comes =
-    let same : on_labelled answer bytes deadline ≡ judges is.parts (answer names m) =
+    let same : on_labelled answer bytes deadline ≡ judges a_document is.parts (answer names m) =
     short_document answer bytes deadline short
     ∙ ap (judged answer) is.told_are
-    ∙ ap (λ (ns : List (List ℕ)). judges is.parts (answer ns (labelled_of is.parts))) (sym is.names_are)
-    ∙ ap (λ (l : Labelled). judges is.parts (answer names l)) (sym is.labelled_is) in
-    subst (λ (p : Plan). ComesTo p plan) (sym same) (fit_comes is.parts (answer names m) plan is.fit comes)
+    ∙ ap (λ (ns : List (List ℕ)). judges a_document is.parts (answer ns (labelled_of is.parts))) (sym is.names_are)
+    ∙ ap (λ (l : Labelled). judges a_document is.parts (answer names l)) (sym is.labelled_is) in
+    subst (λ (p : Plan). ComesTo p plan) (sym same) (fit_comes a_document is.parts (answer names m) plan is.fit comes)
 
 pub labelled_comes : (answer : LabelledAnswer) (bytes : List ℕ) (deadline : Option ℕ) (d : NamedLabelled) (plan : Plan) → IsLabelledOf bytes deadline d → ComesTo (answer d.names (the_labelled d.labelled)) plan → ComesTo (on_labelled answer bytes deadline) plan
 labelled_comes answer bytes deadline d plan opens comes = document_comes answer bytes deadline (the_labelled d.labelled) d.names plan opens.short opens.is comes
@@ -129,4 +132,5 @@ comes_through one two three first later = record {
   output = λ live said is. first.output live said (later.output live said is);
   talks = λ may. first.talks (later.talks may);
   fault = λ may taken. later.fault may taken ∙ first.fault (later.talks may) taken;
+  stops = λ told said is. first.stops told said (later.stops told said is);
 }

@@ -1,6 +1,6 @@
 -- What the session of a guide says is what `run` says.
 use Rattle.std.proofs.Common.{◌≡◌, ℕ, List, [], ◌++◌, ap, sym, subst, ◌∙◌}
-use Rattle.std.specs.Prelude.{map}
+use Rattle.std.specs.Prelude.{map, true, false}
 use Rattle.std.specs.Option.{option_map}
 use Rattle.cstn_label.specs.Bounds.{Bound}
 use Rattle.cstn_net.specs.Networks.{count}
@@ -28,6 +28,7 @@ comes_guided opening r = record {
   output = λ live said is. is ∙ ap (after_text opening) (play_as r 0 (lines_of live));
   talks = λ may. tt;
   fault = λ may lines. ap (option_map (λ (xs : List ℕ). opening ++ xs)) (heard_as r lines);
+  stops = λ told said is. absurd (let never : false ≡ true = is.2.is_kind in let f : ⊥ = cc in f);
 }
 
 -- after yes, a session from the beginning on, by the bounds of the log, says what is said of the labelled network

@@ -17,11 +17,11 @@ use Rattle.cstn_request.specs.Files.{AreContents, AreThere}
 use Rattle.cstn_reply.specs.Read.{the_said}
 use Rattle.cstn_reply.specs.declared.output.Said.{Said as SaidText}
 use Rattle.cstn_reply.specs.Texts.{Said, say}
-use Rattle.cstn_top.specs.Plans.{Plan, says, IsOutput, MayTalk, session}
+use Rattle.cstn_top.specs.Plans.{Plan, says, IsOutput, MayTalk, wanting_session}
 use Rattle.cstn_top.specs.Answers.{Answer, on_verdict}
 use Rattle.cstn_top.specs.commands.Host.{on_documents, on_verdicts, attended, hosted_plan, EachHas, FirstHas, FirstRefused}
-use Rattle.cstn_top.specs.Questions.{TellsInstead}
-use Rattle.cstn_top.specs.Meanings.{files_read, RefusedIsThere}
+use Rattle.cstn_top.specs.Prepared.{Planned, TellsRefused}
+use Rattle.cstn_top.specs.Meanings.{files_read}
 use Rattle.cstn_request.specs.Documents.{AreUnlabelled, parts_of, HasNetwork, IsRefused, IsSaidPlainly}
 use Rattle.cstn_reply.specs.Statuses.{status_of}
 use Rattle.cstn_reply.specs.declared.status.Status.{Status}
@@ -32,7 +32,7 @@ use Rattle.cstn_request.proofs.Contents.{none_there}
 use Rattle.cstn_lines.specs.Pieces.{lines_of}
 use Rattle.cstn_check.specs.Decisions.{verdict, IsYes, IsNo}
 use Rattle.cstn_check.proofs.Deciding.{Tells, verdict_tells}
-use Rattle.cstn_run.specs.hosted.Sessions.{begun, host_turn, host_ending}
+use Rattle.cstn_run.specs.hosted.Sessions.{begun, host_turn, host_wants, host_ending}
 use Rattle.cstn_run.specs.hosted.Files.{Named, the_file, yes_lines}
 use Rattle.cstn_top.specs.Begun.{IsRefusedAt}
 use Rattle.cstn_run.proofs.hosts.Plays.{IsEnd, plays}
@@ -41,7 +41,7 @@ use Rattle.cstn_top.proofs.Comes.{plain_refusal_output}
 
 -- what follows where the verdict on each network is yes
 abbrev pub session_of : ℕ → List Named → Plan
-session_of cap all = session host_turn host_ending (yes_lines all) (begun (map the_file all))
+session_of cap all = wanting_session host_wants host_turn host_ending (yes_lines all) (begun (map the_file all))
 
 -- the documents with these contents have these networks under these names
 abbrev pub AreNetworks : List (List ℕ) → Option ℕ → List Named → Type 0
@@ -285,22 +285,16 @@ plainly_refused bytes deadline said plainly outcome = by_said (document_says yes
         let never : Document ≡ Good = sym outcome ∙ other in absurd (cc)
 
 -- where a document of a host is refused, that is what the host says, the document is there, and so is each file before it
-pub host_told : (told : Option (List ℕ → Option (List ℕ))) (cap : ℕ) (deadline : Option ℕ) (files : List (List ℕ)) (said : SaidText) → IsRefusedAt told deadline files said → TellsInstead (host files deadline cap) told said
-host_told told cap deadline files said is = record {
-  plan = record {
-    contents = is.contents;
-    are = is.are;
-    comes = is.comes (attended cap);
-    there = λ live other output.
-        subst (λ (o : Outcome). AreThere told (files_read (status_of o) files)) (sym (ap (λ (s : Said). s.outcome) output ∙ is.outcome)) (first_of_more told files is.file.place is.file.there);
-  };
-  refused = λ outcome. (is.contents, is.are, (is.file.place, plainly_refused (get_or is.contents is.file.place []) deadline (the_said said) is.file.is is.outcome, is.file.there));
+pub host_told : (told : Option (List ℕ → Option (List ℕ))) (before after : Option (List (List ℕ))) (cap : ℕ) (deadline : Option ℕ) (files : List (List ℕ)) (said : SaidText) → IsRefusedAt told before after deadline files said → Planned (host files deadline cap) told (says (the_said said))
+host_told told before after cap deadline files said is = record {
+  contents = is.contents;
+  are = is.are;
+  comes = is.comes (attended cap);
+  there = λ live other output.
+      subst (λ (o : Outcome). AreThere told (files_read (status_of o) files)) (sym (ap (λ (s : Said). s.outcome) output ∙ is.outcome)) (first_of_more told files is.file.place is.file.read.there);
 }
 
--- where all files of a host are there, a document that it says to be refused is there, and so is each file before it
-pub host_refused : (told : Option (List ℕ → Option (List ℕ))) (cap : ℕ) (deadline : Option ℕ) (files contents : List (List ℕ)) (said : Said) → AreContents told files contents → AreThere told files → ((live : List ℕ) → IsOutput (hosted_plan cap deadline contents) live said) → said.outcome ≡ Document →
-    (all : List (List ℕ)) × AreContents told files all × RefusedIsThere told (host files deadline cap) all
-host_refused told cap deadline files contents said are there output outcome =
-    let first : FirstRefused contents deadline = subst (HostTells cap deadline contents said) outcome (host_tells cap deadline contents [] said (output [])) in
-    let tells = refused_at deadline contents first in
-    (contents, are, (tells.0, tells.1, first_there told files (suc tells.0) there))
+-- and no file behind it was asked for
+pub host_refused : (told : Option (List ℕ → Option (List ℕ))) (before after : Option (List (List ℕ))) (cap : ℕ) (deadline : Option ℕ) (files : List (List ℕ)) (said : SaidText) → IsRefusedAt told before after deadline files said → TellsRefused told before after (host files deadline cap) (says (the_said said))
+host_refused told before after cap deadline files said is = λ live other output outcome.
+    (is.contents, is.are, (is.file.place, plainly_refused (get_or is.contents is.file.place []) deadline (the_said said) is.file.is is.outcome, is.file.read))

@@ -8,10 +8,13 @@ pub mod Networks
 pub mod Comes
 pub mod Sayings
 pub mod Opening
+pub mod PlanTexts
 pub mod ReadFiles
 pub mod ReadAll
+pub mod Joining
 pub mod Drills
 pub mod Hosts
+pub mod Asking
 pub mod Hosted
 pub mod BegunHosts
 pub mod Runs

@@ -1,5 +1,5 @@
 -- The bounds of a yes, as lines.
-use Rattle.std.proofs.Common.{◌≡◌, ℕ, zero, suc, ◌<◌, ◌≤◌, List, length, map, get_or, sym, subst, arith}
+use Rattle.std.proofs.Common.{◌≡◌, ℕ, ◌<◌, ◌≤◌, List, length, map, get_or, sym, subst, arith}
 use Rattle.std.specs.List.{All, Contains}
 use Rattle.std.proofs.lemmas.Int.{ints}
 use Rattle.std.proofs.lemmas.List.{length-map, get_or-map}
@@ -7,15 +7,11 @@ use Rattle.std.proofs.lemmas.List.Elements.{Contains-get_or}
 use Rattle.cstn_label.specs.declared.bounds.Bound.{Bound as Declared}
 use Rattle.cstn_label.specs.Bounds.{Bound}
 use Rattle.cstn_label.specs.Read.{the_bound}
-use Rattle.cstn_net.specs.Limits.{most_deadline}
-use Rattle.cstn_net.specs.Networks.{Network, IsWellFormed, count, limit}
+use Rattle.cstn_net.specs.Networks.{Network, IsWellFormed, count}
+use Rattle.cstn_net.proofs.Kept.{limit_in_time}
 use Rattle.cstn_rules.specs.Rules.{IsBoundOf}
 use Rattle.cstn_check.specs.Growth.{log_of, live_bounds}
 use Rattle.cstn_closed.specs.Written.{IsNamed}
-
-pub limit_in_time : (net : Network) → IsWellFormed net → (x : ℕ) → limit net x ≤ most_deadline
-limit_in_time net good zero = omega arith
-limit_in_time net good (suc x) = good.in_time
 
 bound_named : (names : List (List ℕ)) (net : Network) (b : Declared) → IsWellFormed net → length names ≡ count net → IsBoundOf net (the_bound b) → IsNamed names b
 bound_named names net b good named is =

@@ -1,11 +1,11 @@
 -- What a request asks, by what was read of its files.
 use Rattle.std.proofs.Common.{◌≡◌, ℕ, ◌<◌, List, [], ◌∷◌, length, map, Vec, Global, refl, sym, ap, subst, arith}
-use Rattle.std.specs.Prelude.{nat_lt, Bool, true, false, if◌then◌else◌, Option, codes}
+use Rattle.std.specs.Prelude.{nat_lt, nat_le, Bool, true, false, if◌then◌else◌, Option, Result, Err, codes}
 use Rattle.cstn_net.specs.Networks.{Network}
 use Rattle.cstn_net.specs.Read.{the_network}
 use Rattle.cstn_text.specs.Limits.{most_text}
 use Rattle.cstn_lift.specs.Read.{the_labelled}
-use Rattle.cstn_request.specs.Requests.{Asked, Request, of_network, of_labelled, of_text, of_document, drill, version, network_labels, text_labels, files_of}
+use Rattle.cstn_request.specs.Requests.{Asked, Request, of_network, of_labelled, of_text, of_document, of_plan, drill, version, network_labels, text_labels, files_of}
 use Rattle.cstn_request.specs.declared.words.Release.{Release}
 use Rattle.cstn_request.specs.declared.words.NetworkVerb.{NetworkVerb}
 use Rattle.cstn_request.specs.declared.words.LabelledVerb.{LabelledVerb}
@@ -20,20 +20,26 @@ use Rattle.cstn_reply.specs.declared.output.Outcome.{Outcome}
 use Rattle.cstn_reply.specs.declared.output.Outcome.TheVariants.{Document, Script}
 use Rattle.cstn_reply.specs.declared.status.Status.{Status}
 use Rattle.cstn_reply.specs.declared.status.Status.TheVariants.{Good as IsGood, Bad as IsBad, Words as IsWords, Document as IsRefusedStatus, Full as IsFull, ReadFault, WriteFault, Memory as NoMemory, Unfinished as IsUnfinished, Script as IsScript, Wide as IsWide}
+use Rattle.cstn_graphml.specs.Document.{Parts}
+use Rattle.cstn_sentences.specs.Limits.{most_plan}
+use Rattle.cstn_sentences.specs.Plans.{plan}
+use Rattle.cstn_sentences.specs.Refusals.{Refusal, too_long}
+use Rattle.cstn_request.specs.Limits.{most_document}
 use Rattle.cstn_request.specs.Files.{file_at, IsContent, AreContents, AreThere}
-use Rattle.cstn_request.specs.Opened.{IsFile, IsAsked, IsLabelledOf, IsNetworkOf, IsRefusal, IsNetworkRefusal, IsTextOf, IsLongText}
+use Rattle.cstn_request.specs.Opened.{IsFile, IsAsked, IsLabelledOf, IsNetworkOf, IsRefusal, IsNetworkRefusal, IsTextOf, IsLongText, IsSentencesOf, IsLongPlan}
 use Rattle.cstn_request.specs.declared.reading.NamedNetwork.{NamedNetwork}
 use Rattle.cstn_request.specs.declared.reading.NamedLabelled.{NamedLabelled}
 use Rattle.cstn_request.proofs.Contents.{one_content, two_contents, some_content, none_there, two_there}
 use Rattle.cstn_top.specs.Plans.{Plan, says, IsOutput, ComesTo}
 use Rattle.cstn_top.specs.Answers.{Answer, LabelledAnswer, of_lowered, by_labels, on_labelled, by_text}
 use Rattle.cstn_top.specs.Dispatch.{network_answer, labelled_answer, text_answer, document_answer, plan_at}
+use Rattle.cstn_top.specs.commands.Plan.{planned_of, planned}
 use Rattle.cstn_top.specs.Meanings.{files_read}
 use Rattle.cstn_top.specs.Prepared.{Planned}
 use Rattle.cstn_top.specs.Begun.{IsSound}
 use Rattle.cstn_top.specs.Questions.{Asks, HasSmallIds, the_question}
 use Rattle.cstn_top.specs.declared.commands.questions.Question.{Question}
-use Rattle.cstn_top.specs.declared.commands.questions.Question.TheVariants.{OfNetwork, OfText, Drill, Version}
+use Rattle.cstn_top.specs.declared.commands.questions.Question.TheVariants.{OfNetwork, OfText, OfPlan, Drill, Version}
 use Rattle.cstn_top.proofs.Comes.{comes_itself, comes_to_text, accepted_comes, told_comes, labelled_comes, lowered_comes, refused_comes}
 
 -- where a file is there, so is what was read of it, whatever the status
@@ -91,7 +97,7 @@ network_refused : (takes : Bool) (answer : Answer) (bytes : List ℕ) (deadline 
 network_refused true answer bytes deadline said refused = refused_comes (of_lowered answer) bytes deadline said refused
 network_refused false answer bytes deadline said refused = told_comes answer bytes deadline said refused
 
-network_outcome : (takes : Bool) (bytes : List ℕ) (deadline : Option ℕ) (said : SaidText) → IsNetworkRefusal takes bytes deadline said → said.outcome ≡ Document
+pub network_outcome : (takes : Bool) (bytes : List ℕ) (deadline : Option ℕ) (said : SaidText) → IsNetworkRefusal takes bytes deadline said → said.outcome ≡ Document
 network_outcome true bytes deadline said refused = refused.1
 network_outcome false bytes deadline said refused = refused.1
 
@@ -198,6 +204,33 @@ long_after verb asked proof told d said file other =
     (network_comes (text_labels verb) (by_text (text_answer verb) other.bytes) file.bytes asked.deadline d (says (the_said said)) file.is
     (comes_to_text (by_text (text_answer verb) other.bytes d.names (the_network d.network)) (the_said said) (λ live. long_answer (text_answer verb) other.bytes d.names (the_network d.network) live (the_said said) other.is.0 other.is.1)))
     (two_read told asked.file proof (status_of (the_said said).outcome) file.there other.there)
+
+-- ---- a plan in sentences
+
+pub plan_asked : (asked : Asked) (told : Option (List ℕ → Option (List ℕ))) (text : Vec ℕ Global) → IsFile told asked.file (IsSentencesOf text.items) → Asks (of_plan asked) told (OfPlan text asked.deadline)
+plan_asked asked told text file = record {
+  contents = file.bytes ∷ [];
+  are = one_content told asked.file file.bytes file.content;
+  comes = subst (λ (bytes : List ℕ). ComesTo (planned bytes asked.deadline) (planned text.items asked.deadline)) (sym file.is.0) (comes_itself (planned text.items asked.deadline));
+  there = file.there;
+}
+
+-- a plan that is too long is refused as such
+long_plan : (bytes : List ℕ) (deadline : Option ℕ) → most_document < length bytes → plan bytes deadline ≡ Err too_long
+long_plan bytes deadline long = let over : nat_le (length bytes) most_plan ≡ false = beyond (length bytes) long in rw over refl
+  where
+    beyond : (n : ℕ) → most_document < n → nat_le n most_plan ≡ false
+    beyond n long = grind arith
+
+-- the plan is too long
+pub plan_told : (asked : Asked) (told : Option (List ℕ → Option (List ℕ))) (said : SaidText) → IsFile told asked.file (IsLongPlan said) → Planned (of_plan asked) told (says (the_said said))
+plan_told asked told said file = record {
+  contents = file.bytes ∷ [];
+  are = one_content told asked.file file.bytes file.content;
+  comes = comes_to_text (planned file.bytes asked.deadline) (the_said said)
+      (λ live. subst (λ (r : Result Parts Refusal). IsOutput (planned_of r) live (the_said said)) (sym (long_plan file.bytes asked.deadline file.is.0)) file.is.1);
+  there = λ live other output. one_read told asked.file (status_of other.outcome) file.there;
+}
 
 -- ---- no file
 

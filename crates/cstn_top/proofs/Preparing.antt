@@ -1,19 +1,32 @@
 -- What is prepared for a request, by what it asks and what is answered.
-use Rattle.std.proofs.Common.{◌≡◌, ℕ, List, refl}
-use Rattle.std.specs.Prelude.{Option}
-use Rattle.cstn_top.proofs.Hosts.{host_refused, files_all, first_there}
-use Rattle.cstn_request.specs.Requests.{host, of_network, of_labelled, of_text, of_document, drill, version, Request, files_of}
+use Rattle.std.proofs.Common.{◌≡◌, ℕ, List, subst}
+use Rattle.std.specs.Prelude.{Option, Some}
+use Rattle.cstn_top.proofs.Hosts.{files_all, first_there}
+use Rattle.cstn_top.proofs.Answered.{IsAnswerIf, question_answered}
+use Rattle.cstn_io.specs.Asked.{and_names}
+use Rattle.cstn_request.specs.Requests.{Request, of_network, of_labelled, of_text, of_document, of_plan, drill, host, version, files_of}
+use Rattle.cstn_request.specs.Files.{AreContents, AreThere}
+use Rattle.cstn_top.specs.Meanings.{HoldsOf, RefusedIsThere}
 use Rattle.cstn_top.specs.Plans.{ComesTo}
-use Rattle.cstn_top.specs.Prepared.{the_plan, TellsRefused, FitsKind, Planned}
-use Rattle.cstn_reply.specs.Read.{the_said}
+use Rattle.cstn_top.specs.Prepared.{the_plan, TellsRefused, Planned}
+use Rattle.cstn_reply.specs.declared.output.Outcome.{Outcome}
 use Rattle.cstn_top.specs.declared.commands.Prepared.{Prepared}
-use Rattle.cstn_top.specs.declared.commands.Prepared.TheVariants.{Says, Runs, Edits, Follows, Hosts}
 use Rattle.cstn_top.specs.declared.commands.questions.Question.{Question}
-use Rattle.cstn_top.specs.Questions.{Asks, the_question}
-use Rattle.cstn_top.specs.Dispatch.{kind_at, plan_at}
-use Rattle.cstn_top.specs.Kinds.{a_run, an_edit, a_host, a_follow}
+use Rattle.cstn_top.specs.Questions.{Asks, MayRefuse, IsOfPlan, the_question}
+use Rattle.cstn_top.specs.Dispatch.{plan_at}
 use Rattle.cstn_reply.specs.Statuses.{status_of}
 use Rattle.cstn_top.proofs.Comes.{comes_through}
+
+-- a plan in sentences that is refused was read, and no other file
+plan_refused : (request : Request) (told : Option (List ℕ → Option (List ℕ))) (before after : Option (List (List ℕ))) (contents : List (List ℕ)) → AreContents told (files_of request) contents → AreThere told (files_of request) → after ≡ and_names before (files_of request) → IsOfPlan request → HoldsOf (Some request) told (RefusedIsThere told before after)
+plan_refused (of_plan asked) told before after contents are there once is = (contents, are, record { asked = once; there = there })
+plan_refused (of_network verb asked cap) told before after contents are there once is = absurd is
+plan_refused (of_labelled verb asked cap) told before after contents are there once is = absurd is
+plan_refused (of_text verb asked proof) told before after contents are there once is = absurd is
+plan_refused (of_document verb asked) told before after contents are there once is = absurd is
+plan_refused (drill number) told before after contents are there once is = absurd is
+plan_refused (host files deadline cap) told before after contents are there once is = absurd is
+plan_refused (version release) told before after contents are there once is = absurd is
 
 module _ (request : Request) (told : Option (List ℕ → Option (List ℕ))) (question : Question) (prepared : Prepared) (asks : Asks request told question) (comes : ComesTo (the_question question) (the_plan prepared)) where
   -- what was prepared says what the request says
@@ -28,21 +41,8 @@ module _ (request : Request) (told : Option (List ℕ → Option (List ℕ))) (q
     there = λ live said output. files_all told (files_of request) (status_of said.outcome) asks.there (first_there told (files_of request) 1 asks.there);
   }
 
--- where a document is said to be refused, it is there, and so is each file before it
-host_refusal : (files : List (List ℕ)) (deadline : Option ℕ) (cap : ℕ) (told : Option (List ℕ → Option (List ℕ))) (question : Question) (prepared : Prepared) → Asks (host files deadline cap) told question → ComesTo (the_question question) (the_plan prepared) → FitsKind (kind_at (host files deadline cap)) prepared → TellsRefused told (host files deadline cap) prepared
-host_refusal files deadline cap told question (Says said) asks comes fits = λ outcome.
-    host_refused told cap deadline files asks.contents (the_said said) asks.are asks.there
-    (λ live. (whole (host files deadline cap) told question (Says said) asks comes).output live (the_said said) refl) outcome
-host_refusal files deadline cap told question (Runs opening session') asks comes fits = absurd (let same : a_host ≡ a_run = fits.1 in cc)
-host_refusal files deadline cap told question (Edits session') asks comes fits = absurd (let same : a_host ≡ an_edit = fits in cc)
-host_refusal files deadline cap told question (Follows opening session') asks comes fits = absurd (let same : a_host ≡ a_follow = fits.1 in cc)
-host_refusal files deadline cap told question (Hosts opening session') asks comes fits = tt
-
-pub refused_where : (told : Option (List ℕ → Option (List ℕ))) (request : Request) (question : Question) (prepared : Prepared) → Asks request told question → ComesTo (the_question question) (the_plan prepared) → FitsKind (kind_at request) prepared → TellsRefused told request prepared
-refused_where told (of_network verb asked cap) question prepared asks comes fits = tt
-refused_where told (of_labelled verb asked cap) question prepared asks comes fits = tt
-refused_where told (of_text verb asked proof) question prepared asks comes fits = tt
-refused_where told (of_document verb asked) question prepared asks comes fits = tt
-refused_where told (drill number) question prepared asks comes fits = tt
-refused_where told (host files deadline cap) question prepared asks comes fits = host_refusal files deadline cap told question prepared asks comes fits
-refused_where told (version release) question prepared asks comes fits = tt
+  -- and where it says that a file is refused, that is a plan in sentences, since each document was accepted
+  pub none_refused : (before after : Option (List (List ℕ))) → after ≡ and_names before (files_of request) → (MayRefuse question → IsOfPlan request) → TellsRefused told before after request (the_plan prepared)
+  none_refused before after once only = λ live said output outcome.
+      plan_refused request told before after asks.contents asks.are asks.there once
+      (only (subst (λ (o : Outcome). IsAnswerIf (MayRefuse question) o) outcome (question_answered question live said (comes.output live said output))))

@@ -1,11 +1,12 @@
 -- Documents that were read one after another.
-use Rattle.std.proofs.Common.{◌≡◌, ℕ, suc, Bool, true, false, List, [], ◌∷◌, ◌++◌, length, map, take, get_or, refl, ap, sym, subst, ◌∙◌, append_assoc}
+use Rattle.std.proofs.Common.{◌≡◌, ◌+◌, ℕ, suc, Bool, true, false, List, [], ◌∷◌, ◌++◌, length, map, take, get_or, refl, ap, sym, subst, ◌∙◌, append_assoc}
 use Rattle.std.specs.Prelude.{Option, is_some, ◌&&◌}
 use Rattle.std.specs.List.{list_all}
-use Rattle.std.proofs.lemmas.List.{length-map, map-append}
+use Rattle.std.proofs.lemmas.List.{map-append, length-append}
 use Rattle.std.proofs.Math.Seq.{get_or-append_seam}
 use Rattle.std.proofs.lemmas.List.Folds.{list_all-append}
 use Rattle.std.proofs.lemmas.List.Elements.{All-append, All-cons, All-nil}
+use Rattle.cstn_io.specs.Asked.{and_names}
 use Rattle.cstn_request.specs.Requests.{Asked}
 use Rattle.cstn_request.specs.Files.{file_at, AreContents, AreThere}
 use Rattle.cstn_top.specs.Plans.{Plan, says, ComesTo}
@@ -53,7 +54,7 @@ asked_for file deadline = record { file = file; deadline = deadline }
 
 -- no document was read yet
 pub read_none : (told : Option (List ℕ → Option (List ℕ))) (deadline : Option ℕ) → HasRead told deadline [] []
-read_none told deadline = record { contents = []; are = λ files e. refl; there = none_there told; comes = λ answer rest. comes_itself (on_documents answer deadline [] rest) }
+read_none told deadline = record { contents = []; are = λ files e. refl; many = refl; there = none_there told; comes = λ answer rest. comes_itself (on_documents answer deadline [] rest) }
 
 -- what is said of the next document, where it is accepted: what is said of the rest after it
 abbrev next_answer : (List Named → Plan) → Option ℕ → List Named → List (List ℕ) → Answer
@@ -71,6 +72,7 @@ module _ (told : Option (List ℕ → Option (List ℕ))) (deadline : Option ℕ
   read_more d opened = record {
     contents = so_far.contents ++ opened.bytes ∷ [];
     are = contents_more told files (file ∷ []) so_far.contents (opened.bytes ∷ []) so_far.are (one_content told file opened.bytes opened.content);
+    many = length-append so_far.contents (opened.bytes ∷ []) ∙ ap (λ (n : ℕ). n + 1) so_far.many ∙ sym (length-append files (file ∷ []));
     there = there_more told files (file ∷ []) so_far.there opened.there;
     comes = λ answer rest.
         let now : List Named = map the_named documents ++ the_named d ∷ [] in
@@ -81,12 +83,12 @@ module _ (told : Option (List ℕ → Option (List ℕ))) (deadline : Option ℕ
   }
 
   -- the next document is refused
-  pub read_refused : (all rest : List (List ℕ)) (said : SaidText) → files ++ file ∷ rest ≡ all → IsAsked told (asked_for file deadline) (λ bytes asked. IsPlainRefusal bytes asked said) → IsRefusedAt told deadline all said
-  read_refused all rest said is opened =
-      subst (λ (names : List (List ℕ)). IsRefusedAt told deadline names said) is (record {
+  pub read_refused : (before after : Option (List (List ℕ))) (all rest : List (List ℕ)) (said : SaidText) → files ++ file ∷ rest ≡ all → IsAsked told (asked_for file deadline) (λ bytes asked. IsPlainRefusal bytes asked said) → after ≡ and_names before (files ++ file ∷ []) → IsRefusedAt told before after deadline all said
+  read_refused before after all rest said is opened asked =
+      subst (λ (names : List (List ℕ)). IsRefusedAt told before after deadline names said) is (record {
         contents = (so_far.contents ++ opened.bytes ∷ []) ++ later.0;
         are = contents_all;
-        file = record { place = length so_far.contents; is = at_place; there = up_to_place };
+        file = record { place = length so_far.contents; is = at_place; read = record { asked = asked ∙ ap (and_names before) (sym up_to_it); there = up_to_place } };
         outcome = opened.is.1;
         comes = λ answer.
             comes_through (on_documents answer deadline [] ((so_far.contents ++ opened.bytes ∷ []) ++ later.0)) (on_documents answer deadline (map the_named documents) (opened.bytes ∷ later.0)) (says (the_said said))
@@ -110,9 +112,8 @@ module _ (told : Option (List ℕ → Option (List ℕ))) (deadline : Option ℕ
           (sym (ap (λ (all : List (List ℕ)). get_or all (length so_far.contents) []) (append_assoc so_far.contents (opened.bytes ∷ []) later.0) ∙ get_or-append_seam so_far.contents opened.bytes later.0 []))
           opened.is.0
 
+      up_to_it : take (suc (length so_far.contents)) (files ++ file ∷ rest) ≡ files ++ file ∷ []
+      up_to_it = ap (λ (n : ℕ). take (suc n) (files ++ file ∷ rest)) so_far.many ∙ take_past files file rest
+
       up_to_place : AreThere told (take (suc (length so_far.contents)) (files ++ file ∷ rest))
-      up_to_place = λ known e.
-          let many : length so_far.contents ≡ length files = ap length (so_far.are known e) ∙ length-map files (file_at known) in
-          subst (λ (names : List (List ℕ)). list_all (λ name. is_some (known name)) names ≡ true)
-          (sym (ap (λ (n : ℕ). take (suc n) (files ++ file ∷ rest)) many ∙ take_past files file rest))
-          (there_more told files (file ∷ []) so_far.there opened.there known e)
+      up_to_place = subst (AreThere told) (sym up_to_it) (there_more told files (file ∷ []) so_far.there opened.there)

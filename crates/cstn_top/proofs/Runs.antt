@@ -24,7 +24,7 @@ verdict_for cap net other same is = subst (λ (n : Network). verdict cap n ≡ Y
 pub told_for : (cap : ℕ) (names : List (List ℕ)) (net : Network) (m : Labelled) (said : Said) → net ≡ lowered m → unless_yes cap names net (verdict cap net) ≡ Some said → ComesTo (carried_out cap names m) (says said)
 told_for cap names net m said same told =
     subst (ComesTo (carried_out cap names m)) (ap (λ (o : Option Said). unless_said o after_yes) (subst (λ (n : Network). unless_yes cap names n (verdict cap n) ≡ Some said) same told))
-    (record { output = λ live s is. is; talks = λ may. may; fault = λ may taken. refl })
+    (record { output = λ live s is. is; talks = λ may. may; fault = λ may taken. refl; stops = λ told said is. is })
   where
     after_yes : Plan
     after_yes =

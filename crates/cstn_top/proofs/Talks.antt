@@ -1,6 +1,6 @@
 -- Which requests hold a session.
 use Rattle.std.proofs.Common.{ℕ, Bool, true, false, List, length, map}
-use Rattle.std.specs.Prelude.{nat_lt, if◌then◌else◌, Option, codes}
+use Rattle.std.specs.Prelude.{nat_lt, if◌then◌else◌, Option, Result, Ok, Err, codes}
 use Rattle.cstn_net.specs.Networks.{Network, count}
 use Rattle.cstn_lift.specs.Labelled.{Labelled}
 use Rattle.cstn_lift.specs.Lowered.{lowered}
@@ -19,12 +19,15 @@ use Rattle.cstn_tree.specs.Limits.{most_observed}
 use Rattle.cstn_tree.specs.Unfolded.{observed, wide}
 use Rattle.cstn_run.specs.Sessions.{guide_turn, guide_ending}
 use Rattle.cstn_exec.specs.Guides.{begun}
-use Rattle.cstn_request.specs.Requests.{Request, of_network, of_labelled, of_text, of_document, drill, host, version, text_labels}
+use Rattle.cstn_graphml.specs.Document.{Parts}
+use Rattle.cstn_sentences.specs.Plans.{plan}
+use Rattle.cstn_sentences.specs.Refusals.{Refusal}
+use Rattle.cstn_request.specs.Requests.{Request, of_network, of_labelled, of_text, of_document, of_plan, drill, host, version, text_labels}
 use Rattle.cstn_request.specs.declared.words.NetworkVerb.TheVariants.{Check, Closed, Tight, Conflict, Tree, Edit}
 use Rattle.cstn_request.specs.declared.words.LabelledVerb.TheVariants.{Follow, Run}
 use Rattle.cstn_request.specs.declared.words.TextVerb.{TextVerb}
 use Rattle.cstn_request.specs.declared.words.TextVerb.TheVariants.{Replay, Closedcheck, Treecheck}
-use Rattle.cstn_request.specs.declared.words.DocumentVerb.TheVariants.{Save}
+use Rattle.cstn_request.specs.declared.words.DocumentVerb.TheVariants.{Save, Sentences}
 use Rattle.cstn_reply.specs.Texts.{say, yes_line}
 use Rattle.cstn_reply.specs.declared.output.Outcome.TheVariants.{Good, Script}
 use Rattle.cstn_top.specs.Plans.{says, branches, MayTalk, session}
@@ -43,6 +46,8 @@ use Rattle.cstn_top.specs.commands.Run.{carried_out}
 use Rattle.cstn_top.specs.commands.Replay.{replayed_steps}
 use Rattle.cstn_top.specs.commands.Closedcheck.{certified_bounds}
 use Rattle.cstn_top.specs.commands.Save.{saved}
+use Rattle.cstn_top.specs.commands.Sentences.{worded}
+use Rattle.cstn_top.specs.commands.Plan.{planned_of}
 use Rattle.cstn_top.proofs.Documents.{document_talks, document_then}
 use Rattle.cstn_top.proofs.Labels.{IsOfLabelled, talks_labelled, labels_silent}
 use Rattle.cstn_top.proofs.Networks.{never_talks}
@@ -93,6 +98,11 @@ by_text_silent verb text names net may = by_length (nat_lt most_text (length tex
     by_length true is = is
     by_length false is = text_silent verb text names net is
 
+-- no session is held over a plan in sentences
+plan_silent : (told : Result Parts Refusal) → MayTalk (planned_of told) → ⊥
+plan_silent (Err refusal) may = may
+plan_silent (Ok parts) may = may.1
+
 -- a run comes to a session only after yes
 run_talks : (cap : ℕ) (names : List (List ℕ)) (m : Labelled) → IsOfLabelled names m → MayTalk (carried_out cap names m) → IsLabelledYes cap m
 run_talks cap names m of may = by_verdict (verdict cap (lowered m)) (verdict_tells cap (lowered m) of.plain.good) may
@@ -115,6 +125,8 @@ reads (of_labelled Follow asked cap) contents may = talks_labelled (followed cap
 reads (of_labelled Run asked cap) contents may = talks_labelled (carried_out cap) (file_in contents) asked.deadline (λ names m. IsLabelledYes cap m) (run_talks cap) may
 reads (of_text verb asked proof) contents may = network_silent (text_labels verb) (by_text (text_answer verb) (proof_in contents)) (file_in contents) asked.deadline (by_text_silent verb (proof_in contents)) may
 reads (of_document Save asked) contents may = labels_silent saved (file_in contents) asked.deadline (λ names m is. is) may
+reads (of_document Sentences asked) contents may = labels_silent worded (file_in contents) asked.deadline (λ names m is. is) may
+reads (of_plan asked) contents may = absurd (plan_silent (plan (file_in contents) asked.deadline) may)
 reads (drill number) contents may = may
 reads (host files deadline cap) contents may = host_talks cap deadline contents may
 reads (version release) contents may = may

@@ -20,7 +20,7 @@ use Rattle.cstn_lines.specs.EditLines.{Edit, added, removed, changed, asked as c
 use Rattle.cstn_edit.specs.Editing.{Editing, answered_edit, answered_change, answered, edit_turn}
 use Rattle.cstn_follow.specs.Following.{Following, Heard, says, saves}
 use Rattle.cstn_follow.specs.Hearing.{hear}
-use Rattle.cstn_lines.specs.FollowLines.{follow_read}
+use Rattle.cstn_follow.specs.Asking.{spoken_read}
 use Rattle.cstn_top.specs.commands.Follow.{heard_turn, follow_turn}
 use Rattle.cstn_lines.specs.HostLines.{Hosted, host_read}
 use Rattle.cstn_run.specs.hosted.Sessions.{HostSession, hosted_turn, host_turn}
@@ -75,7 +75,7 @@ heard_is (says text next) = tt
 heard_is (saves m names next) = tt
 
 pub follow_answers : (s : Following) (text : List ℕ) → TurnIs ⊥ (λ outcome. ⊥) (follow_turn s text)
-follow_answers s text = heard_is (hear s (follow_read text))
+follow_answers s text = heard_is (hear s (spoken_read text))
 
 -- ---- of a host: no answer is the last
 

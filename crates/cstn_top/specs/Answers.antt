@@ -13,7 +13,7 @@ use Rattle.cstn_reply.specs.Texts.{Said, say}
 use Rattle.cstn_reply.specs.declared.output.Outcome.TheVariants.{Document, Script}
 use Rattle.cstn_request.specs.Limits.{most_document}
 use Rattle.cstn_request.specs.Refusals.{refusal_text}
-use Rattle.cstn_top.specs.Plans.{Plan, says, judges, unlabelled}
+use Rattle.cstn_top.specs.Plans.{Plan, says, judges, unlabelled, a_document}
 
 -- what is said of a network under the names of its time-points
 abbrev pub Answer : Type 0
@@ -41,7 +41,7 @@ by_labels false = of_plain
 -- what is said of a document: why it is refused, or `answer` of its labelled network
 abbrev pub judged : LabelledAnswer → Result Parts Refusal → Plan
 judged answer (Err refusal) = says (say Document (refusal_text refusal))
-judged answer (Ok parts) = judges parts (answer parts.names (labelled_of parts))
+judged answer (Ok parts) = judges a_document parts (answer parts.names (labelled_of parts))
 
 -- what is said of a file with these bytes: that it is too long, where they are more than 8,388,608, or else of its document
 abbrev pub on_labelled : LabelledAnswer → List ℕ → Option ℕ → Plan

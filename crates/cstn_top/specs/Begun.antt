@@ -5,6 +5,7 @@ use Rattle.cstn_net.specs.Read.{the_network}
 use Rattle.cstn_request.specs.Files.{AreContents, AreThere}
 use Rattle.cstn_reply.specs.Texts.{Said}
 use Rattle.cstn_top.specs.Plans.{Plan, says, ComesTo}
+use Rattle.cstn_top.specs.Meanings.{WereRead}
 use Rattle.cstn_top.specs.commands.Host.{on_documents, on_verdicts}
 use Rattle.cstn_request.specs.Documents.{IsSaidPlainly}
 use Rattle.cstn_reply.specs.Read.{the_said}
@@ -32,20 +33,22 @@ pub record IsSound (document : NamedNetwork) : Type 0 where
 pub record HasRead (told : Option (List ℕ → Option (List ℕ))) (deadline : Option ℕ) (files : List (List ℕ)) (documents : List NamedNetwork) : Type 0 where
   pub contents : List (List ℕ)
   pub are : AreContents told files contents
+  pub many : length contents ≡ length files
   pub there : AreThere told files
   pub comes : (answer : List Named → Plan) (rest : List (List ℕ)) → ComesTo (on_documents answer deadline [] (contents ++ rest)) (on_documents answer deadline (map the_named documents) rest)
 
--- the document of the file at this place is refused, and this is said of it; its file is there, and so is each before it
-pub record IsRefusedFile (told : Option (List ℕ → Option (List ℕ))) (deadline : Option ℕ) (files contents : List (List ℕ)) (said : Said) : Type 0 where
+-- The document of the file at this place is refused, and this is said of it. Its file is there, and so is each before it; these were
+-- asked for, and no other.
+pub record IsRefusedFile (told : Option (List ℕ → Option (List ℕ))) (before after : Option (List (List ℕ))) (deadline : Option ℕ) (files contents : List (List ℕ)) (said : Said) : Type 0 where
   pub place : ℕ
   pub is : IsSaidPlainly (get_or contents place []) deadline said
-  pub there : AreThere told (take (suc place) files)
+  pub read : WereRead told before after (take (suc place) files)
 
 -- a document of these files is refused, and this is said of it, whatever would be said of all networks
-pub record IsRefusedAt (told : Option (List ℕ → Option (List ℕ))) (deadline : Option ℕ) (files : List (List ℕ)) (said : SaidText) : Type 0 where
+pub record IsRefusedAt (told : Option (List ℕ → Option (List ℕ))) (before after : Option (List (List ℕ))) (deadline : Option ℕ) (files : List (List ℕ)) (said : SaidText) : Type 0 where
   pub contents : List (List ℕ)
   pub are : AreContents told files contents
-  pub file : IsRefusedFile told deadline files contents (the_said said)
+  pub file : IsRefusedFile told before after deadline files contents (the_said said)
   pub outcome : said.outcome ≡ Document
   pub comes : (answer : List Named → Plan) → ComesTo (on_documents answer deadline [] contents) (says (the_said said))
 
@@ -63,5 +66,5 @@ pub record HasBegun (cap : ℕ) (all : List Named) (begun : Begun) : Type 0 wher
   pub opening : begun.opening.items ≡ yes_lines all
   pub files : the_files begun.plans.items (the_names begun.names.items) ≡ map the_file all
   pub many : length begun.plans.items ≡ length all
-  pub ward : IsHostSession begun.plans.items (the_names begun.names.items)
+  pub hosted : IsHostSession begun.plans.items (the_names begun.names.items)
   pub verdicts : (after_yes : Plan) (rest : List Named) → on_verdicts cap after_yes (all ++ rest) ≡ on_verdicts cap after_yes rest

@@ -1,6 +1,6 @@
 -- What each request says, and how it is answered.
 use Rattle.std.specs.Prelude.{ℕ, List, [], get_or, Option, None, Some, codes}
-use Rattle.cstn_request.specs.Requests.{Request, of_network, of_labelled, of_text, of_document, drill, host, version, network_labels, text_labels}
+use Rattle.cstn_request.specs.Requests.{Request, of_network, of_labelled, of_text, of_document, of_plan, drill, host, version, network_labels, text_labels}
 use Rattle.cstn_request.specs.declared.words.NetworkVerb.{NetworkVerb}
 use Rattle.cstn_request.specs.declared.words.NetworkVerb.TheVariants.{Check, Closed, Tight, Conflict, Tree, Edit}
 use Rattle.cstn_request.specs.declared.words.LabelledVerb.{LabelledVerb}
@@ -8,7 +8,7 @@ use Rattle.cstn_request.specs.declared.words.LabelledVerb.TheVariants.{Follow, R
 use Rattle.cstn_request.specs.declared.words.TextVerb.{TextVerb}
 use Rattle.cstn_request.specs.declared.words.TextVerb.TheVariants.{Replay, Closedcheck, Treecheck}
 use Rattle.cstn_request.specs.declared.words.DocumentVerb.{DocumentVerb}
-use Rattle.cstn_request.specs.declared.words.DocumentVerb.TheVariants.{Save}
+use Rattle.cstn_request.specs.declared.words.DocumentVerb.TheVariants.{Save, Sentences}
 use Rattle.cstn_reply.specs.Texts.{say}
 use Rattle.cstn_reply.specs.declared.output.Outcome.TheVariants.{Words}
 use Rattle.cstn_top.specs.Plans.{Plan, says}
@@ -26,6 +26,8 @@ use Rattle.cstn_top.specs.commands.Replay.{replayed}
 use Rattle.cstn_top.specs.commands.Closedcheck.{certified}
 use Rattle.cstn_top.specs.commands.Treecheck.{tree_checked}
 use Rattle.cstn_top.specs.commands.Save.{saved}
+use Rattle.cstn_top.specs.commands.Sentences.{worded}
+use Rattle.cstn_top.specs.commands.Plan.{planned}
 use Rattle.cstn_top.specs.commands.Drill.{drilled}
 use Rattle.cstn_top.specs.commands.Host.{hosted_plan}
 use Rattle.cstn_top.specs.commands.Version.{versioned}
@@ -67,6 +69,7 @@ text_answer Treecheck text = tree_checked text
 -- what a verb says of the labelled network of a document
 abbrev pub document_answer : DocumentVerb → LabelledAnswer
 document_answer Save = saved
+document_answer Sentences = worded
 
 -- ---- requests
 
@@ -83,6 +86,7 @@ plan_at (of_network verb asked cap) contents = on_labelled (by_labels (network_l
 plan_at (of_labelled verb asked cap) contents = on_labelled (labelled_answer verb cap) (file_in contents) asked.deadline
 plan_at (of_text verb asked proof) contents = on_labelled (by_labels (text_labels verb) (by_text (text_answer verb) (proof_in contents))) (file_in contents) asked.deadline
 plan_at (of_document verb asked) contents = on_labelled (document_answer verb) (file_in contents) asked.deadline
+plan_at (of_plan asked) contents = planned (file_in contents) asked.deadline
 plan_at (drill number) contents = says (drilled number)
 plan_at (host files deadline cap) contents = hosted_plan cap deadline contents
 plan_at (version release) contents = says (versioned release)
@@ -98,6 +102,7 @@ kind_at (of_network verb asked cap) = network_kind verb
 kind_at (of_labelled verb asked cap) = labelled_kind verb
 kind_at (of_text verb asked proof) = a_text
 kind_at (of_document verb asked) = a_text
+kind_at (of_plan asked) = a_text
 kind_at (drill number) = a_text
 kind_at (host files deadline cap) = a_host
 kind_at (version release) = a_text

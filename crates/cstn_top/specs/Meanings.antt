@@ -1,18 +1,18 @@
 -- How a call with a request ends.
-use Rattle.std.specs.Prelude.{◌≡◌, ◌⊎◌, ◌≤◌, ℕ, suc, List, [], ◌∷◌, take, get_or, Option, None, Some}
+use Rattle.std.specs.Prelude.{◌≡◌, ◌⊎◌, ◌≤◌, ◌-◌, ℕ, suc, List, [], ◌∷◌, length, take, get_or, Option, None, Some}
 use Rattle.cstn_net.specs.Limits.{most_load}
 use Rattle.cstn_check.specs.Decisions.{IsYes}
-use Rattle.cstn_request.specs.Requests.{Request, of_network, of_labelled, of_text, of_document, drill, host, version, files_of}
+use Rattle.cstn_request.specs.Requests.{Request, of_network, of_labelled, of_text, of_document, of_plan, drill, host, version, files_of}
 use Rattle.cstn_request.specs.declared.words.LabelledVerb.TheVariants.{Follow, Run}
+use Rattle.cstn_io.specs.Asked.{and_names}
 use Rattle.cstn_request.specs.Files.{AreContents, AreThere}
 use Rattle.cstn_request.specs.Documents.{HasLabelled, HasNetwork, IsRefused}
 use Rattle.cstn_reply.specs.declared.status.Status.{Status}
 use Rattle.cstn_reply.specs.declared.status.Status.TheVariants.{Good, Bad, Words, Document, Full, ReadFault, WriteFault, Memory, Unfinished, Script, Wide}
-use Rattle.cstn_reply.specs.Reached.{MeetsLine}
-use Rattle.cstn_top.specs.Plans.{before_fault}
-use Rattle.cstn_top.specs.Kinds.{InSession, wants_memory, wants_ends}
+use Rattle.cstn_top.specs.Plans.{stopped}
+use Rattle.cstn_top.specs.Kinds.{InSession}
 use Rattle.cstn_top.specs.Verdicts.{IsLabelledYes}
-use Rattle.cstn_top.specs.Dispatch.{network_kind, file_in, plan_at, kind_at}
+use Rattle.cstn_top.specs.Dispatch.{network_kind, file_in, plan_at}
 use Rattle.cstn_top.specs.commands.Host.{EachHas}
 
 -- the words are a request, and it holds of the request and the contents of its files
@@ -38,15 +38,35 @@ files_read Unfinished names = names
 files_read Script names = names
 files_read Wide names = names
 
--- where a document is refused, it is there: that of a host with each file before it
-abbrev pub RefusedIsThere : Option (List ℕ → Option (List ℕ)) → Request → List (List ℕ) → Type 0
-RefusedIsThere told (of_network verb asked cap) contents = AreThere told (asked.file ∷ [])
-RefusedIsThere told (of_labelled verb asked cap) contents = AreThere told (asked.file ∷ [])
-RefusedIsThere told (of_text verb asked proof) contents = AreThere told (asked.file ∷ [])
-RefusedIsThere told (of_document verb asked) contents = AreThere told (asked.file ∷ [])
-RefusedIsThere told (drill number) contents = AreThere told []
-RefusedIsThere told (host files deadline cap) contents = (place : ℕ) × IsRefused (get_or contents place []) deadline × AreThere told (take (suc place) files)
-RefusedIsThere told (version release) contents = AreThere told []
+-- these files were asked for, in their order and each once, and no other was; each of them is there
+pub record WereRead (told : Option (List ℕ → Option (List ℕ))) (before after : Option (List (List ℕ))) (names : List (List ℕ)) : Type 0 where
+  pub asked : after ≡ and_names before names
+  pub there : AreThere told names
+
+-- the first of these files were asked for, in their order and each once, and no other was; each of them but the last is there
+pub record AskedFirst (told : Option (List ℕ → Option (List ℕ))) (before after : Option (List (List ℕ))) (names : List (List ℕ)) : Type 0 where
+  pub count : ℕ
+  pub asked : after ≡ and_names before (take count names)
+  pub earlier : AreThere told (take (count - 1) names)
+
+-- Which of these files were asked for, where a call has this status: the first of them, in their order and each once, and no other.
+-- Those that were read are among them, and there.
+pub record AreAsked (told : Option (List ℕ → Option (List ℕ))) (before after : Option (List (List ℕ))) (status : Status) (names : List (List ℕ)) : Type 0 where
+  pub first : AskedFirst told before after names
+  pub read : length (files_read status names) ≤ first.count
+  pub there : AreThere told (files_read status names)
+
+-- where a document or a plan in sentences is refused, it is there, and no file behind it was asked for: that of a host with each file before it
+abbrev pub RefusedIsThere : Option (List ℕ → Option (List ℕ)) → Option (List (List ℕ)) → Option (List (List ℕ)) → Request → List (List ℕ) → Type 0
+RefusedIsThere told before after (of_network verb asked cap) contents = WereRead told before after (asked.file ∷ [])
+RefusedIsThere told before after (of_labelled verb asked cap) contents = WereRead told before after (asked.file ∷ [])
+RefusedIsThere told before after (of_text verb asked proof) contents = WereRead told before after (asked.file ∷ [])
+RefusedIsThere told before after (of_document verb asked) contents = WereRead told before after (asked.file ∷ [])
+RefusedIsThere told before after (of_plan asked) contents = WereRead told before after (asked.file ∷ [])
+RefusedIsThere told before after (drill number) contents = ⊥
+RefusedIsThere told before after (host files deadline cap) contents =
+    (place : ℕ) × IsRefused (get_or contents place []) deadline × WereRead told before after (take (suc place) files)
+RefusedIsThere told before after (version release) contents = ⊥
 
 -- the request reads the live source: a run after yes, `edit` and `follow` where the document has a network, and a host where each
 -- network has a strategy
@@ -56,14 +76,14 @@ ReadsLive (of_labelled Follow asked cap) contents = HasLabelled (file_in content
 ReadsLive (of_labelled Run asked cap) contents = HasLabelled (file_in contents) asked.deadline (λ names m. IsLabelledYes cap m)
 ReadsLive (of_text verb asked proof) contents = ⊥
 ReadsLive (of_document verb asked) contents = ⊥
+ReadsLive (of_plan asked) contents = ⊥
 ReadsLive (drill number) contents = ⊥
 ReadsLive (host files deadline cap) contents = EachHas contents deadline (IsYes cap)
 ReadsLive (version release) contents = ⊥
 
 -- the session over the lines of the live source, which has these bytes, comes to a line whose answer may want memory
 abbrev pub MayStop : Option (List ℕ) → Request → List (List ℕ) → Type 0
-MayStop live request contents =
-    ReadsLive request contents × MeetsLine (wants_ends (kind_at request)) (before_fault (plan_at request contents)) (wants_memory (kind_at request)) live
+MayStop live request contents = ReadsLive request contents × ((said : List ℕ) × stopped (plan_at request contents) live said)
 
 -- the cap is at most 4,194,304
 abbrev pub IsRanged : Request → Type 0
@@ -71,6 +91,7 @@ IsRanged (of_network verb asked cap) = cap ≤ most_load
 IsRanged (of_labelled verb asked cap) = cap ≤ most_load
 IsRanged (of_text verb asked proof) = Unit {0}
 IsRanged (of_document verb asked) = Unit {0}
+IsRanged (of_plan asked) = Unit {0}
 IsRanged (drill number) = Unit {0}
 IsRanged (host files deadline cap) = cap ≤ most_load
 IsRanged (version release) = Unit {0}

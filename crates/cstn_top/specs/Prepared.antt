@@ -1,12 +1,11 @@
 -- What is prepared for a request.
-use Rattle.std.specs.Prelude.{true, false, ◌≡◌, ℕ, List, [], Option, Some}
-use Rattle.cstn_request.specs.Requests.{Request, of_network, of_labelled, of_text, of_document, drill, host, version, files_of}
+use Rattle.std.specs.Prelude.{◌≡◌, ◌≤◌, ℕ, List, [], length, Option, Some}
+use Rattle.cstn_request.specs.Requests.{Request, files_of}
 use Rattle.cstn_request.specs.Files.{AreContents, AreThere}
 use Rattle.cstn_reply.specs.Texts.{Said}
 use Rattle.cstn_reply.specs.Read.{the_said}
 use Rattle.cstn_reply.specs.Statuses.{status_of}
 use Rattle.cstn_reply.specs.Written.{EndsLine}
-use Rattle.cstn_reply.specs.Reached.{heard, MeetsLine}
 use Rattle.cstn_reply.specs.declared.output.Outcome.TheVariants.{Document}
 use Rattle.cstn_run.specs.Sessions.{guided_turn, guided_ending}
 use Rattle.cstn_edit.specs.Editing.{the_editing, edit_turn, edit_wants, edit_ending}
@@ -14,11 +13,11 @@ use Rattle.cstn_run.specs.hosted.Sessions.{host_turn, host_wants, host_ending}
 use Rattle.cstn_run.specs.hosted.SessionRead.{the_host_session}
 use Rattle.cstn_follow.specs.Following.{following_ending}
 use Rattle.cstn_follow.specs.Read.{the_following}
-use Rattle.cstn_top.specs.Plans.{Plan, says, ComesTo, IsOutput, session, ended_session}
+use Rattle.cstn_top.specs.Plans.{Plan, says, ComesTo, IsOutput, session, wanting_session, ended_session}
 use Rattle.cstn_top.specs.Kinds.{Kind, a_run, an_edit, a_follow, a_host}
 use Rattle.cstn_top.specs.commands.Follow.{follow_turn}
 use Rattle.cstn_top.specs.Dispatch.{plan_at}
-use Rattle.cstn_top.specs.Meanings.{HoldsOf, files_read, RefusedIsThere}
+use Rattle.cstn_top.specs.Meanings.{HoldsOf, files_read, AskedFirst, RefusedIsThere}
 use Rattle.cstn_top.specs.declared.commands.Prepared.{Prepared}
 use Rattle.cstn_top.specs.declared.commands.Prepared.TheVariants.{Says, Runs, Edits, Follows, Hosts}
 
@@ -26,25 +25,9 @@ use Rattle.cstn_top.specs.declared.commands.Prepared.TheVariants.{Says, Runs, Ed
 abbrev pub the_plan : Prepared → Plan
 the_plan (Says said) = says (the_said said)
 the_plan (Runs opening session') = session guided_turn guided_ending opening.items session'
-the_plan (Edits editing) = session edit_turn edit_ending [] (the_editing editing)
+the_plan (Edits editing) = wanting_session edit_wants edit_turn edit_ending [] (the_editing editing)
 the_plan (Follows opening session') = ended_session follow_turn following_ending opening.items (the_following session')
-the_plan (Hosts opening session') = session host_turn host_ending opening.items (the_host_session session')
-
--- an opening is whole lines
-abbrev pub IsLined : Prepared → Type 0
-IsLined (Says said) = Unit {0}
-IsLined (Runs opening session') = EndsLine opening.items
-IsLined (Edits editing) = Unit {0}
-IsLined (Follows opening session') = EndsLine opening.items
-IsLined (Hosts opening session') = EndsLine opening.items
-
--- the session over the lines of the live source, which has these bytes, comes to a line whose answer may want memory
-abbrev pub MayWant : Option (List ℕ) → Prepared → Type 0
-MayWant live (Says said) = ⊥
-MayWant live (Runs opening session') = ⊥
-MayWant live (Edits editing) = MeetsLine false (heard edit_turn (the_editing editing)) edit_wants live
-MayWant live (Follows opening session') = MeetsLine true (heard follow_turn (the_following session')) (λ line. true) live
-MayWant live (Hosts opening session') = MeetsLine false (heard host_turn (the_host_session session')) host_wants live
+the_plan (Hosts opening session') = wanting_session host_wants host_turn host_ending opening.items (the_host_session session')
 
 -- a session is prepared only where it is asked for, and its opening is whole lines
 abbrev pub FitsKind : Kind → Prepared → Type 0
@@ -54,25 +37,15 @@ FitsKind kind (Edits editing) = kind ≡ an_edit
 FitsKind kind (Follows opening session') = EndsLine opening.items × (kind ≡ a_follow)
 FitsKind kind (Hosts opening session') = EndsLine opening.items × (kind ≡ a_host)
 
--- Where it is told that a document of a host is refused, this holds. A run, an edit session or one that follows is prepared for no
--- host.
-abbrev pub TellsOfHost : Type 0 → Prepared → Type 0
-TellsOfHost holds (Says said) = said.outcome ≡ Document → holds
-TellsOfHost holds (Runs opening session') = ⊥
-TellsOfHost holds (Edits editing) = ⊥
-TellsOfHost holds (Follows opening session') = ⊥
-TellsOfHost holds (Hosts opening session') = Unit {0}
+-- where the plan says that a document is refused, it is there, and so is each file before it; no file behind it was asked for
+abbrev pub TellsRefused : Option (List ℕ → Option (List ℕ)) → Option (List (List ℕ)) → Option (List (List ℕ)) → Request → Plan → Type 0
+TellsRefused told before after request plan =
+    (live : List ℕ) (said : Said) → IsOutput plan live said → said.outcome ≡ Document → HoldsOf (Some request) told (RefusedIsThere told before after)
 
--- Where it is told that a document of a host is refused, it is there, and so is each file before it. Of the other requests, which
--- read one document at most, nothing is told beside.
-abbrev pub TellsRefused : Option (List ℕ → Option (List ℕ)) → Request → Prepared → Type 0
-TellsRefused told (of_network verb asked cap) prepared = Unit {0}
-TellsRefused told (of_labelled verb asked cap) prepared = Unit {0}
-TellsRefused told (of_text verb asked proof) prepared = Unit {0}
-TellsRefused told (of_document verb asked) prepared = Unit {0}
-TellsRefused told (drill number) prepared = Unit {0}
-TellsRefused told (host files deadline cap) prepared = TellsOfHost (HoldsOf (Some (host files deadline cap)) told (RefusedIsThere told)) prepared
-TellsRefused told (version release) prepared = Unit {0}
+-- the first files of the request were asked for, each of them that has to be read for what the plan says
+pub record AsksEnough (request : Request) (told : Option (List ℕ → Option (List ℕ))) (before after : Option (List (List ℕ))) (plan : Plan) : Type 0 where
+  pub first : AskedFirst told before after (files_of request)
+  pub enough : (live : List ℕ) (said : Said) → IsOutput plan live said → length (files_read (status_of said.outcome) (files_of request)) ≤ first.count
 
 -- the plan says what the request says of the contents of its files, and the files that were read are there
 pub record Planned (request : Request) (told : Option (List ℕ → Option (List ℕ))) (plan : Plan) : Type 0 where

@@ -13,10 +13,6 @@ use Rattle.cstn_top.specs.Dispatch.{plan_of}
 use Rattle.cstn_top.specs.Meanings.{HoldsOf, ReadsLive, IsRanged}
 use Rattle.cstn_reply.specs.declared.status.Status.{Status}
 
--- what is seen of a live source, by the bytes that it has left and its count of faults
-abbrev pub view : {S : Type 0} → (S → Option (List ℕ)) → (S → ℕ) → S → LiveState
-view left faults source = record { left = left source; faults = faults source }
-
 -- calls failed: the count of faults rose, or it stood at 2^64 - 1
 abbrev pub Failed : {A : Type 0} → (A → ℕ) → A → A → Type 0
 Failed faults old new = Rose (faults old) (faults new)

@@ -1,20 +1,23 @@
 // What is prepared for each request, before anything is written.
-ghost use Rattle.std.specs.Prelude.{◌≡◌, ◌≤◌, [], IfOk, IsTrue, IsErrOf};
+ghost use Rattle.std.specs.Prelude.{◌≡◌, ◌≤◌, [], IfOk, IsTrue, IsErr, IsErrOf};
 ghost use Rattle.std.specs.List.{list_all};
 ghost use Rattle.cstn_io.specs.Causes.{Rose};
 ghost use Rattle.cstn_request.specs.Requests.{files_of};
 ghost use Rattle.cstn_request.specs.Read.{the_request};
-ghost use Rattle.cstn_top.specs.Prepared.{the_plan, Planned, FitsKind, TellsRefused};
+ghost use Rattle.cstn_top.specs.Prepared.{the_plan, Planned, FitsKind, TellsRefused, AsksEnough};
 ghost use Rattle.cstn_top.specs.Dispatch.{kind_at};
+ghost use Rattle.cstn_top.specs.Meanings.{AskedFirst};
 
 mod answers;
 mod closed;
 mod drill;
 mod follow;
 mod host;
+mod plan;
 mod questions;
 mod run;
 mod save;
+mod sentences;
 mod several;
 mod version;
 
@@ -61,7 +64,11 @@ pub(crate) fn prepare<F: Shelf>(
     requires may_ask { IsTrue (list_all (F.may_ask shelf.old) (files_of (the_request request))) }
     ensures plan { IfOk result (λ prepared. Planned (the_request request.entry) (F.files shelf.old) (the_plan prepared)) }
     ensures fits { IfOk result (FitsKind (kind_at (the_request request.entry))) }
-    ensures refused { IfOk result (TellsRefused (F.files shelf.old) (the_request request.entry)) }
+    ensures refused { IfOk result (λ prepared. TellsRefused (F.files shelf.old) (F.asked shelf.old) (F.asked shelf.new) (the_request request.entry)
+        (the_plan prepared)) }
+    ensures asked { IfOk result (λ prepared. AsksEnough (the_request request.entry) (F.files shelf.old) (F.asked shelf.old) (F.asked shelf.new)
+        (the_plan prepared)) }
+    ensures first { IsErr result → AskedFirst (F.files shelf.old) (F.asked shelf.old) (F.asked shelf.new) (files_of (the_request request.entry)) }
     ensures unnamed_stand { files_of (the_request request.entry) ≡ [] → shelf.new ≡ shelf.old }
     ensures fault { IsErrOf result Refused.ReadFault → Rose (F.faults shelf.old) (F.faults shelf.new) }
     ensures names { F.may_ask shelf.new ≡ F.may_ask shelf.old }

@@ -2,9 +2,8 @@
 ghost use Rattle.std.specs.Prelude.{◌<◌, ◌^◌};
 ghost use Rattle.std.specs.List.{All};
 
-use cstn_follow::{Following, Heard};
+use cstn_follow::{Following, Heard, read_spoken};
 use cstn_graphml::read;
-use cstn_lines::read_follow;
 use cstn_log::Cap;
 use cstn_net::{MAX_LOAD, Network};
 use cstn_reply::{AnswerText, Outcome};
@@ -43,6 +42,21 @@ pub(super) const STROKE: &str = concat!(
     "<edge source=\"Drip\" target=\"Scan\"><data key=\"LabeledValues\">{(-5, ⊡)}</data></edge></graph></graphml>",
 );
 
+/// The origin tells p; then comes A, by 3,000 where p is true.
+pub(super) const ORIGIN: &str = concat!(
+    "<graphml><graph><data key=\"Deadline\">5000</data>",
+    "<node id=\"Z\"><data key=\"Obs\">p</data><data key=\"Reaction\">10</data></node><node id=\"A\"/>",
+    "<edge source=\"Z\" target=\"A\"><data key=\"LabeledValues\">{(3000, p)}</data></edge>",
+    "<edge source=\"A\" target=\"Z\"><data key=\"LabeledValues\">{(-2000, ⊡)}</data></edge></graph></graphml>",
+);
+
+/// X tells p, which nothing needs; then comes Y.
+pub(super) const NEEDLESS: &str = concat!(
+    "<graphml><graph><data key=\"Deadline\">100</data><node id=\"Z\"/>",
+    "<node id=\"X\"><data key=\"Obs\">p</data><data key=\"Reaction\">5</data></node><node id=\"Y\"/>",
+    "<edge source=\"Y\" target=\"X\"><data key=\"LabeledValues\">{(-7, ⊡)}</data></edge></graph></graphml>",
+);
+
 // Asserts that the ids of the constraints are below 2,147,483,648.
 fn have_small_ids(rt: &impl Abort, net: &Network)
     ensures { All (λ c. c.id < 2 ^ 31) net.now.constraints }
@@ -72,7 +86,7 @@ pub(super) fn says(
     line: &str,
     answer: &str,
 ) {
-    let read = read_follow(alloc, line.as_bytes()).expect(rt, "memory");
+    let read = read_spoken(alloc, line.as_bytes()).expect(rt, "memory");
     match session.hear(read).expect(rt, "memory") {
         Heard::Text(text) => assert!(rt; text.as_slice() == answer.as_bytes(), "{line}"),
         Heard::Rest { .. } => panic!(rt; "{line}: a document"),
@@ -87,7 +101,7 @@ pub(super) fn leaves(
     points: u16,
     constraints: usize,
 ) {
-    let read = read_follow(alloc, b"rest").expect(rt, "memory");
+    let read = read_spoken(alloc, b"rest").expect(rt, "memory");
     match session.hear(read).expect(rt, "memory") {
         Heard::Text(_) => panic!(rt; "a text"),
         Heard::Rest { network, names } => {

@@ -6,7 +6,7 @@ use std::process::Abort;
 use std::test::Fail;
 
 // Each command with files for it, and what the program is.
-const COMMANDS: [Row<'static>; 14] = [
+const COMMANDS: [Row<'static>; 16] = [
     Row {
         name: "check",
         words: &["check", "f", "--deadline", "10"],
@@ -41,6 +41,26 @@ const COMMANDS: [Row<'static>; 14] = [
         name: "save",
         words: &["save", "f", "--deadline", "10"],
         file: BRANCH,
+        other: "",
+        live: "moment 0\n",
+        status: Status::Good,
+        text: SAVED,
+        left: "moment 0\n",
+    },
+    Row {
+        name: "sentences",
+        words: &["sentences", "f", "--deadline", "10"],
+        file: BRANCH,
+        other: "",
+        live: "moment 0\n",
+        status: Status::Good,
+        text: "deadline 10\nstep P observes p\nstep X\nX at 10.. if p\nX by 3 if not p\n",
+        left: "moment 0\n",
+    },
+    Row {
+        name: "plan",
+        words: &["plan", "f", "--deadline", "10"],
+        file: "step P observes p\nstep X\nX at 10.. if p\nX by 3 if not p\n",
         other: "",
         live: "moment 0\n",
         status: Status::Good,

@@ -11,6 +11,8 @@ mod faults;
 #[cfg(test)]
 mod following;
 #[cfg(test)]
+mod plans;
+#[cfg(test)]
 mod requests;
 #[cfg(test)]
 mod sessions;

@@ -46,7 +46,7 @@ pub(crate) struct Outcome {
 }
 
 // How many bytes can be written.
-const ROOM: usize = 1000;
+const ROOM: usize = 4000;
 
 // The release of the program that is asked.
 const RELEASE: Release = Release {

@@ -17,7 +17,7 @@ from cstn.plan import Limit, Plan, Step
 from cstn.session import Telling
 
 from cstn.board.ahead import Ahead, overdue, play
-from cstn.board.words import Part, is_least, limit_parts, named, number_of, shown, told
+from cstn.board.words import Part, is_least, limit_parts, named, number_of, shown, spoken, told
 
 Data = dict[str, Any]
 Found = TypeVar("Found")
@@ -138,8 +138,8 @@ def next_data(found: Next | None, plan: Plan) -> Data | None:
     if found is None:
         return None
     place = places(plan)
-    return {"at": found.at, "do": [place[step] for step in found.do], "wait": list(found.wait),
-            "names": [shown(step) for step in found.do]}
+    return {"at": found.at, "do": [place[step] for step in found.do], "names": [shown(step) for step in found.do],
+            "wait": [spoken(letter, plan.words) for letter in found.wait]}
 
 
 def lateness(it: Look) -> list[Data]:
@@ -147,8 +147,8 @@ def lateness(it: Look) -> list[Data]:
     now, place = it.outlook.now, places(it.plan)
     steps = [{"step": place[step], "name": shown(step), "due": at, "by": now - at}
              for step, at in it.due.items() if step not in it.outlook.done]
-    results = [{"letter": each.letter, "name": f"result {each.letter}", "due": each.expected, "by": now - each.expected}
-               for each in it.outlook.awaited if each.expected < now]
+    results = [{"letter": each.letter, "name": f"result {spoken(each.letter, it.plan.words)}", "due": each.expected,
+                "by": now - each.expected} for each in it.outlook.awaited if each.expected < now]
     return steps + results
 
 
@@ -163,7 +163,8 @@ def standing(step: Step, it: Look) -> str:
 
 def still_open(step: Step, it: Look) -> str:
     """What of a step's label is not known yet, in words."""
-    return named({letter: value for letter, value in step.label.items() if letter not in it.outlook.seen})
+    left = {letter: value for letter, value in step.label.items() if letter not in it.outlook.seen}
+    return named(left, it.plan.words)
 
 
 def step_data(index: int, step: Step, it: Look) -> Data:
@@ -175,8 +176,9 @@ def step_data(index: int, step: Step, it: Look) -> Data:
 
 def result_data(letter: str, it: Look) -> Data:
     observer = it.plan.observers[letter]
-    data: Data = {"letter": letter, "step": places(it.plan)[observer.name], "shown": shown(observer.name),
-                  "state": "unasked", "at": None, "expected": it.ahead.results.get(letter), "until": None}
+    data: Data = {"letter": letter, "word": spoken(letter, it.plan.words), "step": places(it.plan)[observer.name],
+                  "shown": shown(observer.name), "state": "unasked", "at": None,
+                  "expected": it.ahead.results.get(letter), "until": None}
     if (seen := it.outlook.seen.get(letter)) is not None:
         return data | {"state": "seen", "at": seen.at, "value": seen.value}
     for each in it.outlook.awaited:
@@ -194,7 +196,8 @@ def limit_data(limit: Limit, it: Look) -> Data:
     most = limit.most if now is None else now.most
     state = ("removed" if now is None else "added" if original is None
              else "changed" if most != original.most else "")
-    return {"id": limit.id, "parts": limit_parts(limit, least, most), "value": number_of(limit, most, least),
+    parts = limit_parts(limit, least, most, it.plan.words)
+    return {"id": limit.id, "parts": parts, "value": number_of(limit, most, least),
             "original": number_of(limit, (original or limit).most, least), "state": state, "says": shown(limit.says)}
 
 
@@ -238,7 +241,7 @@ def again(event: Event, plan: Plan) -> Data | None:
 def entry_data(number: int, telling: Telling, it: Look) -> Data:
     """A line of the history."""
     fact = again(telling.event, it.plan)
-    words: list[Part] = told(telling.event, {limit.id: limit for limit in all_limits(it)})
+    words: list[Part] = told(telling.event, {limit.id: limit for limit in all_limits(it)}, it.plan.words)
     at = fact["at"] if fact and fact["kind"] in ("did", "saw") else None
     return {"n": number, "key": telling.event.key, "at": at, "parts": words, "event": fact,
             "standing": telling.standing.value, "why": shown(telling.why), "verdict": verdict_of(telling)}
@@ -265,7 +268,7 @@ def outcome(plan: Plan, outlook: Outlook, blame: Sequence[int]) -> Data:
     found = outlook.next if isinstance(outlook.next, Next) else None
     limits = [outlook.limits[number] for number in blame if number in outlook.limits]
     return {"verdict": outlook.verdict.can.value, "over": is_over(outlook), "next": next_data(found, plan),
-            "blame": [limit_parts(limit, is_least(limit), limit.most) for limit in limits]}
+            "blame": [limit_parts(limit, is_least(limit), limit.most, plan.words) for limit in limits]}
 
 
 def page(it: Look) -> Data:
@@ -276,6 +279,7 @@ def page(it: Look) -> Data:
         "results": [result_data(letter, it) for letter in it.plan.observers],
         "limits": [limit_data(limit, it) for limit in all_limits(it)],
         "blame": blame_data(it),
-        "ahead": [{"letter": letter, "value": value} for letter, value in it.ahead.supposed.items()],
+        "ahead": [{"letter": letter, "word": spoken(letter, it.plan.words), "value": value}
+                  for letter, value in it.ahead.supposed.items()],
         "history": [entry_data(number, telling, it) for number, telling in enumerate(it.tellings, 1)],
     }

@@ -12,6 +12,8 @@ from cstn.plan import Limit
 OBEYED = re.compile("[\x00-\x1f\x7f-\x9f\u061c\u200e\u200f\u2028-\u202e\u2066-\u2069]")
 """What a screen obeys, at which it ends a line, or by which it turns writing round."""
 
+Words = Mapping[str, str]
+NO_WORDS: Words = {}
 Part = dict[str, Any]
 """A part of a sentence: a text, a name, or a number that is a moment or a length."""
 
@@ -21,9 +23,14 @@ def shown(text: str) -> str:
     return OBEYED.sub(lambda found: "".join(f"%{byte:02X}" for byte in found[0].encode()), text)
 
 
-def named(label: Label) -> str:
-    """A label in words: `i and not o`; nothing where it is the empty one."""
-    return " and ".join(letter if value else f"not {letter}" for letter, value in label.items())
+def spoken(letter: str, words: Words) -> str:
+    """A letter, behind its word if it has one."""
+    return f"{words[letter]} ({letter})" if letter in words else letter
+
+
+def named(label: Label, words: Words = NO_WORDS) -> str:
+    """A label in words: `infection and not o`; nothing for the empty one."""
+    return " and ".join(("" if value else "not ") + words.get(letter, letter) for letter, value in label.items())
 
 
 def is_least(limit: Limit) -> bool:
@@ -36,7 +43,7 @@ def number_of(limit: Limit, most: int, least: bool) -> int:
     return -most if least else most
 
 
-def limit_parts(limit: Limit, least: bool, most: int) -> list[Part]:
+def limit_parts(limit: Limit, least: bool, most: int, words: Words = NO_WORDS) -> list[Part]:
     """A limit as a sentence, whose number is `most`."""
     number = number_of(limit, most, least)
     later, earlier = (limit.source, limit.target) if least else (limit.target, limit.source)
@@ -48,34 +55,34 @@ def limit_parts(limit: Limit, least: bool, most: int) -> list[Part]:
     else:
         parts = [{"name": shown(later)}, {"text": " at least " if least else " at most "}, {"length": number},
                  {"text": " after "}, {"name": shown(earlier)}]
-    return [*parts, {"text": f", where {named(limit.label)}"}] if limit.label else parts
+    return [*parts, {"text": f", if {named(limit.label, words)}"}] if limit.label else parts
 
 
-def told(event: Event, limits: Mapping[int, Limit]) -> list[Part]:
+def told(event: Event, limits: Mapping[int, Limit], words: Words = NO_WORDS) -> list[Part]:
     """An event as a sentence without its moment."""
     match event:
         case Did(step):
             return [{"name": shown(step)}, {"text": " done"}]
         case Saw(letter, value):
-            return [{"name": letter}, {"text": f" is {'true' if value else 'false'}"}]
+            return [{"name": spoken(letter, words)}, {"text": f" is {'true' if value else 'false'}"}]
         case Expect(letter, int(at)):
-            return [{"name": letter}, {"text": " expected at "}, {"moment": at}]
+            return [{"name": spoken(letter, words)}, {"text": " expected at "}, {"moment": at}]
         case Now(int(at)):
             return [{"text": "it is "}, {"moment": at}]
         case Deadline(int(at)):
             return [{"text": "deadline "}, {"moment": at}]
         case Add(source, target, most, label):
             limit = Limit(0, source, target, most, label)
-            return [{"text": "put in: "}, *limit_parts(limit, is_least(limit), most)]
+            return [{"text": "put in: "}, *limit_parts(limit, is_least(limit), most, words)]
         case Change(number, most):
-            return changed(limits.get(number), number, most)
+            return changed(limits.get(number), number, most, words)
     return [{"text": shown(str(event))}]
 
 
-def changed(limit: Limit | None, number: int, most: int | None) -> list[Part]:
+def changed(limit: Limit | None, number: int, most: int | None, words: Words) -> list[Part]:
     if limit is None:
         return [{"text": f"limit {number} {'removed' if most is None else f'changed to {most}'}"}]
     least = is_least(limit)
     if most is None:
-        return [{"text": "removed: "}, *limit_parts(limit, least, limit.most)]
-    return [{"text": "changed: "}, *limit_parts(limit, least, most)]
+        return [{"text": "removed: "}, *limit_parts(limit, least, limit.most, words)]
+    return [{"text": "changed: "}, *limit_parts(limit, least, most, words)]

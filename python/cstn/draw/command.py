@@ -8,6 +8,7 @@
 
 with the options --deadline N, --start HH:MM, --tick SECONDS and --tasks TASKS. docs/draw.md says what each form draws.
 """
+import contextlib
 import io
 import os
 import re
@@ -17,7 +18,8 @@ from dataclasses import dataclass, field
 from ..explain.asking import Asked, read_once
 from ..explain.looks import looks
 from ..explain.names import harmless
-from ..explain.spoken import Clock, read_clock
+from ..explain.plans import is_plan, take_plan
+from ..explain.spoken import Clock, Spoken, read_clock
 from ..explain.stopped import Stopped
 from .gantt import draw_cases
 from .network import draw_network
@@ -73,7 +75,8 @@ def tasks_named(asked: Asked, path: str | None) -> list[Task] | None:
 def title_of(path: str) -> str:
     """The name of a document without its ending and its folder."""
     name = os.path.basename(path)
-    return re.sub(r"[-_]", " ", name.removesuffix(".graphml")).capitalize() if "." in name else name
+    bare = name.removesuffix(".graphml").removesuffix(".plan")
+    return re.sub(r"[-_]", " ", bare).capitalize() if "." in name else name
 
 
 def text_of(path: str, called: str) -> str:
@@ -114,18 +117,31 @@ def drawn(request: Request, asked: Asked, plan: Plan) -> str:
     return write_table(plan, places) if request.form == "--csv" else draw_cases(plan, places)
 
 
+def clock_of_plan(asked: Asked, files: contextlib.ExitStack, clock: Clock) -> Clock:
+    """Puts the document of a plan in sentences in its place; the clock of the options, or else that of the plan."""
+    Spoken.clock = clock
+    if refused := take_plan(asked, files):
+        raise Stopped(refused[0], "\n".join(refused[2]))
+    found, Spoken.clock = Spoken.clock, Clock()
+    return found
+
+
 def main(words: list[str]) -> str:
     """What is written for the words."""
-    request = parsed(words)
+    request, Spoken.words = parsed(words), {}
     clock: Clock = read_clock(request.options.get("--start"), request.options.get("--tick"))
     deadline = request.options.get("--deadline")
-    with read_once(request.files[0]) as (source, path):
+    with contextlib.ExitStack() as files:
+        source, path = files.enter_context(read_once(request.files[0]))
         asked = Asked(path, ["--deadline", deadline] if deadline else [])
         asked.source = source
+        if is_plan(request.files[0]):
+            clock = clock_of_plan(asked, files, clock)
         read_network(asked)
         tasks = tasks_named(asked, request.options.get("--tasks"))
         plan = read_plan(asked, title_of(request.files[0]), clock, tasks, request.form not in ("network", "now"))
-        return drawn(request, asked, plan)
+        written = drawn(request, asked, plan)
+    return written
 
 
 def run(words: list[str]) -> int:

@@ -3,6 +3,7 @@ from dataclasses import dataclass, field
 
 from ..explain.cases import Case
 from ..explain.networks import written
+from ..explain.spoken import Spoken
 from .chains import Link, chain_of, names_of
 from .plans import Plan
 from .svg import element, fitted, group, picture, readable, text_at, width
@@ -74,7 +75,7 @@ def rows_of(plan: Plan, case: Case) -> list[Row]:
 
 def outcomes_in_words(case: Case) -> str:
     """The outcomes of a case, as in `b true, o false`."""
-    return ", ".join(f"{letter} {str(value).lower()}" for letter, value in sorted(case.outcomes.items()))
+    return ", ".join(f"{Spoken.letter(it)} {str(value).lower()}" for it, value in sorted(case.outcomes.items()))
 
 
 def moments_in_words(plan: Plan, case: Case, row: Row) -> str:

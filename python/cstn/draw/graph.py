@@ -7,7 +7,7 @@ from dataclasses import dataclass, field
 
 from ..explain.networks import Network, literals, ticks
 from ..explain.shapes import Marks
-from ..explain.spoken import Clock
+from ..explain.spoken import Clock, Spoken
 from .plans import Blame, Plan
 
 
@@ -48,7 +48,7 @@ class Arrow:
 
 def condition(label: str, given: Marks | None = None) -> str:
     """A label in few words, as in ` if b and not o`, without what is given anyhow."""
-    words = [letter if value else f"not {letter}" for letter, value in left_of(label, given or {}).items()]
+    words = [("" if value else "not ") + Spoken.word(letter) for letter, value in left_of(label, given or {}).items()]
     return f" if {' and '.join(words)}" if words else ""
 
 
@@ -111,7 +111,7 @@ def boxes_of(plan: Plan) -> list[Box]:
         box = Box(name, net.observed.get(name, ""))
         if box.letter:
             after = ticks(net.reaction(name)) if plan.clock.start is None else plan.clock.lasts(net.reaction(name))
-            box.lines.append(Line(f"tells {box.letter} {after} later", name in blame.reactions))
+            box.lines.append(Line(f"tells {Spoken.letter(box.letter)} {after} later", name in blame.reactions))
         if name in net.labels:
             box.lines.append(Line(f"only{condition(net.labels[name])}"))
         for label, limit in limits.get(("Z", name), {}).items():
@@ -168,4 +168,4 @@ def add_waits(net: Network, blame: Blame, found: dict[tuple[str, str], Arrow], n
             continue
         arrow = found.setdefault((observer, name), Arrow(observer, name))
         arrow.loose, arrow.asks = False, letter
-        arrow.lines.insert(0, Line(f"{letter} {str(value).lower()}", is_blamed))
+        arrow.lines.insert(0, Line(f"{Spoken.word(letter)} {str(value).lower()}", is_blamed))

@@ -1,6 +1,7 @@
 """The network of a plan as a picture."""
 import math
 
+from ..explain.spoken import Spoken
 from .graph import Arrow, Box, Line, arrows_of, boxes_of
 from .layout import Layout, Point, Size, Way, laid_out
 from .plans import Plan
@@ -93,7 +94,7 @@ def legend(plan: Plan, boxes: list[Box], left_out: int) -> list[str]:
     letter = min((it.letter for it in boxes if it.letter), default="")
     if letter:
         lines.append("Yellow: what is seen there has a letter and a colour, and the steps that wait for it have its "
-                     f"outcome at their arrow, as {letter} true.")
+                     f"outcome at their arrow, as {Spoken.word(letter)} true.")
     if plan.blame:
         lines.append("The plan cannot be carried out. Red: these cannot be met together.")
     if left_out:

@@ -48,7 +48,7 @@ def cases_of(plan: Plan) -> list[str]:
         return [paragraph(plan.why)]
     latest = chosen(plan.cases, "latest")[0]
     drawn = list(range(min(len(plan.cases), MOST_CASES)))
-    options = "".join(element("option", escaped(f"{at + 1}: {where(plan.cases[at].label)[8:] or 'the plan'}; done at "
+    options = "".join(element("option", escaped(f"{at + 1}: {where(plan.cases[at].label)[5:] or 'the plan'}; done at "
                                                 f"{plan.clock.says(plan.cases[at].end)}")) for at in drawn)
     parts = []
     if len(drawn) > 1:

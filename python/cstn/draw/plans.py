@@ -53,7 +53,9 @@ def read_network(asked: Asked) -> None:
         raise Stopped(status, saved.strip() or "the document cannot be read")
     reader = Reader(asked.source)
     asked.saved, asked.net = saved, Network(saved)
-    asked.net.rows, asked.net.lines, asked.net.waits = reader.rows, reader.lines, reader.waits
+    found = asked.said or reader
+    asked.net.rows, asked.net.lines, asked.net.waits = found.rows, found.lines, reader.waits
+    asked.net.says = asked.said.says if asked.said else []
     asked.net.is_canonical = asked.is_canonical()
 
 

@@ -13,6 +13,7 @@ from collections.abc import Iterable, Iterator
 
 from ..errors import NoProgram
 from ..program import find
+from ..said import Said
 from .documents import MOST_BYTES
 from .names import typed
 from .networks import Network, literals, plain_copy, written
@@ -86,6 +87,7 @@ class Asked:
     def __init__(self, path: str, option: list[str]) -> None:
         self.program, self.path, self.option = program(), path, option
         self.source, self.saved = b"", ""
+        self.said: Said | None = None
 
     def answer(self, *words: str, live: str = "") -> tuple[int, str]:
         """The status of a call of the program, and what it writes."""
@@ -165,7 +167,7 @@ class Asked:
 
     def is_canonical(self) -> bool:
         """Whether the document stands as `save` and `rest` write one."""
-        return self.source == self.saved.encode()
+        return self.said is None and self.source == self.saved.encode()
 
     def tree(self) -> Tree | None:
         """The tree of a plan as data, or none where there is none."""

@@ -12,10 +12,14 @@ PROOF is what a no wrote, of `check`, `run`, `closed`, `tree`, `conflict` or `ti
 network is listed before it, but what of FILE was passed over. docs/commands.md says under `./cstn explain` what each
 form tells, and how it ends.
 
+FILE may be a plan in sentences, if its name ends in .plan: then constraints are named by its lines, and letters by its
+words.
+
 A reading aid: it is not proved, reads the document and the text alone, and changes nothing. What the network is, it
 takes from what `./cstn save FILE` writes (or the program that CSTN names); what was passed over, it finds in FILE
 itself; a no is told as `replay` judges it, and a tree where `treecheck` accepts it.
 """
+import contextlib
 import io
 import json
 import os
@@ -29,6 +33,7 @@ from .following import is_answer, is_followed, is_typed
 from .looks import looks
 from .names import harmless, harmless_data
 from .networks import Network, network_in_words, plain_copy, ticks
+from .plans import Told, is_plan, take_plan
 from .proofs import tell_judged_tree, tell_refutation
 from .refusals import tell_refused
 from .sessions import answered, tell_session
@@ -102,7 +107,7 @@ def tell_tree(asked: Asked) -> tuple[int, Data, list[str]]:
             letters = len(asked.net.observers)
             lines = [f"The plan can be carried out, and has up to {1 << letters} ways, by {letters} outcomes, which "
                      "are too many for words: `./cstn tree` writes them, of the copy of `./cstn explain --plain FILE` "
-                     "where FILE has labels on time-points."]
+                     "if FILE has labels on time-points."]
             return 10, {"answer": f"wide {letters}", "says": lines}, lines
     else:
         status, text = asked.answer_plain("tree")
@@ -231,7 +236,9 @@ def tell(asked: Asked, command: str, text: str | None, alone: bool) -> tuple[int
     if status:
         return tell_refusal(saved, status, reader)
     asked.saved, asked.net = saved, Network(saved)
-    asked.net.rows, asked.net.lines, asked.net.waits = reader.rows, reader.lines, reader.waits
+    found = asked.said or reader
+    asked.net.rows, asked.net.lines, asked.net.waits = found.rows, found.lines, reader.waits
+    asked.net.says = asked.said.says if asked.said else []
     asked.net.is_canonical = asked.is_canonical()
     if command:
         return told_of(asked, command)
@@ -245,15 +252,18 @@ def tell(asked: Asked, command: str, text: str | None, alone: bool) -> tuple[int
 
 def main(words: list[str]) -> int:
     Spoken.clock, words = clock_of(words)
+    Spoken.words = {}
     command, words, option, alone, as_data = parsed(words)
     text = text_of(words)
     least = re.match(r"least (\d{1,7})\n", text or "")
     if least and least[1] != "0":
         option = ["--deadline", str(int(least[1]) - 1)]
-    with read_once(words[0]) as (source, path):
+    with contextlib.ExitStack() as files:
+        source, path = files.enter_context(read_once(words[0]))
         asked = Asked(path, option)
         asked.source = source
-        status, data, lines = tell(asked, command, text, alone)
+        refused: Told | None = take_plan(asked, files) if is_plan(words[0]) else None
+        status, data, lines = refused or tell(asked, command, text, alone)
     if command == "plain" and not status:
         sys.stdout.buffer.write("".join(f"{line}\n" for line in lines).encode())
     elif as_data:

@@ -29,7 +29,7 @@ def tell_giving_way(asked: Asked, constraints: list[Data],
     if lines:
         lines += untried(values)
         mended = ", and the other set is mended" if others else ""
-        lines.insert(0, f"Where one of these limits alone gives way{mended}, the nearest value with which the plan can "
+        lines.insert(0, f"If one of these limits alone gives way{mended}, the nearest value with which the plan can "
                         "be carried out:")
     return found, lines, vain
 

@@ -1,5 +1,5 @@
-"""Answers of `follow` in words, with the lines of the document: what is next, until when a step can wait, what is to
-blame."""
+"""Answers of `follow` in words, with the lines of the document: what is next, until when a step can wait, how late an
+outcome may be, what is to blame."""
 import bisect
 import functools
 import re
@@ -12,16 +12,20 @@ from .spoken import Spoken
 
 # The answers that are put into words.
 ANSWER = re.compile(r"next (?P<next>[0-9]{1,10})(?: do (?P<do>[^ ]+(?: [^ ]+)*?))?(?: wait (?P<wait>[A-Za-z]+))?|"
-                    r"by (?P<by>[0-9]{1,10}) (?P<name>[^ ]+)|blame(?P<blame>(?: [0-9]{1,10})*)")
+                    r"by (?P<by>[0-9]{1,10}) (?P<name>[^ ]+)|blame(?P<blame>(?: [0-9]{1,10})*)|"
+                    r"until (?P<until>[0-9]{1,10})|late (?P<late>[0-9]{1,10}|none) (?P<of>[A-Za-z])")
 
 # Lines that are typed, alone or behind `> `, those that an answer may be too, and answers of one line.
-TYPED = re.compile(r"> .*|(did|saw|now|await|add|remove|change) .*|by (?!\d+ [^ ]).*|next|check|rest")
+TYPED = re.compile(r"> .*|(did|saw|now|await|add|remove|change) .*|by (?!\d+ [^ ]).*|late [A-Za-z]|"
+                   "by|next|check|rest|until|verdict")
 EITHER = re.compile(r"blame|deadline \d+")
-ANSWERED = re.compile(r"(yes|no|full|added|removed|changed|deadline) [0-9]{1,10}|refused .*|(next|by) [0-9]{1,10} .*|"
-                      r"blame( [0-9]{1,10})*|done")
+ANSWERED = re.compile(r"(yes|no|full|added|removed|changed|deadline|until) [0-9]{1,10}|refused .*|"
+                      r"(next|by) [0-9]{1,10} .*|blame( [0-9]{1,10})*|late ([0-9]{1,10}|none) [A-Za-z]|done")
 FACT = re.compile(r"(?P<kind>did|saw|now|await) (?P<moment>[0-9]{1,10})(?: (?P<rest>[^ ]+(?: [^ ]+)*))?")
 EDIT = re.compile(r"change (?P<number>[0-9]{1,10}) (?P<value>-?[0-9]{1,10})|deadline (?P<deadline>[0-9]{1,10})|"
                   r"add [^ ]+ [^ ]+ (?P<added>-?[0-9]{1,10}) .*")
+NEVER = 1_000_000
+"""What `until` and `late` answer if time, or the outcome, makes no difference."""
 UNPAIRED = "The typed lines do not stand each before its answer, and are not used."
 
 # What `check` writes after a no, and how what `rest` writes begins and ends.
@@ -43,7 +47,7 @@ def is_typed(text: str) -> bool:
     """Whether a text begins with a line that is typed into a session, or with the call behind `$ `."""
     line = text.split("\n")[0]
     return bool(re.match(r"\$ |(?:> )?(?:(?:did|saw|now|await) \d+\b|(?:add|remove|change|deadline|by) [^ ]|"
-                         r"(?:next|check|rest)$)", line))
+                         r"late [A-Za-z]$|(?:by|next|check|rest|until|verdict)$)", line))
 
 
 def rests(text: str) -> list[tuple[int, int]]:
@@ -62,7 +66,8 @@ def lacking(net: Network, answer: re.Match[str]) -> list[str]:
     """What an answer names that the document lacks, in words."""
     names = [printed(name) for name in (answer["do"] or answer["name"] or "").split(" ") if name]
     lacks = [f"no time-point {shown(name)}" for name in names if name not in net.places]
-    return lacks + [f"nobody who observes {letter}" for letter in answer["wait"] or "" if letter not in net.observers]
+    letters = answer["wait"] or answer["of"] or ""
+    return lacks + [f"nobody who observes {letter}" for letter in letters if letter not in net.observers]
 
 
 def placed(net: Network, name: str) -> tuple[Data, str]:
@@ -136,7 +141,8 @@ def tell_next(net: Network, answer: re.Match[str], heard: Heard) -> Data:
     for letter in answer["wait"] or "":
         point, words = placed(net, net.observers[letter])
         told = told_of(net, point["name"], heard)
-        says.append(f"At {Spoken.moment(int(moment))} the outcome of {letter} is awaited: {words} observes it{told}.")
+        says.append(f"At {Spoken.moment(int(moment))} the outcome of {Spoken.letter(letter)} is awaited: {words} "
+                    f"observes it{told}.")
         awaited.append({"letter": letter, "observer": point["name"], "line": point["line"]})
     do = [point for point, _ in points]
     return {"answer": "next", "moment": int(moment), "do": do, "wait": awaited, "says": says}
@@ -147,6 +153,29 @@ def tell_by(net: Network, answer: re.Match[str]) -> Data:
     point, words = placed(net, printed(answer["name"]))
     says = [f"{words} can wait until {Spoken.moment(int(answer['by']))}, and no longer."]
     return {"answer": "by", "moment": int(answer["by"]), **point, "says": says}
+
+
+def tell_until(answer: re.Match[str]) -> Data:
+    """Until when nothing need happen, as data and in words."""
+    moment = int(answer["until"])
+    says = f"If nothing happens before, what is left can be carried out until {Spoken.moment(moment)}, and no longer."
+    if moment == NEVER:
+        says = "Nothing is left but outcomes, so time changes nothing."
+    return {"answer": "until", "moment": moment, "says": [says]}
+
+
+def tell_late(net: Network, answer: re.Match[str]) -> Data:
+    """Until when an outcome may be late, as data and in words."""
+    point, words = placed(net, net.observers[answer["of"]])
+    letter, moment = Spoken.letter(answer["of"]), None if answer["late"] == "none" else int(answer["late"])
+    says = f"The outcome of {letter}, which {words} observes, "
+    if moment is None:
+        says += "comes too late, whenever it comes."
+    elif moment == NEVER:
+        says += "may as well not come."
+    else:
+        says += f"may come as late as {Spoken.moment(moment)}, and no later."
+    return {"answer": "late", "letter": answer["of"], "moment": moment, "observer": point["name"], "says": [says]}
 
 
 def blamed(net: Network, number: int, heard: Heard) -> str:
@@ -164,7 +193,7 @@ def untold(net: Network, numbers: list[int], heard: Heard) -> list[str]:
     ends = {name for number in numbers if number < len(net.constraints) for name in net.constraints[number][:2]}
     left = sorted(ends - heard.done.keys(), key=net.places.__getitem__) if heard.done else []
     names = ", ".join(shown(name) for name in left if net.is_executed(name, heard.known))
-    says = f"Of their steps nothing was told of {names}: where one was done, tell it, with its moment, by `did`."
+    says = f"Of their steps nothing was told of {names}: if one was done, tell it, with its moment, by `did`."
     return [says] if names else []
 
 
@@ -181,7 +210,7 @@ def tell_blame(net: Network, answer: re.Match[str], heard: Heard, tried: Tried) 
     head = "After what has happened these cannot be met together; with any one of them less the others can:"
     if not numbers:
         head = ("No constraint is to blame: what has happened leaves nothing even without them, as after the "
-                "deadline, or where a label cannot be known by then.")
+                "deadline, or if a label cannot be known by then.")
     elif len(numbers) == 1:
         head = "After what has happened this cannot be met:"
     limits, more = tried(heard, numbers)
@@ -194,6 +223,10 @@ def tell_answer(net: Network, answer: re.Match[str], heard: Heard, tried: Tried)
     """An answer as data and in words."""
     if answer["next"]:
         return tell_next(net, answer, heard)
+    if answer["until"]:
+        return tell_until(answer)
+    if answer["late"]:
+        return tell_late(net, answer)
     return tell_by(net, answer) if answer["by"] else tell_blame(net, answer, heard, tried)
 
 
@@ -244,16 +277,17 @@ def turns_of(text: str) -> tuple[list[tuple[int, str, str]], bool]:
     lines, has_rest = answers_alone(text), bool(rests(text))
     if not any(TYPED.fullmatch(line) for line in lines):
         return [(at, "", line) for at, line in enumerate(lines) if ANSWERED.fullmatch(line)], True
-    turns, asked, paired = [], None, True
+    turns, asked, paired, more = [], None, True, False
     begun = 1 + bool(re.match(r"follow \d", text))
     for at, line in enumerate(lines):
         either = EITHER.fullmatch(line)
         if TYPED.fullmatch(line) or either and asked is None and at >= begun:
             paired, asked = paired and asked is None, line.removeprefix("> ")
         elif ANSWERED.fullmatch(line):
-            paired = paired and (asked is not None or at < begun or line == "done")
+            more = more and line.startswith("by ")
+            paired = paired and (asked is not None or more or at < begun or line == "done")
             turns.append((at, asked or "", line))
-            asked = None
+            more, asked = more or asked == "by", None
         elif asked == "rest" and line == "" and has_rest:
             asked = None
     return turns if paired else [(at, "", line) for at, _, line in turns if line != "blame"], paired

@@ -7,6 +7,7 @@ from .cases import ways
 from .names import shown
 from .networks import Network, constraint, literals, ticks, where, written
 from .shapes import Data, Marks, Tree
+from .spoken import Spoken
 
 MOST_CASES = 16
 MOST_CHANGES = 32
@@ -194,11 +195,11 @@ def tell_shortest(net: Network, tree: Tree) -> tuple[list[Data], list[str]]:
     """The ranges that a plan takes at their shortest, as data and in words."""
     found, lines = shortest(net, tree), []
     for least, most, first, then, low, high, every in found:
-        ids = " and ".join(net.called(it) for it in sorted((least, most)))
+        ids = net.called_both(*sorted((least, most)))
         says = f"{shown(then)} {low} to {ticks(high)} after {shown(first)}{where(net.constraints[least][3])}"
         lines.append(f"{ids}: {says}: the plan takes {low}{'' if every else ' in some cases'}")
     if lines:
-        lines.insert(0, "Ranges that the plan takes at their shortest. Where the length is not its choice, the yes "
+        lines.insert(0, "Ranges that the plan takes at their shortest. If the length is not its choice, the yes "
                         "says nothing of a longer one: write the longest as the least, or as the reaction of an "
                         "observation.")
     data = [{"constraints": [least, most], "from": first, "to": then, "least": low, "most": high,
@@ -250,14 +251,15 @@ def tell_disagreeing(net: Network) -> tuple[list[Data], list[str]]:
     """The constraints that seem to repeat a reaction and do not agree with it, as data and in words."""
     found, lines = disagreeing(net), []
     for number, observer, least in found:
-        reaction, letter, name = net.reaction(observer), net.observed[observer], shown(net.constraints[number][0])
+        reaction, name = net.reaction(observer), shown(net.constraints[number][0])
+        letter = Spoken.letter(net.observed[observer])
         fault = "where others say the same: is it the reaction of an earlier day?"
         if least < reaction:
             fault = f"so {name} does not wait for {letter}"
         lines.append(f"{net.called(number)}: {name} at least {ticks(least)} after {shown(observer)}, but {letter} is "
                      f"known {ticks(reaction)} after it, {fault}")
     if lines:
-        lines.insert(0, "Reactions that seem to be written again on an edge, and do not agree:")
+        lines.insert(0, "Reactions that seem to be written again in a limit, and do not agree:")
     data = [{"constraint": number, "observer": observer, "reaction": net.reaction(observer), "at_least": least}
             for number, observer, least in found]
     return data, lines
@@ -284,9 +286,9 @@ def repeating(net: Network) -> Iterator[tuple[int, str, str]]:
 def tell_repeating(net: Network) -> tuple[list[Data], list[str]]:
     """The constraints that only repeat what a label asks for, as data and in words."""
     found = list(repeating(net))
-    lines = [f"{net.called(number)}: the label of {shown(source)} makes it wait until {net.observed[target]} is known"
-             for number, source, target in found]
+    lines = [f"{net.called(number)}: the label of {shown(source)} makes it wait until "
+             f"{Spoken.letter(net.observed[target])} is known" for number, source, target in found]
     if lines:
-        lines.insert(0, "Edges that only repeat what a label asks for. In `follow` they count also where the outcome "
-                        "comes early: leave them out where that is not meant.")
+        lines.insert(0, "Limits that only repeat what a label asks for. In `follow` they count also if the outcome "
+                        "comes early: leave them out if that is not meant.")
     return [{"constraint": number, "observer": target} for number, _, target in found], lines

@@ -71,12 +71,12 @@ def tell_nothing_waits(net: Network, cases: list[Case]) -> tuple[list[Data], lis
     """The steps for which nothing waits, as data and in words."""
     found, lines = nothing_waits(net, cases), []
     for name, each, count in found:
-        which = f"in {len(each)} of its {count} cases, as{where(each[0].label)[1:]}"
+        which = f"in {len(each)} of its {count} cases, for example{where(each[0].label)[1:]}"
         if len(each) == count:
             which = "in every case" if count == len(cases) else "wherever it is executed"
         lines.append(f"{shown(name)}: {which}")
     if lines:
-        lines.insert(0, "Steps for which nothing waits, so the plan may end before them. Where that is not meant, a "
+        lines.insert(0, "Steps for which nothing waits, so the plan may end before them. If that is not meant, a "
                         "constraint is missing:")
     data = [{"time_point": name, "cases": len(each), "of": count, "as": each[0].label} for name, each, count in found]
     return data, lines
@@ -160,5 +160,5 @@ def tell_may_be_put_off(net: Network) -> tuple[list[Data], list[str]]:
                      f"{shown(source)}, {net.reaction(observer)}")
     if lines:
         lines.insert(0, "Steps at most some ticks after others that the plan may put off, since these have a label and "
-                        "no limit. Where such a one stands for a result, an edge is missing:")
+                        "no limit. If such a one stands for a result, a limit is missing:")
     return [{"constraint": number, "observer": observer} for number, observer in found], lines

@@ -28,6 +28,7 @@ class Network:
         self.labels: dict[str, str] = {}
         self.constraints: list[tuple[str, str, int, str]] = []
         self.rows: list[int] = []
+        self.says: list[str] = []
         self.lines: dict[tuple[str | None, str], int] = {}
         self.waits: set[int] = set()
         self.awaited: dict[str, int] | None = None
@@ -80,8 +81,15 @@ class Network:
         return found
 
     def called(self, number: int) -> str:
-        """The id of a constraint, with its line in the document where that was found."""
-        return f"{number} (line {self.rows[number]})" if self.has_rows() else str(number)
+        """The id of a constraint, with its line in FILE where that was found, and what that line says in a plan."""
+        says = f": {self.says[number]}" if self.says else ""
+        return f"{number} (line {self.rows[number]}{says})" if self.has_rows() else str(number)
+
+    def called_both(self, one: int, other: int) -> str:
+        """Two constraints, with their line once where one line of a plan says both."""
+        if self.says and self.rows[one] == self.rows[other]:
+            return f"{one} and {self.called(other)}"
+        return f"{self.called(one)} and {self.called(other)}"
 
     def has_rows(self) -> bool:
         return len(self.rows) == len(self.constraints)
@@ -203,12 +211,11 @@ def ticks(number: int) -> str:
     return f"{number} tick" if number == 1 else f"{number} ticks"
 
 
-@functools.lru_cache(maxsize=None)
 def where(label: str) -> str:
     """A label of a document or of a text in words, and nothing for the empty one."""
     signs = {"": "is true", "¬": "is false", "!": "is false", "?": "isn't known yet"}
-    words = [f"{letter} {signs[sign]}" for sign, letter in re.findall(r"([¬!?]?)([A-Za-z])", label)]
-    return ", where " + " and ".join(words) if words else ""
+    words = [f"{Spoken.letter(letter)} {signs[sign]}" for sign, letter in re.findall(r"([¬!?]?)([A-Za-z])", label)]
+    return ", if " + " and ".join(words) if words else ""
 
 
 def constraint(source: str, target: str, most: int, label: str) -> str:
@@ -237,7 +244,7 @@ def network_in_words(net: Network) -> list[str]:
     """The deadline, the time-points, what is observed, the labels and the constraints, a line for each."""
     names = ", ".join(shown(name) for name in net.names)
     lines = [f"The deadline is {Spoken.moment(net.deadline)}. {len(net.names)} time-points: {names}."]
-    lines += [f"{shown(name)} tells {letter}, which is known {ticks(net.reaction(name))} later."
+    lines += [f"{shown(name)} tells {Spoken.letter(letter)}, which is known {ticks(net.reaction(name))} later."
               for name, letter in net.observed.items()]
     lines += [f"{shown(name)} is executed only{where(label)[1:]}." for name, label in net.labels.items()]
     for number, parts in enumerate(net.constraints):

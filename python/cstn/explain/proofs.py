@@ -9,7 +9,7 @@ from .spoken import Spoken
 from .trees import tree_in_words, tree_of, what_breaks
 
 TYPED_FIRST = ("PROOF begins with a line that is typed. What is put into words is what `follow` wrote, from its line "
-               "`follow 1` on: leave out what stands above that. Lines that are typed alone are told again, where "
+               "`follow 1` on: leave out what stands above that. Lines that are typed alone are told again, if "
                "`follow` takes each of them.")
 RETURNS = "PROOF has lines that end with CR and LF, and in each text that the program writes they end with LF alone."
 
@@ -59,7 +59,7 @@ def tell_judged_tree(asked: Asked, text: str) -> tuple[int, Data, list[str]]:
                  "missing, or has a name that FILE lacks."]
     else:
         lines = [f"This is no plan of FILE with the deadline {asked.net.deadline}: `treecheck` says {said}. Say the "
-                 "`--deadline N` of the check, where it had one."]
+                 "`--deadline N` of the check, if it had one."]
     number, rows = int((re.findall(r"\d+", said) or ["0"])[0]), text.split("\n")
     if 0 < number <= len(rows):
         lines.append(f"line {number} of PROOF: {rows[number - 1] or '(nothing)'}")

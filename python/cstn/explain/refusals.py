@@ -155,7 +155,7 @@ def tell_pair(part: str) -> list[str]:
     """What is wrong with a value and its label, if it is one of the usual things."""
     value = next((it.strip() for it in part.split(",") if re.search(r"\d", it)), "")
     if value and not re.fullmatch(r"[-−]?[0-9]+", value):
-        lacks = "a value is a whole number, with - before it where it is negative"
+        lacks = "a value is a whole number, with - before it if it is negative"
         if "," not in part:
             lacks = "a comma stands between a value and its label, as in (-5, p)"
         return [f"`{cut(value)}` is no value: {lacks}"]

@@ -86,7 +86,7 @@ class Refutation:
         own, source, target, _, label = self.constraints[number]
         if own is not None:
             return f"constraint {self.net.called(own) if with_line else own}"
-        asks = f", which asks for {self.net.observed[target]}" if len(literals(label)) > 1 else ""
+        asks = f", which asks for {Spoken.letter(self.net.observed[target])}" if len(literals(label)) > 1 else ""
         return f"the label of {shown(source)}{asks}"
 
     def beside(self, number: int) -> str:
@@ -95,11 +95,11 @@ class Refutation:
         net, (own, source, target, *_) = self.net, self.constraints[number]
         if own is not None:
             return FOR_A_LABEL if number in net.waits else ""
-        letter, name = net.observed[target], shown(target)
+        letter, name = Spoken.letter(net.observed[target]), shown(target)
         if target in self.done:
             return (f": the outcome of {letter} is awaited until {self.until(target)} ({name} was done). "
                     "What may help: an earlier `await`, or its value by `saw`")
-        left = f"; where `rest` wrote FILE and {name} was done, an earlier `await`, or its value by `saw`"
+        left = f"; if `rest` wrote FILE and {name} was done, an earlier `await`, or its value by `saw`"
         is_left = net.is_canonical and target in net.pins
         shorter = f", a shorter reaction of {name}" if net.reaction(target) > 1 else ""
         return (f" (no constraint of FILE: {net.told_at(source, 'Label')} waits for its label, and "
@@ -153,7 +153,7 @@ class Refutation:
         """Each constraint and each reaction of more than a tick that the steps use, in words."""
         lines = [self.says(number) for number in self.numbers()]
         for name in self.reactions():
-            letter, says = self.net.observed[name], shown(name)
+            letter, says = Spoken.letter(self.net.observed[name]), shown(name)
             uses = f"the reaction of {says}: {letter} is known {ticks(self.net.reaction(name))} after it"
             if name in self.done:
                 uses = f"that the outcome of {letter} is awaited until {self.until(name)} ({says} was done)"
@@ -165,7 +165,7 @@ class Refutation:
         its own has not."""
         if not letter or letter in label or not dropped(letter, labels):
             return ""
-        return f" (in every case of {letter}, which {shown(name)} does not know yet)"
+        return f" (in every case of {Spoken.letter(letter)}, which {shown(name)} does not know yet)"
 
     def step(self, number: int) -> str:
         """A step in words; what it bounds and what it uses is kept."""
@@ -193,7 +193,7 @@ class Refutation:
         net, says = self.net, shown(name)
         self.used.add(seen)
         value = dropped(net.observed.get(seen, ""), [premise[2]])
-        until = f"waits as if {net.observed[seen]} were {value}" if value else "has to wait"
+        until = f"waits as if {Spoken.letter(net.observed[seen])} were {value}" if value else "has to wait"
         known = f"is known {ticks(net.reaction(seen))} after it"
         if seen in self.done:
             known = f"is awaited until {self.until(seen)}"
@@ -260,7 +260,7 @@ def accepted_no(refutation: Refutation, text: str, missing: tuple[Data, list[str
     end = "the start is at 0" if name == "Z" else f"the deadline is {Spoken.moment(net.limit(name))}"
     lines += [*steps, f"But {end}, so no plan can be carried out{where(label)}."]
     if any(refutation.turns) and not lacks:
-        lines.append("The turns go on until they meet the deadline or a constraint. Where `tight` with a larger "
+        lines.append("The turns go on until they meet the deadline or a constraint. If `tight` with a larger "
                      f"deadline says no too, none helps: {refutation.advice()}.")
     data = {"answer": "no", "deadline": net.deadline, "each_needed": blamed, **lacks, "constraints": refutation.uses(),
             "reactions": refutation.reactions(), "steps": steps, "where": label.strip("-")}
@@ -270,7 +270,7 @@ def accepted_no(refutation: Refutation, text: str, missing: tuple[Data, list[str
 EDITED = ("PROOF is of another document, or of edits: write these into a copy of FILE, check that, and explain its "
           "no, or tell the edits to `follow`, keep what `rest` writes as NEW, and call `./cstn explain --conflict "
           "NEW`.")
-ANOTHER = ("Say the `--deadline N` of the check, where it had one; of a no of `edit`, write the edits into a copy of "
+ANOTHER = ("Say the `--deadline N` of the check, if it had one; of a no of `edit`, write the edits into a copy of "
            "FILE first; of one of `follow`, name as FILE what `rest` wrote.")
 
 

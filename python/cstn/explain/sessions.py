@@ -19,7 +19,7 @@ TOO_MUCH = ("By how much is not tried, since that is much in so large a plan or 
 ANOTHER = ("This session is not of FILE with the deadline {}: it begins with `{}`, and `check` says {}. Its ids and "
            "moments are of the document that was followed: name that one, not what `rest` wrote, and the "
            "`--deadline N` that it had.")
-NO_ANSWER = "There is no answer to `next`, `by` or `blame`, and no step of `check`."
+NO_ANSWER = "There is no answer to `next`, `by`, `until`, `late` or `blame`, and no step of `check`."
 MAY_BE_REST = ("FILE may be what `rest` wrote. Then these are other constraints: ids of `blame` are of the document "
                "that was followed, so name that one.")
 
@@ -116,11 +116,11 @@ class HowFar:
 
 def answered(asked: Asked, text: str) -> str:
     """Typed lines alone with the answers that `follow` gives to them, where they ask for none with what is next and
-    what is to blame; or nothing where they are not such lines. `check` and `rest` are left out."""
-    lines = [line for line in text.removesuffix("\n").split("\n") if line not in ("check", "rest")]
+    what is to blame; or nothing where they are not such lines. Those with answers of several lines are left out."""
+    lines = [line for line in text.removesuffix("\n").split("\n") if line not in ("by", "check", "rest")]
     if not all(TYPED.fullmatch(line) or EITHER.fullmatch(line) for line in lines) or lines[0].startswith("> "):
         return ""
-    lines += [] if any(re.match("(next|by|blame)", line) for line in lines) else ["next", "blame"]
+    lines += [] if any(re.match("(next|by|blame|until|late)", line) for line in lines) else ["next", "blame"]
     said = asked.answer_at("follow", live="".join(f"{line}\n" for line in lines))[1].split("\n")
     turns = [f"> {line}\n{answer}\n" for line, answer in zip(lines, said[2:])]
     return "".join([*(f"{line}\n" for line in said[:2]), *turns]) if len(said) > len(lines) + 2 else ""

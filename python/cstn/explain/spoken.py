@@ -4,6 +4,7 @@ from __future__ import annotations
 import math
 import re
 from dataclasses import dataclass
+from typing import ClassVar
 
 from .stopped import Stopped
 
@@ -72,11 +73,22 @@ def read_clock(start: str | None, tick: str | None) -> Clock:
 
 
 class Spoken:
-    """How the words of an answer say moments."""
+    """How the words of an answer say moments, and letters for which there is a word."""
 
     clock = Clock()
+    words: ClassVar[dict[str, str]] = {}
 
     @classmethod
     def moment(cls, tick: int) -> str:
         """A moment in words: where there is a clock its time, and behind it the tick."""
         return str(tick) if cls.clock.start is None else f"{cls.clock.says(tick)} ({tick})"
+
+    @classmethod
+    def word(cls, letter: str) -> str:
+        """The word for a letter, or else the letter."""
+        return cls.words.get(letter, letter)
+
+    @classmethod
+    def letter(cls, letter: str) -> str:
+        """A letter in words: its word, and behind it the letter."""
+        return f"{cls.words[letter]} ({letter})" if letter in cls.words else letter

@@ -45,8 +45,8 @@ def when(groups: list[Data]) -> list[str]:
             says += f", and it can wait until {until}, {ticks(left)} more" if left else ", and it cannot wait"
         if len(groups) > 1:
             count = len(it["cases"])
-            says += f" ({count} cases, as{where(it['cases'][0])[1:]})" if count > 1 else \
-                f" (where{where(it['cases'][0])[7:]})"
+            says += f" ({count} cases, for example{where(it['cases'][0])[1:]})" if count > 1 else \
+                f" ({where(it['cases'][0])[2:]})"
         lines.append(says)
     more = len(groups) - MOST_GROUPS
     return [*lines, f"and {more} more"] if more > 0 else lines
@@ -69,8 +69,8 @@ def tied(net: Network, numbers: list[int]) -> list[str]:
 def waits_of(net: Network, name: str) -> list[str]:
     """The outcomes that the label of a step asks for."""
     found = [(letter, net.observers[letter], value) for letter, value in literals(net.labels.get(name, "")).items()]
-    return [f"its label: {letter} is to be {str(value).lower()}, and is known {ticks(net.reaction(observer))} after "
-            f"{shown(observer)}" for letter, observer, value in found]
+    return [f"its label: {Spoken.letter(letter)} is to be {str(value).lower()}, and is known "
+            f"{ticks(net.reaction(observer))} after {shown(observer)}" for letter, observer, value in found]
 
 
 def waiting_for(net: Network, name: str) -> list[str]:
@@ -78,8 +78,8 @@ def waiting_for(net: Network, name: str) -> list[str]:
     letter = net.observed.get(name)
     names = [shown(other) for other in net.names if letter and letter in net.executed[other]]
     if len(names) < 2:
-        return [f"the label of {it}, which asks for {letter}" for it in names]
-    return [f"the labels of {', '.join(names)}, which ask for {letter}"]
+        return [f"the label of {it}, which asks for {Spoken.letter(letter or '')}" for it in names]
+    return [f"the labels of {', '.join(names)}, which ask for {Spoken.letter(letter or '')}"]
 
 
 def tell_step(asked: Asked, called: str) -> tuple[int, Data, list[str]]:
@@ -95,7 +95,7 @@ def tell_step(asked: Asked, called: str) -> tuple[int, Data, list[str]]:
     cases, why = told_cases(asked)
     groups, label = moments_of(cases, name), net.labels.get(name, "")
     letter = net.observed.get(name)
-    told = f" It tells {letter}, which is known {ticks(net.reaction(name))} later." if letter else ""
+    told = f" It tells {Spoken.letter(letter)}, which is known {ticks(net.reaction(name))} later." if letter else ""
     lines = [f"{net.told_at(name, 'id')} is executed {'only' + where(label)[1:] if label else 'in every case'}.{told}",
              *(f"It comes {it}." for it in when(groups)), *soonest(groups)]
     lines += [NO_MOMENTS.format(why)] if why else []
@@ -111,7 +111,7 @@ def tell_float(asked: Asked) -> tuple[int, Data, list[str]]:
     cases, why = told_cases(asked)
     if not cases:
         return 1, {"answer": "float", "steps": None}, [f"How long each step can wait is not told, since {why}."]
-    lines = ["How long each step can wait, where all before it comes as planned, and what comes after makes up for it:"]
+    lines = ["How long each step can wait, if all before it comes as planned, and what comes after makes up for it:"]
     steps = []
     first = {name: min((it.moments[name] for it in cases if name in it.moments), default=0) for name in asked.net.names}
     for name in sorted(asked.net.names, key=first.__getitem__):

@@ -46,8 +46,9 @@ def tree_in_words(items: Tree, depth: int = 0) -> list[str]:
     words, indent = [], "  " * depth
     for item in items:
         if "ask" in item:
+            letter = Spoken.letter(item["ask"])
             for value in ("true", "false"):
-                words += [f"{indent}Where {item['ask']} is {value}:", *tree_in_words(item[value], depth + 1)]
+                words += [f"{indent}If {letter} is {value}:", *tree_in_words(item[value], depth + 1)]
             continue
         names = [shown(name) + unknown_in_words(item["before"].get(name, [])) for name in item["names"]]
         left_out = ", ".join(shown(name) for name in item["left_out"])
@@ -56,7 +57,8 @@ def tree_in_words(items: Tree, depth: int = 0) -> list[str]:
 
 
 def unknown_in_words(letters: list[str]) -> str:
-    return f" (before {' and '.join(letters)} {'is' if len(letters) == 1 else 'are'} known)" if letters else ""
+    words = " and ".join(map(Spoken.letter, letters))
+    return f" (before {words} {'is' if len(letters) == 1 else 'are'} known)" if letters else ""
 
 
 class Branch:
@@ -104,7 +106,7 @@ def what_breaks_at(net: Network, above: Branch, moment: int, names: list[str]) -
         known = above.moments[observer] + net.reaction(observer)
         if moment < known:
             later = ticks(net.reaction(observer))
-            says.append(f"{letter} is not known before {known}, {later} after {shown(observer)}")
+            says.append(f"{Spoken.letter(letter)} is not known before {known}, {later} after {shown(observer)}")
     return says + unmet(net, above, above.moments | dict.fromkeys(names, moment), set(names))
 
 

@@ -3,11 +3,13 @@ ghost use Rattle.std.specs.Prelude.{◌≡◌, Some, IfOk, OnErr};
 ghost use Rattle.std.specs.Option.{option_map};
 ghost use Rattle.cstn_lines.specs.FollowLines.{the_follow};
 ghost use Rattle.cstn_lines.specs.EditLines.{the_edit};
+ghost use Rattle.cstn_follow.specs.Asking.{the_spoken};
 ghost use Rattle.cstn_follow.specs.Following.{says};
-ghost use Rattle.cstn_follow.specs.Hearing.{hear, counted, on_line, on_plan, on_ends_by, on_other};
+ghost use Rattle.cstn_follow.specs.Hearing.{hear, counted, on_line, on_follow, on_plan, on_ends_by, on_other};
 ghost use Rattle.cstn_follow.specs.Read.{the_following, the_heard, IsSaidFor};
 
 use super::{Following, Heard};
+use crate::asking::Spoken;
 use crate::texts::number_line;
 use cstn_lines::{EditLine, FollowLine};
 use cstn_net::MAX_DEADLINE;
@@ -19,8 +21,8 @@ const MAX_LINES: u32 = 16_777_217;
 impl Following {
     /// What is said to the next line, which is none of the session where it is none. A line that is refused changes nothing but the
     /// count of lines. Fails for want of memory alone, and then nothing else has changed either.
-    pub fn hear(&mut self, line: Option<FollowLine>) -> Result<Heard, AllocError>
-        ensures heard { IfOk result (λ heard. hear (the_following self.old) (option_map the_follow line) ≡ the_heard self.new heard) }
+    pub fn hear(&mut self, line: Option<Spoken>) -> Result<Heard, AllocError>
+        ensures heard { IfOk result (λ heard. hear (the_following self.old) (option_map the_spoken line) ≡ the_heard self.new heard) }
         ensures same { OnErr result (self.new ≡ record self.old { lines = (counted (the_following self.old)).lines }) }
         ensures names { self.new.names ≡ self.old.names }
         ensures said { IfOk result (IsSaidFor self.old.names) }
@@ -41,8 +43,19 @@ impl Following {
     }
 
     // What is said to a line of the session.
-    fn answer(&mut self, line: FollowLine) -> Result<Heard, AllocError>
-        ensures heard { IfOk result (λ heard. on_line (the_following self.old) (Some (the_follow line)) ≡ the_heard self.new heard) }
+    fn answer(&mut self, line: Spoken) -> Result<Heard, AllocError>
+        ensures heard { IfOk result (λ heard. on_line (the_following self.old) (Some (the_spoken line)) ≡ the_heard self.new heard) }
+        ensures same { OnErr result (self.new ≡ self.old) }
+    {
+        match line {
+            Spoken::Line(line) => self.answer_line(line),
+            Spoken::Ask(question) => Ok(Heard::Text(self.ask(question)?)),
+        }
+    }
+
+    // What is said to a line that tells, edits or asks.
+    fn answer_line(&mut self, line: FollowLine) -> Result<Heard, AllocError>
+        ensures heard { IfOk result (λ heard. on_follow (the_following self.old) (the_follow line) ≡ the_heard self.new heard) }
         ensures same { OnErr result (self.new ≡ self.old) }
     {
         match line {

@@ -93,7 +93,7 @@ impl Following {
     }
 
     // The line of a full log.
-    fn full_line(&self) -> Result<Vec<u8>, AllocError>
+    pub(super) fn full_line(&self) -> Result<Vec<u8>, AllocError>
         ensures line { IfOk result (λ text. text.items ≡ full_line self.now.cap) }
     {
         verdict_line(self.alloc, self.session.cap(), Verdict::Full)

@@ -1,6 +1,7 @@
 // Questions to a session.
-ghost use Rattle.std.specs.Prelude.{◌≡◌, None, IfOk, IfSome, IfNone};
+ghost use Rattle.std.specs.Prelude.{◌≡◌, ◌<◌, None, IsTrue, IfOk, IfSome, IfNone};
 ghost use Rattle.std.specs.Option.{option_map};
+ghost use Rattle.cstn_net.specs.Networks.{count};
 ghost use Rattle.cstn_net.specs.Read.{the_network};
 ghost use Rattle.cstn_lift.specs.Lowered.{lowered};
 ghost use Rattle.cstn_lift.specs.Read.{the_labelled};
@@ -8,8 +9,9 @@ ghost use Rattle.cstn_plan.specs.Plans.{the_bounds};
 ghost use Rattle.cstn_check.specs.Growth.{log_of, live_bounds};
 ghost use Rattle.cstn_history.specs.Read.{the_history, the_fact_refusal};
 ghost use Rattle.cstn_follow.specs.Answers.{IsRightOutlook, TellsOutlook, IsLeftRefuted, IsRightLatest, TellsLatest, IsRightBlame, TellsBlame};
-ghost use Rattle.cstn_follow.specs.Answers.{SaidNo, SaidYes, wait_refusal, HasRoomLeftToWait};
+ghost use Rattle.cstn_follow.specs.Answers.{SaidNo, SaidYes, wait_refusal, HasRoomLeftToWait, CanAskWaits, wait_found};
 ghost use Rattle.cstn_follow.specs.Executions.{execution_left};
+ghost use Rattle.cstn_follow.specs.Pauses.{is_undone};
 ghost use Rattle.cstn_follow.specs.Sessions.{execution_of};
 
 use super::Session;
@@ -133,6 +135,22 @@ impl Session {
         match self.execution.latest(self.alloc, x, self.cap) {
             Ok(moment) => Ok(Latest::Until(moment)),
             Err(WaitError::Full) => Ok(Latest::Unknown),
+            Err(WaitError::TooManyConstraints) => unreachable!(),
+            Err(WaitError::Memory(e)) => Err(e),
+        }
+    }
+
+    /// Until when a time-point that is left to be done can wait, in ticks, where what has happened can go on and there is room for one
+    /// constraint more; none where a log that is tried is full. Takes up to 20 checks. Fails for want of memory alone.
+    pub(crate) fn wait_found(&self, x: NodeId) -> Result<Option<u32>, AllocError>
+        requires inside { x.0 < count (the_labelled self.now.network).base }
+        requires undone { IsTrue (is_undone (the_labelled self.now.network) (the_history self.now.history) x.0) }
+        requires asks { CanAskWaits self.now }
+        ensures found { IfOk result (λ o. o ≡ wait_found self.now x.0) }
+    {
+        match self.execution.latest(self.alloc, x, self.cap) {
+            Ok(moment) => Ok(Some(moment)),
+            Err(WaitError::Full) => Ok(None),
             Err(WaitError::TooManyConstraints) => unreachable!(),
             Err(WaitError::Memory(e)) => Err(e),
         }

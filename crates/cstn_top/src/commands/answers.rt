@@ -20,9 +20,11 @@ use super::closed::closed_text;
 use super::drill::drill;
 use super::follow::follow_session;
 use super::host::host_session;
+use super::plan::plan_text;
 use super::questions::Question;
 use super::run::run_session;
 use super::save::save_text;
+use super::sentences::sentences_text;
 use super::version::version_text;
 use cstn_check::check_text;
 use cstn_closed::closedcheck_text;
@@ -65,6 +67,10 @@ pub(crate) fn answer(alloc: Global, question: Question) -> Result<Prepared, Allo
         }
         Question::OfDocument { verb, document } => {
             let said = document_text(alloc, verb, &document)?;
+            Ok(Prepared::Says(said))
+        }
+        Question::OfPlan { text, deadline } => {
+            let said = plan_text(alloc, &text, deadline)?;
             Ok(Prepared::Says(said))
         }
         Question::Drill(number) => {
@@ -167,5 +173,6 @@ fn document_text(
 {
     match verb {
         DocumentVerb::Save => save_text(alloc, &document.labelled, &document.names),
+        DocumentVerb::Sentences => sentences_text(alloc, &document.labelled, &document.names),
     }
 }

@@ -14,9 +14,8 @@ ghost use Rattle.cstn_top.specs.commands.Follow.{heard_text, follow_turn, follow
 
 use super::Prepared;
 use cstn_check::Verdict;
-use cstn_follow::{Following, Heard};
+use cstn_follow::{Following, Heard, read_spoken};
 use cstn_lift::Labelled;
-use cstn_lines::read_follow;
 use cstn_log::Cap;
 use cstn_reply::{Answer, AnswerText, Outcome, Talk};
 use cstn_save::write;
@@ -60,7 +59,7 @@ impl Talk for Follower {
     }
 
     fn answer(&mut self, line: &[u8], text: &mut AnswerText) -> Result<Answer, AllocError> {
-        let said = read_follow(self.alloc, line)?;
+        let said = read_spoken(self.alloc, line)?;
         let heard = self.following.hear(said)?;
         put_heard(self.alloc, heard, text)?;
         Ok(Answer::More)

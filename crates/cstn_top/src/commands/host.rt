@@ -88,7 +88,7 @@ pub(crate) fn host_session(
     begin(alloc, begun)
 }
 
-// The ward of the plans, with no id open, after the lines that say yes.
+// The host of the plans, with no id open, after the lines that say yes.
 fn begin(alloc: Global, begun: Begun) -> Result<Prepared, AllocError>
     requires some { 1 ≤ length begun.plans.items }
     requires few { length begun.plans.items ≤ most_files }

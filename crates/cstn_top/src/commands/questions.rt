@@ -1,19 +1,21 @@
 // What a request asks, once its files are read.
-ghost use Rattle.std.specs.Prelude.{◌≡◌, ◌≤◌, [], IfOk, IsTrue, IsErrOf, Err};
+ghost use Rattle.std.specs.Prelude.{◌≡◌, ◌≤◌, [], IfOk, OnOk, IsTrue, IsErr, IsErrOf, Err};
 ghost use Rattle.std.specs.List.{list_all};
 ghost use Rattle.cstn_io.specs.Causes.{Rose};
+ghost use Rattle.cstn_io.specs.Asked.{and_names};
 ghost use Rattle.cstn_reply.specs.declared.output.Said.{Said as SaidText};
 ghost use Rattle.cstn_request.specs.Requests.{files_of};
 ghost use Rattle.cstn_request.specs.Read.{the_request};
-ghost use Rattle.cstn_top.specs.Questions.{Asks, TellsInstead, IsSoundQuestion, kind_of};
+ghost use Rattle.cstn_top.specs.Questions.{Asks, MayRefuse, IsOfPlan, TellsInstead, IsSoundQuestion, kind_of};
 ghost use Rattle.cstn_top.specs.Dispatch.{kind_at};
+ghost use Rattle.cstn_top.specs.Meanings.{AskedFirst};
 
 use super::several::open_all;
 use cstn_io::Shelf;
 use cstn_log::Cap;
 use cstn_request::{
     DocumentVerb, LabelledVerb, NamedLabelled, NamedNetwork, NetworkVerb, Release, Request,
-    TextVerb, Unread, open_labelled, open_network, read_text,
+    TextVerb, Unread, open_labelled, open_network, read_sentences, read_text,
 };
 use std::alloc::Global;
 
@@ -40,6 +42,10 @@ pub(crate) enum Question {
         verb: DocumentVerb,
         document: NamedLabelled,
     },
+    OfPlan {
+        text: Vec<u8>,
+        deadline: Option<u32>,
+    },
     Drill(u64),
     Host {
         documents: Vec<NamedNetwork>,
@@ -59,7 +65,11 @@ pub(crate) fn ask<F: Shelf>(
     ensures asks { IfOk result (Asks (the_request request.entry) (F.files shelf.old)) }
     ensures sound { IfOk result IsSoundQuestion }
     ensures kind { IfOk result (λ question. kind_of question ≡ kind_at (the_request request.entry)) }
-    ensures refused { (said : SaidText) → result ≡ Err (Unread.Told said) → TellsInstead (the_request request.entry) (F.files shelf.old) said }
+    ensures refused { (said : SaidText) → result ≡ Err (Unread.Told said) → TellsInstead (the_request request.entry) (F.files shelf.old) (F.asked shelf.old)
+        (F.asked shelf.new) said }
+    ensures accepted { IfOk result (λ question. MayRefuse question → IsOfPlan (the_request request.entry)) }
+    ensures once { OnOk result (F.asked shelf.new ≡ and_names (F.asked shelf.old) (files_of (the_request request.entry))) }
+    ensures first { IsErr result → AskedFirst (F.files shelf.old) (F.asked shelf.old) (F.asked shelf.new) (files_of (the_request request.entry)) }
     ensures unnamed_stand { files_of (the_request request.entry) ≡ [] → shelf.new ≡ shelf.old }
     ensures fault { IsErrOf result Unread.ReadFault → Rose (F.faults shelf.old) (F.faults shelf.new) }
     ensures names { F.may_ask shelf.new ≡ F.may_ask shelf.old }
@@ -95,6 +105,13 @@ pub(crate) fn ask<F: Shelf>(
         Request::OfDocument { verb, asked } => {
             let document = open_labelled(alloc, asked, shelf)?;
             Ok(Question::OfDocument { verb, document })
+        }
+        Request::OfPlan(asked) => {
+            let text = read_sentences(alloc, asked.file, shelf)?;
+            Ok(Question::OfPlan {
+                text,
+                deadline: asked.deadline,
+            })
         }
         Request::Drill(number) => Ok(Question::Drill(number)),
         Request::Host {

@@ -1,8 +1,10 @@
 // The documents of several files.
-ghost use Rattle.std.specs.Prelude.{◌≡◌, ◌≤◌, length, map, string_bytes, IfOk, IsTrue, IsErrOf, Err};
+ghost use Rattle.std.specs.Prelude.{◌≡◌, ◌≤◌, length, map, string_bytes, IfOk, OnOk, IsTrue, IsErr, IsErrOf, Err};
 ghost use Rattle.std.specs.List.{All, list_all};
 ghost use Rattle.cstn_io.specs.Causes.{Rose};
+ghost use Rattle.cstn_io.specs.Asked.{and_names};
 ghost use Rattle.cstn_reply.specs.declared.output.Said.{Said as SaidText};
+ghost use Rattle.cstn_top.specs.Meanings.{AskedFirst};
 ghost use Rattle.cstn_top.specs.Begun.{HasRead, IsRefusedAt, IsSound};
 
 use cstn_io::Shelf;
@@ -21,7 +23,10 @@ pub(crate) fn open_all<F: Shelf>(
     ensures read { IfOk result (λ documents. HasRead (F.files shelf.old) deadline (map string_bytes files.now) documents.items) }
     ensures many { IfOk result (λ documents. length documents.items ≡ length files.now) }
     ensures sound { IfOk result (λ documents. All IsSound documents.items) }
-    ensures refused { (said : SaidText) → result ≡ Err (Unread.Told said) → IsRefusedAt (F.files shelf.old) deadline (map string_bytes files.now) said }
+    ensures refused { (said : SaidText) → result ≡ Err (Unread.Told said) → IsRefusedAt (F.files shelf.old) (F.asked shelf.old) (F.asked shelf.new)
+        deadline (map string_bytes files.now) said }
+    ensures once { OnOk result (F.asked shelf.new ≡ and_names (F.asked shelf.old) (map string_bytes files.now)) }
+    ensures first { IsErr result → AskedFirst (F.files shelf.old) (F.asked shelf.old) (F.asked shelf.new) (map string_bytes files.now) }
     ensures names { F.may_ask shelf.new ≡ F.may_ask shelf.old }
     ensures files { F.files shelf.new ≡ F.files shelf.old }
     ensures later { F.faults shelf.old ≤ F.faults shelf.new }

@@ -37,8 +37,8 @@ function read(page, about, at, kind) {
 function words(event, about, page) {
   const at = page.clock.at(event.at);
   if (event.kind === "did") return `${about.shown} done at ${at}`;
-  if (event.kind === "saw") return `${event.letter} is ${event.value}, at ${at}`;
-  if (event.kind === "await") return event.at > page.data.deadline ? `${event.letter} will not come` : `${event.letter} expected at ${at}`;
+  if (event.kind === "saw") return `${about.word} is ${event.value}, at ${at}`;
+  if (event.kind === "await") return event.at > page.data.deadline ? `${about.word} will not come` : `${about.word} expected at ${at}`;
   return `It is ${at}`;
 }
 
@@ -62,7 +62,7 @@ function backTo(key) {
   if (button) button.focus({ preventScroll: true });
 }
 
-/** Opens the dialog about one event. With `letter` it may have come or be late. `correcting` puts it in the place of one that was told, by `send`. */
+/** Opens the dialog about one event. With `letter`, in words `word`, it may come or be late. `correcting` puts it in the place of one that was told, by `send`. */
 export function askAbout(page, about) {
   const it = parts(page, about);
   const event = () => {

@@ -106,8 +106,8 @@ function picture(data, page) {
 function choices(data, page) {
   if (!data.ahead.length) return null;
   return h("div", { class: "buttons", role: "group", "aria-label": "The picture of which case" }, h("span", {}, "The way ahead, if"),
-    data.ahead.map(({ letter, value }) => button(`case-${letter}`, `${letter} is ${value} ⇄`, () => page.choose(letter, !value),
-      { "aria-label": `The picture supposes that ${letter} is ${value}; suppose the contrary`, "data-act": "case" })));
+    data.ahead.map(({ letter, word, value }) => button(`case-${letter}`, `${word} is ${value} ⇄`, () => page.choose(letter, !value),
+      { "aria-label": `The picture supposes that ${word} is ${value}; suppose the contrary`, "data-act": "case" })));
 }
 
 function legend() {

@@ -35,7 +35,7 @@ function when(step, page) {
   const tag = late ? h("span", { class: "tag late" }, `late by ${page.clock.length(now - late.due)}`)
     : step.state === "open" && step.planned !== null && step.planned <= now && h("span", { class: "tag due" }, "now");
   const parts = [tag, step.planned !== null && step.planned > now && `planned ${page.clock.at(step.planned)}`,
-    step.by !== null && until(step, page), step.label && `only where ${step.label}`].filter(Boolean);
+    step.by !== null && until(step, page), step.label && `only if ${step.label}`].filter(Boolean);
   return parts.flatMap((part, i) => (i ? [" · ", part] : [part]));
 }
 
@@ -66,16 +66,16 @@ function resultSays(result, page) {
 function resultRow(result, page) {
   const saw = (value, at) => ({ kind: "saw", letter: result.letter, value, at });
   const now = () => page.clock.now();
-  const ask = () => askAbout(page, { title: ["Result ", name(result.letter)], letter: result.letter, event: saw(true, now()) });
+  const ask = () => askAbout(page, { title: ["Result ", name(result.word)], letter: result.letter, word: result.word, event: saw(true, now()) });
   const value = (it) => button(`saw-${result.letter}-${it}`, it ? "true" : "false",
-    () => tell(page, saw(it, now()), `${result.letter} is ${it}, at ${page.clock.at(now())}`),
-    { kind: "first", "data-act": `saw-${it}`, "aria-label": `${result.letter} is ${it}` });
+    () => tell(page, saw(it, now()), `${result.word} is ${it}, at ${page.clock.at(now())}`),
+    { kind: "first", "data-act": `saw-${it}`, "aria-label": `${result.word} is ${it}` });
   return h("li", { class: "row", "data-letter": result.letter },
-    h("div", { class: "says" }, h("div", {}, "Result ", name(result.letter), h("span", { class: "quiet" }, " of ", name(result.shown))),
+    h("div", { class: "says" }, h("div", {}, "Result ", name(result.word), h("span", { class: "quiet" }, " of ", name(result.shown))),
       h("div", { class: "quiet" }, resultSays(result, page))),
     h("div", { class: "buttons" }, value(true), value(false),
       button(`result-${result.letter}`, "Late, other time …", ask,
-        { "data-act": "ask", "aria-label": `Result ${result.letter} is late, or came at another time` })));
+        { "data-act": "ask", "aria-label": `Result ${result.word} is late, or came at another time` })));
 }
 
 function nextTitle(data, page) {

@@ -1,7 +1,7 @@
 use Rattle.std.proofs.Common.{rules, ◌+◌, ◌<◌, length, [], ◌∷◌, map, take, false, arith, refl, sym, ap, ◌∙◌, subst}
 use Rattle.std.proofs.lemmas.List.{take_all}
 use Rattle.cstn_log.proofs.KeptLemmas.{entry_with}
-use Rattle.cstn_log.proofs.ListLemmas.{one_there}
+use Rattle.cstn_facts.proofs.Places.{one_there}
 use Rattle.cstn_rules.specs.declared.entries.Entry.{Entry}
 use Rattle.cstn_net.specs.declared.constraints.Constraint.{Constraint}
 use Rattle.std.specs.Prelude.{List}

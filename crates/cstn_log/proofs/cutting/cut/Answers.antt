@@ -7,7 +7,7 @@ use Rattle.cstn_rules.specs.Derivations.{Entry as TheEntry}
 use Rattle.cstn_rules.specs.Read.{the_entry}
 use Rattle.cstn_log.specs.Cuts.{rank, moved}
 use Rattle.cstn_log.proofs.ChoiceLemmas.{rank_marked, rank_unmarked, rank_grows}
-use Rattle.cstn_log.proofs.ListLemmas.{get_front}
+use Rattle.cstn_facts.proofs.Places.{get_front}
 use Rattle.cstn_log.proofs.MarkLemmas.{below_more}
 use Rattle.cstn_log.proofs.StepLemmas.{ranks_step, placed_renumbered, cut_step_marked, cut_step_unmarked}
 use Rattle.cstn_log.proofs.cutting.cut.Goals.{then-marks-k, else-marks-k}

@@ -3,7 +3,7 @@ use Rattle.std.specs.Prelude.{slice_get}
 use Rattle.std.proofs.lemmas.Bool.{cases_eq}
 use Rattle.std.proofs.lemmas.List.{get_or-set_other, get_or-set_same}
 use Rattle.std.proofs.lemmas.Option.{slice_get-get_or, slice_get_within}
-use Rattle.cstn_log.proofs.ListLemmas.{one_there}
+use Rattle.cstn_facts.proofs.Places.{one_there}
 use Rattle.cstn_log.proofs.list.write_places.Goals as goal
 
 pub loop-k-init : goal.loop-k-init

@@ -40,7 +40,7 @@ loop-place-preserved c =
     let head = ap (λ x. x.head) (same_Some _ _ (c.page.ensures.page ∙ here.1)) ∙ here.2 in
     let next = c.greatest_on_page-greatest.result in
     let fits : SFits w32 next = search rules in
-    let told : (next ≡ pos 0) ⊎ ((k i : ℕ) × (r : Record) × IsRecordAt rows.pages h k i r × IsRecordOf (marks c.args.label) next r) = elim (rw c.of-literals.ensures at c.greatest_on_page-greatest.ensures) [
+    let told : (next ≡ pos 0) ⊎ ((k i : ℕ) × (r : Record) × IsRecordAt rows.pages h k i r × IsRecordOf (marks c.args.label) next r) = elim c.greatest_on_page-greatest.ensures [
       | inl same ↦ subst (λ (g : ℤ). (g ≡ pos 0) ⊎ ((k i : ℕ) × (r : Record) × IsRecordAt rows.pages h k i r × IsRecordOf (marks c.args.label) g r)) (sym same) c.loop-place.invariant.floor
       | inr found ↦ inr (c.in-Some.number, found.0, found.1, (c.page.result.now, page, head, found.2), found.3)
     ] in

@@ -34,7 +34,7 @@ loop-p-preserved c =
         (
           found.4,
           left_without items (marks c.args.label) p c.within-within.result c.marking.result c.bits_without-unmarked.result found.0 found.1
-              (rw c.requires at c.within-within.ensures) c.marking.ensures c.bits_without-unmarked.ensures found.2 found.3,
+              c.within-within.ensures c.marking.ensures c.bits_without-unmarked.ensures found.2 found.3,
         ),
       )
     ] in

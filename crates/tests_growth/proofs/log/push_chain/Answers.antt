@@ -1,6 +1,6 @@
 use Rattle.cstn_label.specs.Read.{the_bound}
 use Rattle.cstn_net.specs.Read.{the_network, the_constraint}
-use Rattle.cstn_log.proofs.ListLemmas.{contains_map}
+use Rattle.cstn_facts.proofs.Members.{contains_map}
 use Rattle.cstn_log.proofs.DerivedLemmas.{chain_follows}
 use Rattle.tests_growth.proofs.log.push_chain.Goals as goal
 

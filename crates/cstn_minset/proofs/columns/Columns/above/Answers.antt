@@ -7,6 +7,6 @@ use Rattle.cstn_minset.proofs.columns.Columns.above.Goals as goal
 
 pub returns : goal.returns
 returns c =
-    subst (λ (v : Listing). AreThose (λ r. IsWithin (marks c.args.label.now) (marks r.label)) v.items c.above.result) c.self.view_is
-    (those_above c.self.inside.records.items c.self.inside.sheet c.self.inside.used c.args.label.now c.first_bits-front.result c.above.result
+    subst (λ (v : Listing). AreThose (λ r. IsWithin (marks c.args.label) (marks r.label)) v.items c.above.result) c.self.view_is
+    (those_above c.self.inside.records.items c.self.inside.sheet c.self.inside.used c.args.label c.first_bits-front.result c.above.result
     c.labels_are_their_marks.ensures.above c.self.invariant (rw c.len.ensures.value at c.first_bits-front.ensures) c.above.ensures)

@@ -21,7 +21,7 @@ pub invariant_of-self : goal.invariant_of-self
 invariant_of-self c =
     let room = subst (λ (v : Listing). length v.items < 64) (sym c.self.view_is) c.requires.room in
     let law = c.joined_is_the_least_above.ensures in
-    let joined = rw c.of.ensures at c.join-self-inside.ensures in
+    let joined = c.join-self-inside.ensures.join in
     rw c.push.ensures.items (columns_pushed c.self.inside.records.items c.self.inside.sheet c.replace.new.self c.self.inside.used c.join-self-inside.result c.args.added c.self.invariant room
     (rw c.len-place.ensures.value at c.replace.ensures.after) (rw c.len-place.ensures.value at c.replace.ensures.others)
     (subst (λ (f : Label). IsWithin (marks c.self.inside.used) f) (sym joined) (law.left (marks c.self.inside.used) (marks c.args.added.label)))

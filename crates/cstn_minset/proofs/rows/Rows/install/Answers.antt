@@ -1,4 +1,4 @@
-use Rattle.std.proofs.Common.{◌<◌, ◌≤◌, ◌+◌, ◌++◌, length, ap, sym, ◌∙◌, subst, arith}
+use Rattle.std.proofs.Common.{◌<◌, ◌≤◌, ◌++◌, length, ap, sym, ◌∙◌, subst, arith}
 use Rattle.std.specs.Prelude.{Some, slice_set, IsPermutation}
 use Rattle.std.proofs.lemmas.Option.{same_Some}
 use Rattle.cstn_minset.specs.Pages.{Paged, IsPageOf, on_page, held, most_pages, IsInOrder}
@@ -13,7 +13,7 @@ reuse-requires-clause-free c =
 
 pub append-requires-clause-few : goal.append-requires-clause-few
 append-requires-clause-few c =
-    let room = subst (λ (v : Paged). length (held v.pages) + 32 ≤ v.capacity) (sym c.self.view_is) c.requires.room in
+    let room = subst (λ (v : Paged). length (held v.pages) ≤ v.capacity) (sym c.self.view_is) c.requires.room in
     subst (λ (v : Paged). length v.pages < most_pages v.heads v.capacity) c.self.view_is (page_left _ _ _ c.self.inside.pages.items _ c.self.invariant (c.in-None.ensures _ c.self.invariant.linked) room)
 
 pub returns-in-Some-clause-there : goal.returns-in-Some-clause-there

@@ -39,7 +39,7 @@ refill-requires-clause-page c =
     let there = subst (λ (v : Paged). slice_get v.pages c.args.page ≡ Some old.0) back old.1 in
     let read = read_page c.self.inside.pages.items c.args.page old.0 c.index-2.result.now there c.index-2.ensures in
     let read' = read_page c.self.inside.pages.items c.args.page old.0 c.index.result.now there c.index.ensures in
-    (old.0, old.1, sym (ap (λ x. x.head) read), omega (arith, c.if-len-gt-HALF.false, c.len.ensures.value, ap (λ x. length x.records.items) read'))
+    (old.0, old.1, sym (ap (λ x. x.head) read), omega (arith, c.if-len-gt-LEAST.false, c.len.ensures.value, ap (λ x. length x.records.items) read'))
 
 pub refill-requires-clause-some : goal.refill-requires-clause-some
 refill-requires-clause-some c = λ p is.
@@ -53,7 +53,7 @@ returns-clause-spare c = λ q is.
     let old = got c.args.self.now.pages c.args.page c.requires.page in
     let there = subst (λ (v : Paged). slice_get v.pages c.args.page ≡ Some old.0) back old.1 in
     let row = of_row c.self.inside.heads 0 old.0 (at_all (IsInOrder c.self.inside.heads) c.self.inside.pages.items c.args.page old.0 c.self.invariant.order there) (c.requires.some old.0 old.1) in
-    let half = c.self.invariant.half c.args.page old.0 (omega (arith, c.if-page-self.false)) there row in
+    let dense = c.self.invariant.dense c.args.page old.0 (omega (arith, c.if-page-self.false)) there row in
     let filled = c.refill.ensures.filled old.0 old.1 in
     let same = same_Some filled.0 q (sym filled.2 ∙ is) in
-    inr (subst (λ (x : Page). 32 < length x.records.items) same (rw filled.4 (omega (arith, half, length-append old.0.records.items (filled.1 ∷ [])))))
+    inr (subst (λ (x : Page). 63 < length x.records.items) same (rw filled.4 (omega (arith, dense, length-append old.0.records.items (filled.1 ∷ [])))))

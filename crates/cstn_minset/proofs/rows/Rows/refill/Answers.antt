@@ -9,7 +9,7 @@ use Rattle.cstn_minset.proofs.RowLemmas.{read_page, at_all, fit_less, fit_more}
 use Rattle.cstn_minset.proofs.rows.Rows.refill.Goals as goal
 
 abbrev IsLight : Paged → ℕ → ℕ → Type 0
-IsLight v first k = (p : Page) × (slice_get v.pages k ≡ Some p) × (p.head ≡ first) × (length p.records.items ≤ 32)
+IsLight v first k = (p : Page) × (slice_get v.pages k ≡ Some p) × (p.head ≡ first) × (length p.records.items ≤ 63)
 
 pub invariant_of-self : goal.invariant_of-self
 invariant_of-self c =
@@ -29,7 +29,7 @@ invariant_of-self c =
     let read' = read_page (slice_set c.self.inside.pages.items c.args.first c.take-moved.new.self) c.args.page light.0 c.index_mut-2.result.now there c.index_mut-2.ensures.value in
     let head' = c.add.ensures.head ∙ ap (λ x. x.head) read' in
     changed c.self.inside.heads c.self.inside.capacity _ c.args.page (slice_set c.self.inside.pages.items c.args.first c.take-moved.new.self) c.self.inside.links light.0 c.add.new.self step there head'
-    (fit_more c.self.inside.heads c.args.page light.0 c.add.new.self c.take-moved.result (at_all (IsInOrder c.self.inside.heads) c.self.inside.pages.items c.args.page light.0 inv.order light.1) (omega (arith, light.2, row)) (omega (arith, light.3)) head' (rw read' at c.add.ensures.added) c.add.ensures.page (λ le below. inv.half c.args.page light.0 le light.1 below))
+    (fit_more c.self.inside.heads c.args.page light.0 c.add.new.self c.take-moved.result (at_all (IsInOrder c.self.inside.heads) c.self.inside.pages.items c.args.page light.0 inv.order light.1) (omega (arith, light.2, row)) (omega (arith, light.3)) head' (rw read' at c.add.ensures.added) c.add.ensures.page (λ le below. inv.dense c.args.page light.0 le light.1 below))
 
 pub returns-clause-filled : goal.returns-clause-filled
 returns-clause-filled c = λ p is.

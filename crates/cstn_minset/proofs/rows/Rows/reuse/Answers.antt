@@ -2,7 +2,7 @@ use Rattle.std.proofs.Common.{◌<◌, sym, ◌∙◌, subst, arith}
 use Rattle.std.proofs.lemmas.Option.{slice_get_within}
 use Rattle.cstn_minset.specs.Pages.{Paged, IsPageOf, most_pages}
 use Rattle.cstn_minset.proofs.HomeLemmas.{page_of_in, pages_are_numbers, less_are_numbers, moved_to, table_set, rehomed}
-use Rattle.cstn_minset.proofs.RowLemmas.{fit_half, behind_first}
+use Rattle.cstn_minset.proofs.RowLemmas.{fit_full, behind_first}
 use Rattle.cstn_minset.proofs.rows.Rows.reuse.Goals as goal
 
 pub last_below-before-requires-clause-numbers : goal.last_below-before-requires-clause-numbers
@@ -33,4 +33,4 @@ invariant_of-self c =
     rehomed _ _ _ c.args.number _ _ c.insert.new.self free.0 c.args.page inv free.1 (behind_first _ _ _ inv.own free)
     (c.insert.ensures.size.0 ∙ c.remove.ensures.size.0, c.insert.ensures.size.1 ∙ c.remove.ensures.size.1)
     (rw (table_set (most_pages c.self.inside.heads c.self.inside.capacity) c.args.number c.self.inside.pages.items c.args.page within) linked)
-    (fit_half _ _ _ row c.requires.half c.requires.is)
+    (fit_full _ _ _ row c.requires.full c.requires.is)

@@ -44,7 +44,7 @@ invariant_of-self c =
     let read = read_page c.self.inside.pages.items c.page_to_take_from-page.result front.0 c.index_mut.result.now front.1 c.index_mut.ensures.value in
     let inside : c.args.index < length front.0.records.items = rw front.3.1 (omega (arith, c.requires.index old.0 old.1, length-append old.0.records.items front.3.0)) in
     let order = at_all (IsInOrder c.self.inside.heads) c.self.inside.pages.items c.page_to_take_from-page.result front.0 inv.order front.1 in
-    let spare = subst (λ (v : Paged). (q : Page) → slice_get v.pages k ≡ Some q → (k < v.heads) ⊎ (32 < length q.records.items)) back c.page_to_take_from-page.ensures.spare front.0 front.1 in
+    let spare = subst (λ (v : Paged). (q : Page) → slice_get v.pages k ≡ Some q → (k < v.heads) ⊎ (63 < length q.records.items)) back c.page_to_take_from-page.ensures.spare front.0 front.1 in
     let head = c.take.ensures.head ∙ ap (λ x. x.head) read in
     changed _ _ _ k _ _ front.0 c.take.new.self inv front.1 head
     (fit_less _ k c.args.index front.0 c.take.new.self c.take.result order (of_row _ c.args.index front.0 order inside) inside head (rw read at c.take.ensures.left) c.take.ensures.page

@@ -9,8 +9,8 @@ use Rattle.cstn_minset.proofs.sheet.Sheet.within.Goals as goal
 pub returns : goal.returns
 returns c = λ i.
     let sheet = sheet_of c.self.inside.positive c.self.inside.negative in
-    let used = c.args.used.now in
-    let label = c.args.label.now in
+    let used = c.args.used in
+    let label = c.args.label in
     let inside = subst (λ (v : Marks). IsInside v i (marks used)) (sym c.self.view_is) (c.requires.used i) in
     let first = c.in_none-left.ensures i in
     let second = c.in_none.ensures i in
@@ -20,11 +20,11 @@ returns c = λ i.
           let one = first.0 both.0 in (
             one.0,
             inside_from_none sheet used label c.words-used_positive.result.0 c.words-used_positive.result.1 c.words-positive.result.0 c.words-positive.result.1
-                c.words-used_positive.ensures c.words-positive.ensures i inside c.bits_without.result c.bits_without-2.result c.bits_without.ensures c.bits_without-2.ensures one.1 both.1,
+                c.words-used_positive.ensures.words c.words-positive.ensures.words i inside c.bits_without.result c.bits_without-2.result c.bits_without.ensures c.bits_without-2.ensures one.1 both.1,
           ),
       λ both.
           let none = none_from_inside sheet used label c.words-used_positive.result.0 c.words-used_positive.result.1 c.words-positive.result.0 c.words-positive.result.1
-          c.words-used_positive.ensures c.words-positive.ensures i inside c.bits_without.result c.bits_without-2.result c.bits_without.ensures c.bits_without-2.ensures
+          c.words-used_positive.ensures.words c.words-positive.ensures.words i inside c.bits_without.result c.bits_without-2.result c.bits_without.ensures c.bits_without-2.ensures
           c.labels_are_their_marks.ensures.above both.1 in
           second.1 (first.1 (both.0, none.0), none.1),
     )

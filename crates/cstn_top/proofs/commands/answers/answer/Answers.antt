@@ -6,6 +6,7 @@ use Rattle.cstn_reply.specs.Read.{the_said}
 use Rattle.cstn_top.specs.Plans.{says, ComesTo, IsOutput}
 use Rattle.cstn_top.specs.Answers.{by_text}
 use Rattle.cstn_top.specs.Dispatch.{text_answer, document_answer}
+use Rattle.cstn_top.specs.commands.Plan.{planned}
 use Rattle.cstn_top.specs.commands.Drill.{drilled}
 use Rattle.cstn_top.specs.commands.Version.{versioned}
 use Rattle.cstn_top.specs.Prepared.{the_plan, FitsKind}
@@ -50,6 +51,12 @@ pub returns-in_ok-said-in-OfDocument-clause-comes : goal.returns-in_ok-said-in-O
 returns-in_ok-said-in-OfDocument-clause-comes c =
     subst (λ (q : Question). ComesTo (the_question q) (says (the_said c.in_ok-said-in-OfDocument.said))) (sym c.in-OfDocument.is)
     (comes_same (document_answer c.in-OfDocument.verb c.in-OfDocument.document.names (the_labelled c.in-OfDocument.document.labelled)) (says (the_said c.in_ok-said-in-OfDocument.said)) c.in_ok-said-in-OfDocument.ensures.said)
+
+pub returns-in_ok-said-in-OfPlan-clause-comes : goal.returns-in_ok-said-in-OfPlan-clause-comes
+returns-in_ok-said-in-OfPlan-clause-comes c =
+    subst (λ (q : Question). ComesTo (the_question q) (says (the_said c.in_ok-said-in-OfPlan.said))) (sym c.in-OfPlan.is)
+    (comes_to_text (planned c.in-OfPlan.text.items c.in-OfPlan.deadline) (the_said c.in_ok-said-in-OfPlan.said)
+    (subst (λ (bytes : List ℕ). (live : List ℕ) → IsOutput (planned bytes c.in-OfPlan.deadline) live (the_said c.in_ok-said-in-OfPlan.said)) c.deref-in-OfPlan.ensures.value c.in_ok-said-in-OfPlan.ensures.said))
 
 pub returns-in_ok-said-in-Drill-clause-comes : goal.returns-in_ok-said-in-Drill-clause-comes
 returns-in_ok-said-in-Drill-clause-comes c =

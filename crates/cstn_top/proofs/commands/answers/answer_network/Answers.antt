@@ -2,8 +2,8 @@ use Rattle.std.proofs.Common.{◌∙◌, [], refl, ap, sym, subst}
 use Rattle.cstn_net.specs.Read.{the_network}
 use Rattle.cstn_reply.specs.Read.{the_said}
 use Rattle.cstn_request.specs.declared.words.NetworkVerb.{NetworkVerb}
-use Rattle.cstn_edit.specs.Editing.{edit_turn, edit_ending, the_editing}
-use Rattle.cstn_top.specs.Plans.{says, session, ComesTo}
+use Rattle.cstn_edit.specs.Editing.{edit_turn, edit_wants, edit_ending, the_editing}
+use Rattle.cstn_top.specs.Plans.{says, wanting_session, ComesTo}
 use Rattle.cstn_top.specs.Dispatch.{network_answer, network_kind}
 use Rattle.cstn_top.specs.commands.Check.{checked}
 use Rattle.cstn_top.specs.commands.Closed.{listed}
@@ -45,7 +45,7 @@ returns-in_ok-said-in-Tree-clause-comes c =
 pub returns-in_ok-session-in-Edit-clause-comes : goal.returns-in_ok-session-in-Edit-clause-comes
 returns-in_ok-session-in-Edit-clause-comes c =
     subst (λ (v : NetworkVerb). ComesTo (network_answer v c.args.cap.entries c.args.document.names (the_network c.args.document.network)) (the_plan (Edits c.in_ok-session-in-Edit.session))) (sym c.in-Edit.is)
-    (comes_same (edited c.args.cap.entries c.args.document.names (the_network c.args.document.network)) (session edit_turn edit_ending [] (the_editing c.in_ok-session-in-Edit.session)) (ap (session edit_turn edit_ending []) c.in_ok-session-in-Edit.ensures.start))
+    (comes_same (edited c.args.cap.entries c.args.document.names (the_network c.args.document.network)) (wanting_session edit_wants edit_turn edit_ending [] (the_editing c.in_ok-session-in-Edit.session)) (ap (wanting_session edit_wants edit_turn edit_ending []) c.in_ok-session-in-Edit.ensures.start))
 
 pub returns-in_ok-session-in-Edit-clause-fits : goal.returns-in_ok-session-in-Edit-clause-fits
 returns-in_ok-session-in-Edit-clause-fits c =

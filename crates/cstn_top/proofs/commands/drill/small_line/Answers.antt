@@ -1,6 +1,6 @@
 use Rattle.std.proofs.Common.{◌∙◌, ℕ, ap}
 use Rattle.std.proofs.Common.{ℕ, ap, ◌∙◌, Vec, Global, codes, decimal}
-use Rattle.cstn_request.proofs.Joining.{line_of_six}
+use Rattle.cstn_top.proofs.Joining.{line_of_six}
 use Rattle.cstn_top.proofs.commands.drill.small_line.Goals as goal
 
 pub returns : goal.returns

@@ -62,7 +62,7 @@ begin-requires-clause-few c =
     omega (arith, ap length all, size, inv.begun.many, c.requires.few_documents)
 
 pub begin-requires-clause-named : goal.begin-requires-clause-named
-begin-requires-clause-named c = c.loop-document.invariant.begun.ward
+begin-requires-clause-named c = c.loop-document.invariant.begun.hosted
 
 pub returns-clause-comes : goal.returns-clause-comes
 returns-clause-comes c =

@@ -1,0 +1,100 @@
+-- Lines of a session, and further questions.
+use Rattle.std.proofs.Common.{ℕ, ◌≡◌, Bool, true, false, List, [], ◌∷◌, ◌++◌, take, drop, Option, Some, None, refl, sym, subst, ap, ◌∙◌}
+use Rattle.std.specs.Prelude.{if◌then◌else◌, codes, bytes_eq}
+use Rattle.std.specs.Option.{option_map, option_and_then}
+use Rattle.std.proofs.lemmas.List.{take-append-drop}
+use Rattle.std.proofs.lemmas.Slice.Eq.{bytes_eq-Decides}
+use Rattle.cstn_label.specs.Letters.{letter_of}
+use Rattle.cstn_label.proofs.LetterLemmas.{letter_back}
+use Rattle.cstn_lines.specs.FollowLines.{Follow, IsFollow, followed_read, follow_read}
+use Rattle.cstn_lines.specs.LiveLines.{prop_read}
+use Rattle.cstn_lines.proofs.LiveLemmas.{joined_cut, prop_only}
+use Rattle.cstn_lines.proofs.FollowLemmas.{follow_is}
+use Rattle.cstn_follow.specs.Asking.{Asked, asks_verdict, asks_until, asks_each, asks_late, IsAsked, late_read, asked_read, printed_asked, of_line, of_question, spoken_by, spoken_read, IfLine}
+use Rattle.cstn_follow.specs.Following.{Following, Heard, says, saves}
+use Rattle.cstn_follow.specs.Hearing.{on_line}
+
+-- the session that follows
+abbrev pub next_of : Heard → Following
+next_of (says text next) = next
+next_of (saves m names next) = next
+
+-- a line is within its ranges
+pub spoken_is : (bytes : List ℕ) → IfLine (spoken_read bytes) IsFollow
+spoken_is bytes = by_line (follow_read bytes) (follow_is bytes)
+  where
+    by_question : (o : Option Asked) → IfLine (option_map of_question o) IsFollow
+    by_question None = tt
+    by_question (Some question) = tt
+
+    by_line : (o : Option Follow) → ((l : Follow) → o ≡ Some l → IsFollow l) → IfLine (spoken_by o bytes) IsFollow
+    by_line None is = by_question (asked_read bytes)
+    by_line (Some line) is = is line refl
+
+pub question_back : (question : Asked) → IsAsked question → spoken_read (printed_asked question) ≡ Some (of_question question)
+question_back asks_verdict is = refl
+question_back asks_until is = refl
+question_back asks_each is = refl
+question_back (asks_late p) is =
+    let text = codes "late" ++ 32 ∷ letter_of p ∷ [] in
+    let none : follow_read text ≡ None = ap (option_and_then followed_read) (joined_cut (codes "late") (letter_of p ∷ []) refl) in
+    ap (λ o. spoken_by o text) none ∙ ap (λ o. option_map of_question (option_map asks_late o)) (letter_back p is)
+
+spelled : (text word : List ℕ) → bytes_eq text word ≡ true → word ≡ text
+spelled text word is = sym ((bytes_eq-Decides text word).0 is)
+
+abbrev IsWritten : List ℕ → Asked → Type 0
+IsWritten text question = (printed_asked question ≡ text) × IsAsked question
+
+late_only : (text : List ℕ) (question : Asked) → late_read text ≡ Some question → IsWritten text question
+late_only text question is = by_word (bytes_eq (take 5 text) (codes "late ")) refl is
+  where
+    by_prop : (rest : List ℕ) → rest ≡ drop 5 text → codes "late " ≡ take 5 text → (o : Option ℕ) → prop_read rest ≡ o → option_map asks_late o ≡ Some question
+        → IsWritten text question
+    by_prop rest behind_is word_is None reads so = absurd (cc)
+    by_prop rest behind_is word_is (Some p) reads so =
+        let same : asks_late p ≡ question = cc in
+        let only = prop_only rest p reads in
+        let whole : codes "late " ++ letter_of p ∷ [] ≡ text =
+        ap (λ l. codes "late " ++ l) (only.0 ∙ behind_is) ∙ ap (λ l. l ++ drop 5 text) word_is ∙ take-append-drop 5 text in
+        subst (IsWritten text) same (whole, only.1)
+
+    by_word : (b : Bool) → bytes_eq (take 5 text) (codes "late ") ≡ b
+        → option_and_then (λ rest. option_map asks_late (prop_read rest)) (if b then Some (drop 5 text) else None) ≡ Some question → IsWritten text question
+    by_word true word so = by_prop (drop 5 text) refl (spelled (take 5 text) (codes "late ") word) (prop_read (drop 5 text)) refl so
+    by_word false word so = absurd (cc)
+
+asked_only : (text : List ℕ) (question : Asked) → asked_read text ≡ Some question → IsWritten text question
+asked_only text question is = by (bytes_eq text (codes "verdict")) (bytes_eq text (codes "until")) (bytes_eq text (codes "by")) refl refl refl is
+  where
+    here : (a : Asked) → IsWritten text a → Some a ≡ Some question → IsWritten text question
+    here a written same = let e : a ≡ question = cc in subst (IsWritten text) e written
+
+    by : (a b c : Bool) → bytes_eq text (codes "verdict") ≡ a → bytes_eq text (codes "until") ≡ b → bytes_eq text (codes "by") ≡ c
+        → (if a then Some asks_verdict else if b then Some asks_until else if c then Some asks_each else late_read text) ≡ Some question → IsWritten text question
+    by true b c first second third so = here asks_verdict (spelled text (codes "verdict") first, tt) so
+    by false true c first second third so = here asks_until (spelled text (codes "until") second, tt) so
+    by false false true first second third so = here asks_each (spelled text (codes "by") third, tt) so
+    by false false false first second third so = late_only text question so
+
+pub question_only : (text : List ℕ) (question : Asked) → spoken_read text ≡ Some (of_question question) → IsWritten text question
+question_only text question is = by_line (follow_read text) is
+  where
+    by_question : (o : Option Asked) → option_map of_question o ≡ Some (of_question question) → o ≡ Some question
+    by_question None so = absurd (cc)
+    by_question (Some other) so = cc
+
+    by_line : (o : Option Follow) → spoken_by o text ≡ Some (of_question question) → IsWritten text question
+    by_line None so = asked_only text question (by_question (asked_read text) so)
+    by_line (Some line) so = absurd (cc)
+
+pub line_spoken : (text : List ℕ) (line : Follow) → follow_read text ≡ Some line → spoken_read text ≡ Some (of_line line)
+line_spoken text line is = ap (λ o. spoken_by o text) is
+
+-- what is no line that tells, edits or asks changes nothing
+pub others_keep : (s : Following) (bytes : List ℕ) → follow_read bytes ≡ None → next_of (on_line s (spoken_read bytes)) ≡ s
+others_keep s bytes none = ap (λ o. next_of (on_line s (spoken_by o bytes))) none ∙ by_question (asked_read bytes)
+  where
+    by_question : (o : Option Asked) → next_of (on_line s (option_map of_question o)) ≡ s
+    by_question None = refl
+    by_question (Some question) = refl

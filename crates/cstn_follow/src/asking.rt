@@ -1,0 +1,93 @@
+// Lines of a session that follows a plan.
+ghost use Rattle.std.specs.Prelude.{◌≡◌, IfOk, OnErr};
+ghost use Rattle.std.specs.Option.{option_map};
+ghost use Rattle.cstn_lines.specs.FollowLines.{IsNaming};
+ghost use Rattle.cstn_lines.specs.LiveLines.{prop_read};
+ghost use Rattle.cstn_follow.specs.Asking.{the_asked, behind, late_read, asked_read, of_question, the_spoken, spoken_read};
+
+use cstn_label::Prop;
+use cstn_lines::{FollowLine, read_follow};
+use std::alloc::{AllocError, Global};
+
+/// What a line asks beside the questions of `FollowLine`.
+#[derive(Clone, Copy, Debug, PartialEq, Eq)]
+pub enum Question {
+    /// `verdict`.
+    Verdict,
+    /// `until`.
+    Until,
+    /// `by`, without a name.
+    Each,
+    /// `late P`, with P an ASCII letter.
+    Late { prop: Prop },
+}
+
+/// What a line of a session says.
+#[derive(Debug, Drop)]
+pub enum Spoken {
+    /// A line that tells, edits or asks.
+    Line(FollowLine),
+    /// A further question.
+    Ask(Question),
+}
+
+/// What the line of these bytes, without its LF, says: exactly a form of `FollowLine` or of `Question`, with one space between the
+/// parts and no other. None where they are no such line. Fails for want of memory alone, and only at a line that names time-points.
+pub fn read_spoken(alloc: Global, bytes: &[u8]) -> Result<Option<Spoken>, AllocError>
+    ensures read { IfOk result (λ line. option_map the_spoken line ≡ spoken_read bytes.now) }
+    ensures memory { OnErr result (IsNaming bytes.now) }
+{
+    match read_follow(alloc, bytes)? {
+        Some(line) => Ok(Some(Spoken::Line(line))),
+        None => Ok(read_question(bytes)),
+    }
+}
+
+// The further question that the bytes ask.
+fn read_question(bytes: &[u8]) -> Option<Spoken>
+    ensures { option_map the_spoken result ≡ option_map of_question (asked_read bytes.now) }
+{
+    let question = question_of(bytes)?;
+    Some(Spoken::Ask(question))
+}
+
+fn question_of(bytes: &[u8]) -> Option<Question>
+    ensures { option_map the_asked result ≡ asked_read bytes.now }
+{
+    if bytes == b"verdict".as_slice() {
+        return Some(Question::Verdict);
+    }
+    if bytes == b"until".as_slice() {
+        return Some(Question::Until);
+    }
+    if bytes == b"by".as_slice() {
+        return Some(Question::Each);
+    }
+    read_late(bytes)
+}
+
+// `late P`.
+fn read_late(bytes: &[u8]) -> Option<Question>
+    ensures { option_map the_asked result ≡ late_read bytes.now }
+{
+    let letter = behind(bytes, b"late ")?;
+    let prop = prop_of(letter)?;
+    Some(Question::Late { prop })
+}
+
+// What follows these bytes, where a line begins with them.
+fn behind<'a>(bytes: &'a [u8], word: &[u8]) -> Option<&'a [u8]>
+    ensures { option_map (λ rest. rest.now) result ≡ behind word.now bytes.now }
+{
+    bytes.strip_prefix(word)
+}
+
+// The proposition of a letter.
+fn prop_of(bytes: &[u8]) -> Option<Prop>
+    ensures { option_map (λ p. p.index) result ≡ prop_read bytes.now }
+{
+    match bytes {
+        [letter] => Prop::from_letter(*letter),
+        _ => None,
+    }
+}
