@@ -29,12 +29,17 @@ class Did:
 
 @dataclass(frozen=True)
 class Saw:
-    """The outcome of a letter came at a moment, which may be past."""
+    """The outcome of a letter came at a moment, which may be past. Raises `TypeError` if `value` is no `bool`: a text such
+    as "false" would count as true."""
 
     letter: str
     value: bool
     at: Moment
     key: str | None = None
+
+    def __post_init__(self) -> None:
+        if not isinstance(self.value, bool):
+            raise TypeError(f"an outcome is True or False, and not {self.value!r}")
 
     def __str__(self) -> str:
         return f"{self.letter} {'true' if self.value else 'false'} at {self.at}"

@@ -6,6 +6,7 @@ from cstn import (Add, Can, Change, Changed, Clock, Contradicts, Deadline, Did, 
                   MemoryJournal, Moved, Next, NotYet, Now, OutOfRange, Plan, Refused, Saw, Seen, TooMany, Unknown,
                   WaitsFor)
 from cstn.answers import Refusal
+from cstn.events import from_data
 from cstn.names import printed
 from cstn.session import Limits, Session
 from tests.support import CLINIC, EMERGENCY, answers, answers_to, drawn
@@ -236,6 +237,12 @@ class Followers(unittest.TestCase):
         again.did("Sample", origin + timedelta(minutes=5))
         self.assertEqual(again.clock, follower.clock)
         self.assertRaises(TypeError, self.follower().did, "Sample", origin)
+
+    def test_outcomes_of_another_type(self) -> None:
+        for value in ("false", "", None, 0, 1):
+            with self.subTest(value=value):
+                self.assertRaises(TypeError, Saw, "i", value, 80)
+                self.assertRaises(ValueError, from_data, {"is": "saw", "letter": "i", "value": value, "at": 80})
 
 
 class Corrections(unittest.TestCase):
