@@ -218,7 +218,11 @@ tell_refused_plans() {
   deadline=$(deadline_of "$@")
   for word in "$@"; do
     case $word in
-      *.plan) [ ! -f "$word" ] || "$program" plan "$word" ${deadline:+--deadline "$deadline"} >/dev/null 2>&1 </dev/null || tell_plan "$word" ;;
+      *.plan)
+        [ -f "$word" ] || continue
+        "$program" plan "$word" ${deadline:+--deadline "$deadline"} >/dev/null 2>&1 </dev/null
+        [ "$?" -ne 3 ] || tell_plan "$word"
+        ;;
     esac
   done
 }
