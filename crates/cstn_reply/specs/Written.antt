@@ -21,8 +21,8 @@ pub record LiveState : Type 0 where
 abbrev pub view : {S : Type 0} → (S → Option (List ℕ)) → (S → ℕ) → (S → ℕ) → S → LiveState
 view left faults reads source = record { left = left source; faults = faults source; reads = reads source }
 
--- The reads that took these bytes; `before` and `after` count those of the source. By `heard`, more is read after what all reads
--- but the last one took, and each of these took a byte or more. So no read comes after one that brought a line that ends a session.
+-- The reads that took these bytes; `before` and `after` count those of the source. By `heard`, more is read after `first`, and there
+-- were no more reads than one for each byte of it, and one. So nothing behind what ends a session is read a byte at a time.
 pub record ReadsLeadOn (heard : List ℕ → Option (List ℕ)) (taken : List ℕ) (before after : ℕ) : Type 0 where
   pub first : List ℕ
   pub last : List ℕ
