@@ -16,6 +16,7 @@ sys.path.append(os.path.join(TOP, "deciders"))
 
 sys.path.append(os.path.join(TOP, "python"))
 
+from cstn.refused import why_refused
 from cstn.said import said as said_in
 from drawn_plans import Text, drawn_text
 from sentences import AUTOMATON, KEYWORDS, Reader, Refused, heard_in, words_of
@@ -188,7 +189,7 @@ class Checkout:
         os.makedirs(self.temporary)
         os.symlink(os.path.join(TOP, "python"), self.at("python"))
         shutil.copy(os.path.join(TOP, "cstn"), self.at("cstn"))
-        for name in ("checksum", "commands.txt", "hints.sh", "plans.sh", "refused.awk", "sentences.txt"):
+        for name in ("checksum", "commands.txt", "hints.sh", "plans.sh", "refused.awk"):
             os.symlink(os.path.join(TOP, "tools", name), self.at("tools", name))
         program = self.at("crates/cstn/out/cstn")
         if run(["plan", TOP])[0] != WORDS:
@@ -285,6 +286,9 @@ def shown(folder):
     for text, lines in rows_shown():
         wanted = *here.answer(["plan", here.put("f.plan", text)], ""), as_said(lines)
         check(f"{text!r} is refused", wanted[0], DOCUMENT)
+        if "?" not in "".join(lines):
+            why, more = why_refused(text.encode(), wanted[1].decode().rstrip("\n"))
+            check(f"{text!r} in the package", [why, *more], [re.sub(r"^line \d+: ", "", lines[0]), *lines[1:]])
         for command, env in (("check", {}), ("follow", {"CSTN_NO_BUILD": "1"}), ("plan", {})):
             check(f"{text!r} by {command} {env}", here.called(command, "f.plan", live="now 0\n", **env), wanted)
     check("what is left behind", os.listdir(here.temporary), [])
@@ -311,8 +315,8 @@ def explained(folder):
 
 
 def places():
-    """The table of tools/sentences.txt: for each place what may stand there in words, and where words lead."""
-    with open(os.path.join(TOP, "tools", "sentences.txt"), encoding="utf-8") as table:
+    """The table of python/cstn/places.txt: for each place what may stand there in words, and where words lead."""
+    with open(os.path.join(TOP, "python", "cstn", "places.txt"), encoding="utf-8") as table:
         rows = [line.rstrip("\n").split(" | ") for line in table if not line.startswith("#")]
     return {name: (says, dict(it.split(":") for it in (leads or [""])[0].split())) for name, says, *leads in rows}
 

@@ -1,11 +1,12 @@
 """The tables of checks/plans: worked plans, each refusal, the examples, and drawn texts and networks."""
+import functools
 import os
 import random
 import resource
 import subprocess
 import sys
 
-from runs import DOCUMENT, GOOD, MEMORY, PROGRAM, READ_FAULT, TOP, WORDS, WRITE_FAULT, check, compact, examples, run
+from runs import DOCUMENT, GOOD, MEMORY, PROGRAM, READ_FAULT, TOP, WORDS, WRITE_FAULT, check, compact, examples, run, side_by_side
 
 sys.path.append(os.path.join(TOP, "deciders"))
 
@@ -17,6 +18,7 @@ PLAN = DOCUMENT
 MARK = b"\xef\xbb\xbf"
 
 
+@functools.cache
 def has(command):
     """Whether the program has the command: else it answers a folder's name by `words`."""
     return run([command, TOP])[0] != WORDS
@@ -390,38 +392,40 @@ def kind_of(words):
     return " ".join(words[3:5] if words[3:] == ["word", "0"] else words[3:4]) if words[1] == "line" else words[1]
 
 
+def network_trial(folder, number):
+    """What a network says in sentences is a plan of it, and its document is read as it. The program says the same of that document."""
+    network = drawn_network(random.Random(number))
+    said, document = sentences(network), as_document(network)
+    check(f"network {number}: there and back", plan(said), network)
+    check(f"network {number}: its document", of_document(document), network)
+    if has("sentences"):
+        check(f"network {number}: the program", run(["sentences", folder.put("document", document)]), (GOOD, said))
+    return "a network"
+
+
+def text_trial(folder, number):
+    """A text is refused, or says a network that its sentences say too. The program takes it likewise."""
+    text = drawn_text(random.Random(number))
+    status, wrote = Plans(folder).plan(f"text {number}", text)
+    if status == GOOD:
+        network = plan(text)
+        check(f"text {number}: there and back", plan(sentences(network)), network)
+    if number % 20 == 0 and (status == GOOD or wrote[5:6] in b"NL"):
+        document = as_document(network_said(text))
+        kind = b"X10" if wrote[5:6] == b"N" else b"X12"
+        wanted = (GOOD, document) if status == GOOD else (DOCUMENT, b"document " + kind + b" " + wrote[5:])
+        check(f"text {number}: its document", run(["save", folder.put("f", document)]), wanted)
+    return "accepted" if status == GOOD else kind_of(wrote.decode().split())
+
+
 def trials(count):
     """Tables of so many drawn networks and texts."""
 
-    def there_and_back(folder):
-        """What a network says in sentences is a plan of it, and its document is read as it."""
-        plans = Plans(folder)
-        for number in range(count):
-            network = drawn_network(random.Random(number))
-            said = sentences(network)
-            check(f"network {number}: there and back", plan(said), network)
-            check(f"network {number}: its document", of_document(as_document(network)), network)
-            if plans.has_sentences:
-                plans.sentences(f"network {number}", as_document(network))
+    def drawn_networks(_):
+        side_by_side(network_trial, count)
 
-    def texts(folder):
-        """A text is refused, or says a network that its sentences say too. The program takes it likewise."""
-        plans, outcomes = Plans(folder), {}
-        for number in range(count):
-            draw = random.Random(number)
-            text = drawn_text(draw)
-            status, wrote = plans.plan(f"text {number}", text)
-            why = "accepted" if status == GOOD else kind_of(wrote.decode().split())
-            outcomes[why] = outcomes.get(why, 0) + 1
-            if status == GOOD:
-                network = plan(text)
-                check(f"text {number}: there and back", plan(sentences(network)), network)
-            if number % 20 == 0 and (status == GOOD or wrote[5:6] in b"NL"):
-                document = as_document(network_said(text))
-                kind = b"X10" if wrote[5:6] == b"N" else b"X12"
-                wanted = (GOOD, document) if status == GOOD else (DOCUMENT, b"document " + kind + b" " + wrote[5:])
-                check(f"text {number}: its document", run(["save", folder.put("f", document)]), wanted)
-        told = sorted(outcomes.items(), key=lambda it: -it[1])
+    def drawn_texts(_):
+        told = side_by_side(text_trial, count).most_common()
         print("plans: drawn texts:", ", ".join(f"{why} {times}" for why, times in told))
 
-    return there_and_back, texts
+    return drawn_networks, drawn_texts

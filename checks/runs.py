@@ -3,6 +3,7 @@
 Each is called as NAME [PROGRAM]; PROGRAM is crates/cstn/out/cstn where none is named.
 """
 import contextlib
+import multiprocessing
 import os
 import re
 import subprocess
@@ -10,6 +11,8 @@ import sys
 import tempfile
 import threading
 import time
+from collections import Counter
+from concurrent.futures import ProcessPoolExecutor
 from urllib.parse import unquote
 
 TOP = os.path.dirname(os.path.dirname(os.path.abspath(__file__)))
@@ -156,6 +159,32 @@ def plain_examples():
         with open(path, encoding="utf-8") as file:
             if not re.search(r'<data key="Label">[^<]', file.read()):
                 yield name, path
+
+
+# How many trials a processor takes at a time.
+SHARE = 500
+
+
+def share_of(trial, numbers):
+    """In a process of its own: what the trials of these numbers came to, and the cases that they counted, by their times."""
+    TOLD.update(passed=0, failed=0)
+    with tempfile.TemporaryDirectory() as path:
+        return Counter(trial(Folder(path), number) for number in numbers), TOLD
+
+
+def side_by_side(trial, trials):
+    """Calls a function of a module with a folder and each number below `trials`, on all processors, and counts its cases.
+
+    Answers what the calls answered, with the times of each answer.
+    """
+    outcomes = Counter()
+    with ProcessPoolExecutor(mp_context=multiprocessing.get_context("fork")) as processors:
+        shares = [range(first, min(first + SHARE, trials)) for first in range(0, trials, SHARE)]
+        for times, told in processors.map(share_of, [trial] * len(shares), shares):
+            outcomes += times
+            for how, cases in told.items():
+                TOLD[how] += cases
+    return outcomes
 
 
 def count(tables, needs_program=True, named=()):

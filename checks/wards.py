@@ -173,6 +173,9 @@ def two(tally, one):
         other.run(script, button)
         for browser in (one, other):
             browser.says("what both see", "#history", "Sample done")
+        one.says("whose was the second", "#history", "told before")
+        one.run("document.querySelector('#history').scrollIntoView()")
+        one.picture("told-twice")
         taken = [it["event"] for it in board.page("clinical-pathway")["history"] if it["standing"] == "taken"]
         tally.check("a fact that both tell", [it["kind"] for it in taken if it].count("did"), 1)
         stale = {"of": "x", "version": 1, "instead": None}

@@ -10,7 +10,7 @@ _cstn() {
   case ${COMP_WORDS[1]} in
     check | run | edit | follow | closed | tree | tight | conflict | host) options="--deadline --cap" ;;
     closedcheck | treecheck | save | plan | sentences | replay) options="--deadline" ;;
-    explain) options="--conflict --deadline --float --json --only --plain --step --tight --tree" ;;
+    explain) options="--conflict --deadline --float --follow --json --longest --only --plain --start --step --tasks --tick --tight --tree" ;;
     draw) options="--case --csv --deadline --html --start --tasks --tick cases network now" ;;
     board) options="--address --by-hand --deadline --journals --name --port --start --tick" ;;
   esac

@@ -19,6 +19,7 @@ JUDGE = os.path.join(TOP, "tools", "replay")
 
 GREATEST = 1000000
 NEVER = GREATEST + 1
+MOST_OF_ORIGIN = 1000
 
 SESSIONS = 40
 
@@ -97,11 +98,13 @@ class Plan:
 
 @dataclasses.dataclass
 class History:
-    """What has happened: now, the moments of what is done, the outcomes that were told, and when others are expected."""
+    """What has happened: now, the moments of what is done, the outcomes that were told, when others are expected, and before when
+    what is not done cannot be done."""
     now: int = 0
     done: dict = dataclasses.field(default_factory=lambda: {"Z": 0})
     told: dict = dataclasses.field(default_factory=dict)
     expected: dict = dataclasses.field(default_factory=dict)
+    ready: dict = dataclasses.field(default_factory=dict)
 
     def known_from(self, plan, letter):
         """From when on an outcome counts as known whose observer is done."""
@@ -134,7 +137,7 @@ class Moments:
             raise NoTable
         for row in self.rows:
             for name in row.keys() - history.done.keys():
-                self.rises(row, name, max(history.now, later.get(name, 0)))
+                self.rises(row, name, max(history.now, history.ready.get(name, 0), later.get(name, 0)))
 
     def rises(self, row, name, moment):
         """Raises a moment that is less; whether it was."""
@@ -203,6 +206,70 @@ def blamed(plan, history):
     return sorted(plan.constraints)
 
 
+class Course:
+    """A plan and what has happened, and what of lines is refused then."""
+    plan: Plan
+    history: History
+
+    def verdict(self):
+        return "no" if least_table(self.plan, self.history) is None else "yes"
+
+    def why_no_wait(self, name):
+        """Why `by` is refused, or nothing."""
+        if name not in self.plan.labels:
+            return f"refused F3 {name}"
+        if name in self.history.done:
+            return f"refused F4 {name} {self.history.done[name]}"
+        executed = any(self.plan.is_executed(name, case) for case in self.plan.cases(self.history.told))
+        return None if executed else f"refused F5 {name}"
+
+    def why_not_done(self, moment, names):
+        if moment > GREATEST:
+            return f"refused F2 {moment}"
+        done = dict(self.history.done)
+        for name in names:
+            if name not in self.plan.labels:
+                return f"refused F3 {name}"
+        for name in names:
+            if name in done:
+                return f"refused F4 {name} {done[name]}"
+            if not self.plan.is_executed(name, self.history.told):
+                return f"refused F5 {name}"
+            done[name] = moment
+        return None
+
+    def done_at(self, letter):
+        """When the observer of a letter was done, or nothing."""
+        return self.history.done.get(self.plan.observers.get(letter))
+
+    def why_not_told(self, letter):
+        if self.done_at(letter) is None:
+            return f"refused F6 {letter}"
+        told = self.history.told.get(letter)
+        return None if told is None else f"refused F7 {letter} {str(told).lower()}"
+
+    def why_not_seen(self, moment, letter):
+        if moment > GREATEST:
+            return f"refused F2 {moment}"
+        return self.why_not_told(letter) or (f"refused F2 {moment}" if moment < self.done_at(letter) else None)
+
+    def why_not_now(self, moment):
+        if moment < self.history.now:
+            return f"refused F1 {self.history.now}"
+        return f"refused F2 {moment}" if moment > GREATEST else None
+
+    def latest(self, letter):
+        """Up to when an outcome may be expected."""
+        return MOST_OF_ORIGIN if self.plan.observers[letter] == "Z" else GREATEST
+
+    def why_not_awaited(self, moment, letter):
+        refusal = self.why_not_told(letter)
+        if refusal:
+            return refusal
+        fits = max(self.history.now, self.done_at(letter) + 1) <= moment <= self.latest(letter)
+        return None if fits else f"refused F2 {moment}"
+
+
 # What is drawn.
 
 
@@ -225,7 +292,7 @@ def drawn_plan(draw):
     return plan if plan.is_sound() else drawn_plan(draw)
 
 
-class Session:
+class Session(Course):
     """What is said over a drawn plan, each line with its answer by the definitions, but for loads, steps and what is left."""
 
     def __init__(self, number):
@@ -239,9 +306,6 @@ class Session:
         for _ in range(self.draw.randint(5, 11)):
             kinds = (self.did, self.saw, self.passed, self.awaits, self.adds, self.removes, self.changes, self.another_deadline)
             self.draw.choices(kinds, (36, 28, 14, 9, 4, 3, 3, 3) if self.verdict() == "yes" else (8, 8, 4, 4, 1, 35, 25, 15))[0]()
-
-    def verdict(self):
-        return "no" if least_table(self.plan, self.history) is None else "yes"
 
     def answer(self, line, wanted):
         self.turns.append((line, wanted))
@@ -258,15 +322,6 @@ class Session:
         self.answer("blame", verdict if rows else " ".join(["blame", *map(str, blamed(self.plan, self.history))]))
         self.answer("check", verdict)
         self.answer("rest", "</graphml>")
-
-    def why_no_wait(self, name):
-        """Why `by` is refused, or nothing."""
-        if name not in self.plan.labels:
-            return f"refused F3 {name}"
-        if name in self.history.done:
-            return f"refused F4 {name} {self.history.done[name]}"
-        executed = any(self.plan.is_executed(name, case) for case in self.plan.cases(self.history.told))
-        return None if executed else f"refused F5 {name}"
 
     # Facts.
 
@@ -295,44 +350,18 @@ class Session:
         refusal = self.why_not_done(moment, names)
         self.fact(f"did {moment} {' '.join(names)}", refusal, moment, done={**self.history.done, **dict.fromkeys(names, moment)})
 
-    def why_not_done(self, moment, names):
-        if moment > GREATEST:
-            return f"refused F2 {moment}"
-        done = dict(self.history.done)
-        for name in names:
-            if name not in self.plan.labels:
-                return f"refused F3 {name}"
-        for name in names:
-            if name in done:
-                return f"refused F4 {name} {done[name]}"
-            if not self.plan.is_executed(name, self.history.told):
-                return f"refused F5 {name}"
-            done[name] = moment
-        return None
-
     def saw(self):
         moment, letter, value = self.moment(), self.letter(), self.draw.random() < 0.5
-        at = self.history.done.get(self.plan.observers[letter], 0)
-        refusal = f"refused F2 {moment}" if moment > GREATEST else self.why_not_told(letter) or (f"refused F2 {moment}" if moment < at else None)
-        self.fact(f"saw {moment} {letter} {str(value).lower()}", refusal, moment, told={**self.history.told, letter: value})
-
-    def why_not_told(self, letter):
-        if self.plan.observers[letter] not in self.history.done:
-            return f"refused F6 {letter}"
-        told = self.history.told.get(letter)
-        return None if told is None else f"refused F7 {letter} {str(told).lower()}"
+        line = f"saw {moment} {letter} {str(value).lower()}"
+        self.fact(line, self.why_not_seen(moment, letter), moment, told={**self.history.told, letter: value})
 
     def passed(self):
-        moment, now = self.moment(), self.history.now
-        refusal = f"refused F1 {now}" if moment < now else f"refused F2 {moment}" if moment > GREATEST else None
-        self.fact(f"now {moment}", refusal, moment)
+        moment = self.moment()
+        self.fact(f"now {moment}", self.why_not_now(moment), moment)
 
     def awaits(self):
         moment, letter = self.moment(), self.letter()
-        at = self.history.done.get(self.plan.observers[letter], 0)
-        wrong = moment > GREATEST or moment < self.history.now or moment <= at
-        refusal = self.why_not_told(letter) or (f"refused F2 {moment}" if wrong else None)
-        self.fact(f"await {moment} {letter}", refusal, 0, expected={**self.history.expected, letter: moment})
+        self.fact(f"await {moment} {letter}", self.why_not_awaited(moment, letter), 0, expected={**self.history.expected, letter: moment})
 
     # Edits.
 

@@ -108,7 +108,7 @@ lines_of() {
   case $1 in
     run) echo "moment T, see P true, see P false, due" ;;
     edit) echo "add FROM TO W LABEL (LABEL is - or as in p!q, never with ¬; W is from -1000000000 to 1000000000 and has no +; a space in a name is %20), remove ID, change ID W, check" ;;
-    follow) echo "did T NAME NAME .. (done at T), saw T P true, saw T P false (an outcome at T), now T, await T P (expected at T), next, by NAME, by, until, late P, verdict, check, blame, rest, deadline N, and add FROM TO W LABEL, remove ID, change ID W" ;;
+    follow) echo "did T NAME NAME .. (done at T), saw T P true, saw T P false (an outcome at T), now T, await T P (expected at T), next, by NAME, by, until, late P, raise ID, least, verdict, check, blame, rest, try LINE, mark, back, cap N, deadline N, forgive, and add FROM TO W LABEL, remove ID, change ID W" ;;
     host) echo "open ID K, on ID moment T, on ID see P true, on ID see P false, on ID due, close ID" ;;
   esac
 }
@@ -117,7 +117,7 @@ lines_of() {
 refusals_of() {
   case $1 in
     run | host) echo "E1 the moment is not above the last one, E2 another moment is due before, E3 an outcome is awaited by then, E4 not observed yet, or never, E5 told already" ;;
-    follow) echo "F1 it is later already, F2 a moment out of range, F3 no such time-point, F4 done already, F5 its label is not decided, F6 nobody who was done observes it, F7 told already, F8 too many constraints, \`line N\` none of these lines" ;;
+    follow) echo "F1 it is later already, F2 a moment out of range, F3 no such time-point, F4 done already, F5 its label is not decided, F6 nobody who was done observes it, F7 told already, F8 too many constraints, M1 eight marks are set, M2 no mark is set, \`line N\` none of these lines" ;;
   esac
 }
 
@@ -127,6 +127,7 @@ tell_live() {
   meanings=$(refusals_of "$1")
   say "$1 takes the lines $(lines_of "$1")"
   say "an answer \`refused ..\` changes nothing${meanings:+: $meanings} (what to do: docs/guide.md, \"Every refusal\")"
+  [ "$1" != follow ] || say "./cstn explain --follow FILE takes times as 22:14, words for letters and quoted names, and answers in words"
 }
 
 # Says of a copy that ./cstn explain --plain wrote `warning`.
@@ -209,7 +210,7 @@ labels_of() {
 # Why a plan in sentences is refused, in words, with its line and a mark under the word in question.
 tell_plan() {
   refusal=$("$program" plan "$1" ${deadline:+--deadline "$deadline"} 2>/dev/null </dev/null)
-  REFUSAL=$refusal PLAN=$(shown "$1") LC_ALL=C awk -f "$top/tools/refused.awk" "$top/tools/sentences.txt" - <"$1" |
+  REFUSAL=$refusal PLAN=$(shown "$1") LC_ALL=C awk -f "$top/tools/refused.awk" "$top/python/cstn/places.txt" - <"$1" |
     while IFS= read -r told; do say "$told"; done
 }
 

@@ -1,4 +1,4 @@
-# Says why a plan in sentences is refused, and shows the line in question. Files: tools/sentences.txt and the plan. In the environment
+# Says why a plan in sentences is refused, and shows the line in question. Files: python/cstn/places.txt and the plan. In the environment
 # stand REFUSAL, the answer of `plan` without its LF, and PLAN, the name of the plan as it is shown.
 
 BEGIN {
@@ -21,9 +21,10 @@ FNR == NR {
   next
 }
 
-# The plan.
+# The plan, as far as it is needed. Of lines that are not in question, steps and tasks alone are of use.
 FNR == 1 { sub(/^\357\273\277/, "") }
-{ cut(); keep() }
+FNR == number || /^[ \t\r]*(step|task)[ \t]/ { cut(); keep() }
+kind == "deadline" || kind == "long" || FNR == number && kind != "name" { exit }
 
 END {
   told = number ? "line " number ": " why() : why()
@@ -222,6 +223,7 @@ function wide(it) {
 
 # The line, or what of it stands near the word in question, and a mark under that.
 function show(    before, behind, size) {
+  if (!mark && length(line) > 4096) { line = substr(line, 1, 4096); sub(/[\300-\377][\200-\277]*$/, "", line) }
   line = in_signs(line)
   before = substr(line, 1, line_place[mark] - 1)
   behind = substr(line, line_place[mark])

@@ -58,8 +58,9 @@ class AsyncFollower:
     async def now(self, at: Moment) -> Receipt:
         return await self.threads.run(self.follower.now, at)
 
-    async def correct(self, key: str, instead: Event | None = None, *, expect: int | None = None) -> Receipt:
-        return await self.threads.run(self.follower.correct, key, instead, expect=expect)
+    async def correct(self, key: str, instead: Event | None = None, *, expect: int | None = None,
+                      own_key: str | None = None) -> Receipt:
+        return await self.threads.run(self.follower.correct, key, instead, expect=expect, own_key=own_key)
 
     async def verdict(self) -> Verdict:
         return await self.threads.run(self.follower.verdict)
@@ -75,6 +76,9 @@ class AsyncFollower:
 
     async def blame(self) -> tuple[int, ...] | None:
         return await self.threads.run(self.follower.blame)
+
+    async def blamed_sets(self) -> tuple[tuple[int, ...], ...]:
+        return await self.threads.run(self.follower.blamed_sets)
 
     async def ways_out(self, *, seconds: float = 60.0) -> tuple[WayOut, ...]:
         return await self.threads.run(self.follower.ways_out, seconds=seconds)

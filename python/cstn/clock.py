@@ -4,18 +4,22 @@ from __future__ import annotations
 from dataclasses import dataclass
 from datetime import datetime, timedelta, timezone
 
+from cstn.errors import WrongType
+
 
 @dataclass(frozen=True)
 class Clock:
     """Tick 0 begins at `origin`, and each lasts `tick`. A moment is rounded down to the tick that has begun.
 
-    Origin and moments are aware datetimes; a naive one raises `TypeError`.
+    Origin and moments are aware datetimes; a naive one, or anything else, raises `WrongType`.
     """
 
     origin: datetime
     tick: timedelta = timedelta(minutes=1)
 
     def __post_init__(self) -> None:
+        if not isinstance(self.tick, timedelta):
+            raise WrongType(f"a tick is a timedelta, and not {self.tick!r}")
         if self.tick <= timedelta(0):
             raise ValueError("a tick lasts longer than nothing")
         in_utc(self.origin)
@@ -36,6 +40,6 @@ class Clock:
 def in_utc(when: datetime) -> datetime:
     """The same moment in UTC. Between two of one time zone Python counts the hours that its clocks show, and so one
     too few or too many where these are put forward or back."""
-    if when.utcoffset() is None:
-        raise TypeError("a datetime without a time zone is no moment")
+    if not isinstance(when, datetime) or when.utcoffset() is None:
+        raise WrongType(f"a moment of the wall clock is a datetime with a time zone, and not {when!r}")
     return when.astimezone(timezone.utc)

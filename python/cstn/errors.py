@@ -18,22 +18,27 @@ class BadDocument(CstnError):
     """The program refuses a document: `code` is `X1` to `X12` or `long`, `says` all of its words.
 
     `line` and `column`, counted from 1, are where the fault stands, if it stands at a place. Of a plan in sentences
-    `code` is the first word of the refusal that is no place, as `word` or `N6`, and there is no column.
+    `code` is the first word of the refusal that is no place, as `word` or `N6`, and there is no column. `why` says it
+    in words, and `shown` are lines that a person may look at, of a plan in sentences its own with a mark below.
     """
 
     code: str
     says: str
     line: int | None = None
     column: int | None = None
+    why: str = ""
+    shown: tuple[str, ...] = ()
 
     def __str__(self) -> str:
         where = "" if self.column is None else f" (line {self.line}, column {self.column})"
-        return self.says + where
+        why = f": {self.why}" if self.why else ""
+        return "\n  ".join([self.says + where + why, *self.shown])
 
 
 @dataclass(eq=False)
 class Refused(CstnError):
-    """An event is not taken: `code` is `F1` to `F8`, `S1` to `S7`, or `line`, `key` or `clock`, which the package says.
+    """An event is not taken: `code` is `F1` to `F8`, `S1` to `S7`, or `line`, `key`, `type` or `clock`, which the
+    package says.
 
     `says` is what a person may read.
     """
@@ -81,6 +86,14 @@ class Contradicts(Refused):
 @dataclass(eq=False)
 class OutOfRange(Refused):
     """A moment or a value is above what the program takes, or is in the future by the plan's clock, or is past."""
+
+
+class WrongType(Refused, TypeError):
+    """Something that was given is of another type than it may be, as a text where a moment stands. Its `code` is
+    `type`."""
+
+    def __init__(self, says: str) -> None:
+        super().__init__("type", says)
 
 
 @dataclass(eq=False)

@@ -1,22 +1,58 @@
 """What is told of a plan: facts and edits, each as a line of `follow` and as an entry of a journal.
 
 A moment is a tick, or an aware datetime where the follower has a clock. A `key` is the sender's: an event whose key was
-told before counts once. Without one an event gets a key of its own.
+told before counts once. Without one an event gets a key of its own. What is of another type raises `WrongType`.
 """
 from __future__ import annotations
 
-from collections.abc import Mapping
+from collections.abc import Callable, Mapping
 from dataclasses import dataclass, field, fields, replace
 from datetime import datetime
 from typing import Any
 
+from cstn.errors import WrongType
 from cstn.names import Label, printed, written
 
 Moment = int | datetime
 
 
+class Typed:
+    """What is told, with values of the types that it says."""
+
+    def __post_init__(self) -> None:
+        for name, is_right, wanted in CHECKED:
+            if hasattr(self, name) and not is_right(getattr(self, name)):
+                raise WrongType(f"{wanted}, and not {getattr(self, name)!r}")
+
+
+def is_number(value: object) -> bool:
+    return isinstance(value, int) and not isinstance(value, bool)
+
+
+def is_label(value: object) -> bool:
+    return isinstance(value, Mapping) and all(isinstance(letter, str) and isinstance(marked, bool)
+                                              for letter, marked in value.items())
+
+
+def is_name(value: object) -> bool:
+    return isinstance(value, str)
+
+
+CHECKED: list[tuple[str, Callable[[object], bool], str]] = [
+    *((name, is_name, "a step is named by a text") for name in ("step", "source", "target")),
+    ("letter", is_name, "a letter is a text"),
+    ("value", lambda it: isinstance(it, bool), "an outcome is True or False"),
+    ("at", lambda it: is_number(it) or isinstance(it, datetime), "a moment is a whole tick or a datetime"),
+    ("id", is_number, "the id of a limit is a whole number"),
+    ("most", lambda it: it is None or is_number(it), "the value of a limit is a whole number"),
+    ("label", is_label, "a label has True or False for each letter"),
+    ("says", is_name, "a sentence is a text"),
+    ("key", lambda it: it is None or is_name(it), "a key is a text")]
+"""What may stand under each name, and how that is said."""
+
+
 @dataclass(frozen=True)
-class Did:
+class Did(Typed):
     """A step was done at a moment, which may be past."""
 
     step: str
@@ -28,25 +64,20 @@ class Did:
 
 
 @dataclass(frozen=True)
-class Saw:
-    """The outcome of a letter came at a moment, which may be past. Raises `TypeError` if `value` is no `bool`: a text such
-    as "false" would count as true."""
+class Saw(Typed):
+    """The outcome of a letter came at a moment, which may be past."""
 
     letter: str
     value: bool
     at: Moment
     key: str | None = None
 
-    def __post_init__(self) -> None:
-        if not isinstance(self.value, bool):
-            raise TypeError(f"an outcome is True or False, and not {self.value!r}")
-
     def __str__(self) -> str:
         return f"{self.letter} {'true' if self.value else 'false'} at {self.at}"
 
 
 @dataclass(frozen=True)
-class Expect:
+class Expect(Typed):
     """The outcome of a letter is expected at a moment, and not before; the last one counts."""
 
     letter: str
@@ -58,7 +89,7 @@ class Expect:
 
 
 @dataclass(frozen=True)
-class Now:
+class Now(Typed):
     """It is this moment, and nothing else has happened before."""
 
     at: Moment
@@ -69,7 +100,7 @@ class Now:
 
 
 @dataclass(frozen=True)
-class Add:
+class Add(Typed):
     """A limit is added: `target` at most `most` ticks after `source`, where `label` holds; below 0, `source` at least
     that many ticks after `target`."""
 
@@ -80,9 +111,14 @@ class Add:
     says: str = ""
     key: str | None = None
 
+    def __post_init__(self) -> None:
+        super().__post_init__()
+        if self.most is None:
+            raise WrongType("a limit that is added has a value")
+
 
 @dataclass(frozen=True)
-class Change:
+class Change(Typed):
     """A limit has another value now, or none (`most` is None): it is taken out."""
 
     id: int
@@ -91,7 +127,7 @@ class Change:
 
 
 @dataclass(frozen=True)
-class Deadline:
+class Deadline(Typed):
     """The plan has to be done by another moment."""
 
     at: Moment
@@ -102,6 +138,11 @@ Event = Did | Saw | Expect | Now | Add | Change | Deadline
 KINDS: dict[str, type[Event]] = {
     "did": Did, "saw": Saw, "expect": Expect, "now": Now, "add": Add, "change": Change, "deadline": Deadline}
 NAMES = {kind: name for name, kind in KINDS.items()}
+
+
+def is_event(value: object) -> bool:
+    """Whether a value is one of these kinds."""
+    return type(value) in NAMES
 
 
 def line_of(event: Event) -> str:
@@ -125,8 +166,8 @@ def line_of(event: Event) -> str:
             return f"deadline {at}"
 
 
-def with_key(event: Event, key: str) -> Event:
-    """The same event under another key."""
+def with_key(event: Event, key: str | None) -> Event:
+    """The same event under another key, or without one."""
     return replace(event, key=key)
 
 

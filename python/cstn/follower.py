@@ -19,8 +19,8 @@ from cstn.answers import Answer, Blame, Can, Done, Next, Refusal, Until, Verdict
 from cstn.child import Child
 from cstn.clock import Clock
 from cstn.errors import (Changed, Contradicts, Moved, NotKept, NotYet, OutOfRange, OutOfTime, Refused, Unavailable,
-                         Unknown, WaitsFor)
-from cstn.events import Add, Change, Did, Event, Moment, Now, Saw, with_key
+                         Unknown, WaitsFor, WrongType)
+from cstn.events import Add, Change, Did, Event, Moment, Now, Saw, is_event, line_of, with_key
 from cstn.journal import Forgotten, Head, Journal, KeepsDocuments, MemoryJournal, Told, holding, parsed
 from cstn.names import printed
 from cstn.outlook import Late, Outlook, WayOut, outlook
@@ -33,13 +33,17 @@ MOST_GROWN = 8 * programs.CAP
 """Up to which cap a follower grows by itself where a verdict is unknown."""
 TRIES = 5
 """How often an event is told anew where other clients were first."""
+SETS = 20
+"""How many sets of blamed limits are let go, one after another, to see what is left without them."""
+NO_EVENT = "an event is a Did, a Saw or another of cstn.Event, and not {!r}"
+NO_KEY = "a key is a text that is not empty and does not begin with #: {!r}"
 
 
 @dataclass(frozen=True)
 class Receipt:
     """What became of an event that was told.
 
-    - `again`: it was told before, and nothing has changed;
+    - `again`: it was told before, and what is known has not changed (its key, if it is new, is kept);
     - `waits_for`: it came too soon, is kept, and is told again by itself when that has come;
     - `added`: the id of the limit that it added;
     - `taken`: the keys of events that had waited for it;
@@ -65,6 +69,8 @@ class Follower:
 
     def __init__(self, plan: Plan, journal: Journal, *, clock: Clock | None = None, cap: int = programs.CAP,
                  most_cap: int = MOST_GROWN, seconds: float = programs.SECONDS, ahead: int | None = 1) -> None:
+        if not isinstance(plan, Plan):
+            raise WrongType(f"what is followed is a Plan, and not {plan!r}: `Plan.load` reads one")
         self.plan, self.journal, self.clock, self.ahead = plan, journal, clock, ahead
         self.allowed, self.most_cap = Limits(cap, seconds), most_cap
         self.lock = threading.RLock()
@@ -74,6 +80,7 @@ class Follower:
         self.head: Head | None = None
         self.entries: list[Told | Forgotten] = []
         self.keys: dict[str, Told] = {}
+        self.corrections: dict[str, Forgotten] = {}
         self.last: tuple[int, Next | Done | Verdict] | None = None
         """What was next at a version."""
 
@@ -116,26 +123,50 @@ class Follower:
         """It is this moment, and nothing else has happened."""
         return self.tell(Now(at))
 
-    def correct(self, key: str, instead: Event | None = None, *, expect: int | None = None) -> Receipt:
-        """The event of a key was wrong: it is left out, or another one stands in its place. The journal is told anew.
+    def correct(self, key: str, instead: Event | None = None, *, expect: int | None = None,
+                own_key: str | None = None) -> Receipt:
+        """The event of a key was wrong: it is left out, or another one of its kind stands in its place. The journal is
+        told anew.
 
         Facts that can't be after that are in `fallen`. An added limit is never left out, since later ids would be
-        others: say `Change(id, None)`.
+        others: say `Change(id, None)`. With `own_key`, the correction's own key, one that is told twice counts once.
         """
+        if instead is not None and not is_event(instead):
+            raise WrongType(NO_EVENT.format(instead))
         with self.guarded():
             with self.turn(holds=True):
+                if own_key is not None and self.was_corrected(own_key, key, instead):
+                    return self.receipt(key, None)
                 self.expects(expect)
                 self.can_be_corrected(key, instead)
-                entry = Forgotten(key, instead and with_key(self.placed(instead), key), moment_of_writing())
+                placed = instead and with_key(self.placed(with_key(instead, None)), key)
+                entry = Forgotten(key, placed, moment_of_writing(), own_key)
                 before = self.asked(Session.standings)
                 self.mend(entry)
             return self.receipt(key, before)
 
+    def was_corrected(self, own_key: str, key: str, instead: Event | None) -> bool:
+        """Whether a correction was kept under its own key. Raises `Contradicts` where another one was."""
+        if not is_key(own_key):
+            raise Refused("key", NO_KEY.format(own_key))
+        known = self.corrections.get(own_key)
+        if known is None:
+            return False
+        again = instead and with_key(self.placed(with_key(instead, None)), key)
+        if (known.forget, known.instead) != (key, again):
+            raise Contradicts("key", f"another correction was told with the key {own_key!r}", with_key=own_key)
+        return True
+
     def can_be_corrected(self, key: str, instead: Event | None) -> None:
         if key not in self.keys:
             raise Unknown("key", f"no event has the key {key!r}", key)
-        if isinstance(self.keys[key].event, Add) or isinstance(instead, Add):
+        event = self.keys[key].event
+        if isinstance(event, Add) or isinstance(instead, Add):
             raise Refused("key", "a limit that was added is taken out by Change(id, None), and one is added by Add")
+        if instead is not None and type(instead) is not type(event):
+            kinds = type(event).__name__, type(instead).__name__
+            raise Refused("key", "a {} is corrected by another {}, and not by a {}: leave it out, and tell that".format(
+                kinds[0], *kinds))
 
     def mend(self, entry: Forgotten) -> None:
         """Tells the journal anew with a correction, and keeps that if what stands instead can be."""
@@ -168,6 +199,8 @@ class Follower:
 
         Raises `Unknown`, `Contradicts` where it was done or is ruled out.
         """
+        if not isinstance(step, str):
+            raise WrongType(f"a step is named by a text, and not {step!r}")
         with self.turn():
             answer = self.known(by_line(step))
             state = self.asked(lambda session: session.state)
@@ -200,11 +233,30 @@ class Follower:
             answer = child.ask("blame")
         return answer.ids if isinstance(answer, Blame) else None
 
+    def blamed_sets(self) -> tuple[tuple[int, ...], ...]:
+        """After a "no" all that has to give way: the ids that are blamed, those that are blamed with all of these let
+        go, and so on, until what is left can be carried out; of each set one at least. Nothing where the facts alone
+        are to blame, so that no limit helps. In a process of its own: the checks of `blame` for each set.
+
+        If no single number of `ways_out` would do, more than one set stands here.
+        """
+        found: list[tuple[int, ...]] = []
+        with self.copied() as (child, _):
+            while child.verdict().can is Can.NO:
+                blamed = child.ask("blame")
+                if not isinstance(blamed, Blame) or not blamed.ids or len(found) == SETS:
+                    return ()
+                found.append(blamed.ids)
+                for number in blamed.ids:
+                    child.ask(line_of(Change(number, None)))
+        return tuple(found)
+
     def ways_out(self, *, seconds: float = 60.0) -> tuple[WayOut, ...]:
         """After a "no", for each blamed limit, the deadline and each outcome that is awaited later than now, the
         number that would do if all else stays. In a process of its own: up to 22 checks for each, beside `blame`.
 
-        After `seconds` no further number is looked for, and what was not looked for is not in the answer.
+        After `seconds` no further number is looked for, and what was not looked for is not in the answer. If `would_do`
+        is None of all, no single one does: `blamed_sets` says what has to give way together.
         """
         until, found = time.monotonic() + seconds, list[WayOut]()
         with self.copied() as (child, state):
@@ -285,7 +337,8 @@ class Follower:
 
     def start_over(self) -> None:
         self.release()
-        self.version, self.head, self.entries, self.keys, self.last = 0, None, [], {}, None
+        self.version, self.head, self.entries, self.last = 0, None, [], None
+        self.keys, self.corrections = {}, {}
 
     def read_on(self) -> None:
         """Reads what others have kept since. Raises `Changed` where the journal is of another plan."""
@@ -317,6 +370,8 @@ class Follower:
         self.entries.append(entry)
         if isinstance(entry, Told):
             self.keys[str(entry.event.key)] = entry
+        elif entry.key is not None:
+            self.corrections[entry.key] = entry
 
     def append(self, entry: Told | Forgotten) -> None:
         """Keeps an entry, and before the first one to what the journal belongs. Raises `Moved`, `NotKept`."""
@@ -422,16 +477,16 @@ class Follower:
         """A moment as a tick."""
         if isinstance(at, datetime):
             if self.clock is None:
-                raise TypeError("a moment of the wall clock needs a Clock")
+                raise WrongType("a moment of the wall clock needs a Clock")
             at = self.clock.tick_of(at)
-        if isinstance(at, float):
-            raise Refused("line", f"a moment is a whole tick: {at}")
         if at < 0:
             raise OutOfRange("clock", f"{at} is before the plan's start")
         return at
 
     def placed(self, event: Event) -> Event:
         """The event with its moment as a tick, and a key. Raises `OutOfRange` for what the clock excludes."""
+        if not is_event(event):
+            raise WrongType(NO_EVENT.format(event))
         if not isinstance(event, Add | Change):
             at = self.tick(event.at)
             if isinstance(event, Did | Saw | Now) and self.clock is not None and self.ahead is not None:
@@ -442,8 +497,8 @@ class Follower:
             raise Refused("line", f"no sentence: {event.says!r}")
         if event.key is None:
             return with_key(event, f"#{max(self.version, 1) + 1}")
-        if not event.key or event.key.startswith("#") or not is_text(event.key):
-            raise Refused("key", f"a key is a text that is not empty and does not begin with #: {event.key!r}")
+        if not is_key(event.key):
+            raise Refused("key", NO_KEY.format(event.key))
         return event
 
     def tell_once(self, event: Event, wait: bool, expect: int | None) -> Receipt:
@@ -456,13 +511,14 @@ class Follower:
             return self.receipt(key, before)
 
     def told(self, key: str, event: Event, wait: bool) -> dict[str, Standing] | None:
-        """Tells an event and keeps it: what had become of each other event before, or nothing where it was told."""
+        """Tells an event and keeps it: what had become of each other event before, or nothing where it was told. Of one
+        that was told under another key, its sender's key is kept."""
         if (known := self.keys.get(key)) is not None:
             if known.event != event:
                 raise Contradicts("key", f"another event was told with the key {key!r}", with_key=key)
             return None
         telling = self.asked(lambda session: first_told(session, event, wait))
-        if telling.standing is Standing.KNOWN:
+        if telling.standing is Standing.KNOWN and not is_key(key):
             return None
         teller = self.session
         assert teller is not None
@@ -474,7 +530,7 @@ class Follower:
             teller.covers += 1
         except (OutOfTime, Unavailable):
             self.release()
-        return before
+        return None if telling.standing is Standing.KNOWN else before
 
     def receipt(self, key: str, before: dict[str, Standing] | None) -> Receipt:
         """What became of an event, and of those that had waited or held before it. A verdict that is not had in time is
@@ -520,6 +576,11 @@ def added_by(telling: Telling | None) -> int | None:
     if telling is not None and isinstance(telling.event, Add) and telling.standing is Standing.TAKEN:
         return int(telling.answer.split(" ")[1])
     return None
+
+
+def is_key(value: str) -> bool:
+    """Whether a key may be a sender's."""
+    return bool(value) and not value.startswith("#") and is_text(value)
 
 
 def is_text(value: str) -> bool:

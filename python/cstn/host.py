@@ -7,7 +7,7 @@ from collections import OrderedDict
 from cstn import program as programs
 from cstn.answers import Next, Verdict
 from cstn.clock import Clock
-from cstn.errors import CstnError, Moved, NotKept
+from cstn.errors import CstnError, Moved, NotKept, WrongType
 from cstn.follower import MOST_GROWN, Follower
 from cstn.journal import Head, Store, holding, parsed
 from cstn.plan import Plan
@@ -33,7 +33,9 @@ class Host:
         return self.store.plans()
 
     def create(self, name: str, plan: Plan, clock: Clock | None = None) -> Follower:
-        """Begins a plan under a name. Raises `Moved` where the name has a journal already, `NotKept`."""
+        """Begins a plan under a name. Raises `Moved` where the name has a journal already, `NotKept`, `WrongType`."""
+        if not isinstance(name, str) or not isinstance(plan, Plan):
+            raise WrongType(f"a Plan is begun under a name, and not {plan!r} under {name!r}")
         journal, head = self.store.journal(name), Head.of(plan, clock)
         try:
             self.store.keep_document(plan.document)

@@ -126,15 +126,18 @@ class Told:
 
 @dataclass(frozen=True)
 class Forgotten:
-    """An entry: the event of a key was wrong, and is left out, or another one stands in its place."""
+    """An entry: the event of a key was wrong, and is left out, or another one stands in its place. `key` is the
+    correction's own, if its sender gave it one."""
 
     forget: str
     instead: Event | None
     when: str
+    key: str | None = None
 
     def text(self) -> str:
         data = None if self.instead is None else to_data(self.instead)
-        return dumped({"forget": self.forget, "instead": data, "when": self.when})
+        own = {} if self.key is None else {"key": self.key}
+        return dumped({"forget": self.forget, "instead": data, "when": self.when, **own})
 
 
 Entry = Head | Told | Forgotten
@@ -154,7 +157,8 @@ def parsed(version: int, text: str) -> Entry:
             return Told(from_data(data["tell"]), data["answer"], data["when"])
         if "forget" in data:
             instead = data["instead"]
-            return Forgotten(data["forget"], None if instead is None else from_data(instead), data["when"])
+            event = None if instead is None else from_data(instead)
+            return Forgotten(data["forget"], event, data["when"], data.get("key"))
     except (ValueError, KeyError, TypeError, AttributeError) as error:
         raise Changed(f"entry {version} of the journal is none: {text[:200]!r}") from error
     raise Changed(f"entry {version} of the journal is none that this package reads: {text[:200]!r}")

@@ -63,12 +63,14 @@ class Outlook:
 @dataclass(frozen=True)
 class WayOut:
     """One thing that would make a "no" a "yes" by itself: a limit (or the deadline, or an awaited outcome), its number
-    now, and the number that would do, or None where none does."""
+    now, and the number that would do, or None where none does. `added` says that the limit is none of the document:
+    an `Add` put it in, as for a part that comes late, so it may be a fact and not to be given up."""
 
     limit: Limit | None
     letter: str | None
     is_now: int
     would_do: int | None
+    added: bool = False
 
     @property
     def is_deadline(self) -> bool:

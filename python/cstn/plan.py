@@ -11,7 +11,7 @@ from typing import Self
 
 from cstn import program as programs
 from cstn.answers import Verdict
-from cstn.errors import Unavailable
+from cstn.errors import Unavailable, WrongType
 from cstn.names import Label, literals
 from cstn.said import Said, said
 from cstn.sentences import sentences
@@ -76,16 +76,19 @@ class Plan:
     program: str | None = None
 
     @classmethod
-    def read(cls, document: bytes, *, deadline: int | None = None, program: str | None = None) -> Self:
-        """Reads a document. Raises `BadDocument`, `NoProgram`, `Unavailable`."""
+    def read(cls, document: bytes | str, *, deadline: int | None = None, program: str | None = None) -> Self:
+        """Reads a document, from its bytes or its text. Raises `BadDocument`, `NoProgram`, `Unavailable`, and
+        `WrongType` for anything else: a file is read by `load`."""
+        document = in_bytes(document)
         _, text = programs.ask("save", document, programs.options(deadline, None), program=program)
         steps, limits, found = understood(text, document)
         return cls(document, deadline, steps, limits, found, hashlib.sha256(text.encode()).hexdigest(), program)
 
     @classmethod
-    def of_sentences(cls, text: bytes, *, deadline: int | None = None, program: str | None = None) -> Self:
+    def of_sentences(cls, text: bytes | str, *, deadline: int | None = None, program: str | None = None) -> Self:
         """Reads a plan in sentences: its document is the one that the program writes of it, with the line of each
-        limit and the word for each letter in comments. Raises `BadDocument`, `NoProgram`, `Unavailable`."""
+        limit and the word for each letter in comments. Raises what `read` does."""
+        text = in_bytes(text)
         _, document = programs.ask("plan", text, programs.options(deadline, None), program=program)
         beside = with_comments(document, said(text)).encode()
         return cls.read(beside if len(beside) <= MOST_BYTES else document.encode(), deadline=deadline, program=program)
@@ -136,6 +139,15 @@ class Plan:
                 found[letter] = None
                 left += self.observers[letter].label
         return tuple(found)
+
+
+def in_bytes(text: bytes | str) -> bytes:
+    """A text as it stands in a file. Raises `WrongType`."""
+    if isinstance(text, str):
+        return text.encode(errors="surrogateescape")
+    if not isinstance(text, bytes | bytearray | memoryview):
+        raise WrongType(f"a document is bytes or a text, and not {text!r}")
+    return bytes(text)
 
 
 def with_comments(document: str, found: Said) -> str:

@@ -12,6 +12,8 @@ from pathlib import Path
 
 from cstn.answers import Verdict, parse
 from cstn.errors import BadDocument, NoProgram, OutOfTime, Unavailable
+from cstn.explain.names import harmless
+from cstn.refused import why_refused
 
 LINES = "1"
 """The version of the program's lines that this package reads."""
@@ -19,6 +21,9 @@ FOLLOW = "follow 1"
 """The version of the lines of `follow`, as a session writes it first."""
 CAP, MOST_CAP = 65536, 4194304
 """How many bounds a check may derive: by default, and at most."""
+MOST_EXPLAINED = 1_000_000
+"""How many bytes a document may have whose refusal is put into words."""
+MEANS = "which means: "
 SECONDS = 10.0
 """How long a question may take by default."""
 
@@ -119,13 +124,27 @@ def check(document: bytes, deadline: int | None = None, cap: int = CAP, *, secon
 
 
 def refused_document(text: str, document: bytes) -> BadDocument:
-    """What the program's line `document ..` or `plan ..` says, with the place as line and column, or as line."""
+    """What the program's line `document ..` or `plan ..` says, with the place as line and column, or as line; and why,
+    in words."""
     words = text.split(" ")
-    if words[:2] == ["plan", "line"] and len(words) > 3:
-        return BadDocument(words[3], text, int(words[2]))
+    if words[0] == "plan":
+        line, code = (int(words[2]), words[3]) if words[1] == "line" else (None, words[1])
+        why, shown = why_refused(document, text)
+        return BadDocument(code, text, line, None, why, tuple(shown))
     code = words[1] if len(words) > 1 else "?"
+    why, shown = why_no_document(document, text)
     if len(words) == 4 and words[2] == "at" and words[3].isdigit():
         before = document[:int(words[3])]
         column = len(before) - (before.rfind(b"\n") + 1) + 1
-        return BadDocument(code, text, before.count(b"\n") + 1, column)
-    return BadDocument(code, text)
+        return BadDocument(code, text, before.count(b"\n") + 1, column, why, tuple(shown))
+    return BadDocument(code, text, None, None, why, tuple(shown))
+
+
+def why_no_document(document: bytes, answer: str) -> tuple[str, list[str]]:
+    """Why the program refuses a document, as `explain` says it: in words, and lines to look at; nothing of a large
+    one."""
+    from cstn.explain.documents import Reader
+    from cstn.explain.refusals import tell_refused
+    told = tell_refused(answer, Reader(document)) if len(document) <= MOST_EXPLAINED else []
+    means = [it for it in told if it.startswith(MEANS)][:1]
+    return "".join(means).removeprefix(MEANS), [harmless(it) for it in told if it not in means]

@@ -29,12 +29,12 @@ def nearest(good: int, bad: int, does: Callable[[int], bool]) -> int:
 
 def ways_out(child: Child, state: State) -> Iterator[WayOut]:
     """For each blamed limit, the deadline and each awaited outcome the number that would do, if all else stays."""
-    blamed = child.ask("blame")
+    blamed, own = child.ask("blame"), {limit.id for limit in state.plan.limits}
     for number in blamed.ids if isinstance(blamed, Blame) else ():
         limit = state.limits[number]
         would_do = least(child, limit.most, f"change {number} {{}}")
         child.ask(line_of(Change(number, limit.most)))
-        yield WayOut(limit, None, limit.most, would_do)
+        yield WayOut(limit, None, limit.most, would_do, number not in own)
     would_do = least(child, state.deadline, "deadline {}")
     child.ask(line_of(Deadline(state.deadline)))
     yield WayOut(None, None, state.deadline, would_do)

@@ -11,6 +11,7 @@ from cstn.child import Child
 from cstn.errors import Changed, Contradicts, NotYet, Refused, WaitsFor
 from cstn.events import Add, Did, Event, Now, Saw, line_of, with_key
 from cstn.journal import Forgotten, Told
+from cstn.order import levels
 from cstn.plan import Plan
 from cstn.refusals import unsayable, why
 from cstn.state import State
@@ -143,10 +144,15 @@ class Session:
                     telling.standing, telling.waits_for, telling.why = Standing.FELL, WaitsFor(), error.says
 
     def next(self) -> Answer:
-        """What is next. A step may be named `wait`: where the letters behind that are not awaited, these are steps."""
+        """What is next; steps that wait for others of the same moment stand behind these. A step may be named `wait`:
+        where the letters behind that are not awaited, these are steps."""
         answer = self.child.ask("next")
         if isinstance(answer, Next) and answer.wait and not self.state.awaited().keys() >= set(answer.wait):
-            return Next(answer.at, (*answer.do, "wait", "".join(answer.wait)))
+            answer = Next(answer.at, (*answer.do, "wait", "".join(answer.wait)))
+        if isinstance(answer, Next) and len(answer.do) > 1:
+            waits = ((it.source, it.target) for it in self.state.limits.values() if it.most <= 0)
+            level = levels(answer.do, waits)
+            return replace(answer, do=tuple(sorted(answer.do, key=level.__getitem__)))
         return answer
 
     def standings(self) -> dict[str, Standing]:

@@ -57,6 +57,11 @@ class Range:
     def says(self) -> str:
         return f"{self.at_most.source} to {self.at_most.target}"
 
+    @property
+    def is_task(self) -> bool:
+        """Whether it is the length of a task of a plan in sentences."""
+        return self.at_least.says.startswith("task ")
+
 
 def ranges(plan: Plan) -> list[Range]:
     """The lengths that a plan chooses: "at least" and "at most" between the same steps with the same label."""
@@ -79,8 +84,9 @@ def at_longest(it: Range) -> list[Limit]:
 
 def variants(plan: Plan, *, deadlines: Sequence[int] = (), one_by_one: bool = True,
              site: str = "") -> Iterator[Variant]:
-    """A plan as it stands, with all its lengths at their shortest, all at their longest, and each of them alone; all of
-    it by each deadline. `site` stands before each name, where plans of several sites are checked together."""
+    """A plan as it stands, with all its lengths at their shortest, all at their longest, those of its tasks alone at
+    their longest (where other ranges would stretch too), and each length alone; all of it by each deadline. `site`
+    stands before each name, where plans of several sites are checked together."""
     changes = list(changes_of_lengths(plan, one_by_one))
     for deadline in deadlines or [plan.deadline]:
         for name, limits in changes:
@@ -95,6 +101,9 @@ def changes_of_lengths(plan: Plan, one_by_one: bool) -> Iterator[tuple[str, list
     if found:
         yield "all at their shortest", [it for one in found for it in at_shortest(one)]
         yield "all at their longest", [it for one in found for it in at_longest(one)]
+        tasks = [it for one in found if one.is_task for it in at_longest(one)]
+        if 0 < len(tasks) < len(found):
+            yield "tasks at their longest", tasks
     for one in found if one_by_one and len(found) > 1 else []:
         yield f"{one.says} at its shortest, {-one.at_least.most}", at_shortest(one)
         yield f"{one.says} at its longest, {one.at_most.most}", at_longest(one)

@@ -65,6 +65,7 @@ SAID = [
     (Limit(0, "Sample", "Z", -10, {"i": False, "s": True}), "Sample at 10 or later, if not i and s"),
 ]
 
+LONG = ("ways_out", "blame", "blamed_sets", "by", "late")
 
 class Boards(unittest.TestCase):
     def setUp(self) -> None:
@@ -148,6 +149,17 @@ class Boards(unittest.TestCase):
         self.assertEqual(board.page(plan, {})["steps"][1]["at"], 7)
         self.assertRaises(Moved, board.correct, plan, seen | {"instead": None})
 
+    def test_a_fact_of_two_browsers_counts_once(self) -> None:
+        board = self.board()
+        plan = next(iter(board.titles()))
+        for key in ("browser1", "browser2", "browser2"):
+            board.tell(plan, {"kind": "did", "step": 1, "at": 5, "key": key})
+        page = board.page(plan, {})
+        self.assertEqual([it["standing"] for it in page["history"]], ["taken", "known"])
+        for key in ("browser1", "browser2"):
+            board.correct(plan, {"version": board.page(plan, {})["version"], "of": key, "instead": None})
+        self.assertEqual((board.page(plan, {})["history"], board.page(plan, {})["steps"][1]["state"]), ([], "open"))
+
     def test_clocks(self) -> None:
         begun = datetime.now(timezone.utc) - timedelta(seconds=601)
         board = self.board(Timing(60, begun, by_hand=False))
@@ -163,7 +175,7 @@ class Boards(unittest.TestCase):
         plan = next(iter(board.titles()))
         for at, event in enumerate(({"kind": "did", "step": 1, "at": 5}, {"kind": "await", "letter": "i", "at": 120})):
             board.tell(plan, event | {"key": f"abcdefg{at}"})
-        too_long = {name: mock.Mock(side_effect=OutOfTime("too long")) for name in ("ways_out", "blame", "by", "late")}
+        too_long = {name: mock.Mock(side_effect=OutOfTime("too long")) for name in LONG}
         with mock.patch.multiple(Follower, **too_long):
             page = board.page(plan, {})
         self.assertEqual((page["verdict"], page["blame"], page["next"], len(page["history"])), ("no", None, None, 2))

@@ -28,7 +28,8 @@ def called(run: Callable[[list[str]], int], case: Case) -> tuple[int, str]:
     """How the call of a case ends, and what it writes."""
     with tempfile.TemporaryDirectory() as folder, given(case) as live:
         words, out = placed(case, folder), io.TextIOWrapper(io.BytesIO(), encoding="utf-8", write_through=True)
-        with contextlib.redirect_stdout(out), contextlib.redirect_stderr(out), \
+        with open(live, encoding="utf-8", errors="surrogateescape") as typed, mock.patch("sys.stdin", typed), \
+                contextlib.redirect_stdout(out), contextlib.redirect_stderr(out), \
                 mock.patch.dict(os.environ, {"CSTN": find()}), mock.patch("os.dup2"):
             status = run([live if it == "-" else it for it in words])
         text = out.buffer.getvalue().decode() if isinstance(out.buffer, io.BytesIO) else ""

@@ -1,12 +1,16 @@
 """Facts in any order and twice, refusals as types, corrections, what-if, and how far something has to give way."""
+import os
+import tempfile
 import unittest
+from collections.abc import Callable
 from datetime import datetime, timedelta, timezone
+from typing import Any
 
-from cstn import (Add, Can, Change, Changed, Clock, Contradicts, Deadline, Did, Done, Event, Expect, Follower, Late,
-                  MemoryJournal, Moved, Next, NotYet, Now, OutOfRange, Plan, Refused, Saw, Seen, TooMany, Unknown,
-                  WaitsFor)
+from cstn import (Add, Can, Change, Changed, Clock, Contradicts, Deadline, Did, Done, Event, Expect, Follower, Host,
+                  Late, MemoryJournal, Moved, Next, NotYet, Now, OutOfRange, Plan, Receipt, Refused, Saw, Seen,
+                  SqliteStore, Standing, TooMany, Unknown, WaitsFor, WrongType)
 from cstn.answers import Refusal
-from cstn.events import from_data
+from cstn.events import KINDS, from_data
 from cstn.names import printed
 from cstn.session import Limits, Session
 from tests.support import CLINIC, EMERGENCY, answers, answers_to, drawn
@@ -37,11 +41,35 @@ REFUSED: list[tuple[Event, type[Refused], str]] = [
     (Deadline(1000001), Refused, "line"),
     (Did("Review", 90, "#9"), Refused, "key"),
     (Did("Review", 90, ""), Refused, "key"),
-    (Did("Review", 90.5), Refused, "line"),  # type: ignore[arg-type]
     (Saw("infection", True, 5), Refused, "line"),
     (Did("Review", 90, "\udc80"), Refused, "key"),
     (Add("Z", "Sample", 9, {}, "\udc80"), Refused, "line"),
     (Did("Review", 90, "sample"), Contradicts, "key"),
+]
+MOMENT = "a moment is a whole tick or a datetime, and not "
+WRONG: list[tuple[dict[str, Any], str]] = [
+    ({"is": "did", "step": 5, "at": 3}, "a step is named by a text, and not 5"),
+    ({"is": "did", "step": None, "at": 3}, "a step is named by a text, and not None"),
+    ({"is": "did", "step": b"Sample", "at": 3}, "a step is named by a text, and not b'Sample'"),
+    ({"is": "did", "step": "Sample", "at": "5"}, MOMENT + "'5'"),
+    ({"is": "did", "step": "Sample", "at": 5.0}, MOMENT + "5.0"),
+    ({"is": "did", "step": "Sample", "at": None}, MOMENT + "None"),
+    ({"is": "did", "step": "Sample", "at": True}, MOMENT + "True"),
+    ({"is": "did", "step": "Sample", "at": 5, "key": 7}, "a key is a text, and not 7"),
+    *(({"is": "saw", "letter": "i", "value": value, "at": 80}, f"an outcome is True or False, and not {value!r}")
+      for value in ("false", "", None, 0, 1)),
+    ({"is": "saw", "letter": 5, "value": True, "at": 80}, "a letter is a text, and not 5"),
+    ({"is": "expect", "letter": "i", "at": []}, MOMENT + "[]"),
+    ({"is": "now", "at": "now"}, MOMENT + "'now'"),
+    ({"is": "deadline", "at": 1.5}, MOMENT + "1.5"),
+    ({"is": "change", "id": "2", "most": 5}, "the id of a limit is a whole number, and not '2'"),
+    ({"is": "change", "id": 2, "most": "5"}, "the value of a limit is a whole number, and not '5'"),
+    ({"is": "add", "source": "Z", "target": "Sample", "most": None}, "a limit that is added has a value"),
+    ({"is": "add", "source": "Z", "target": "Sample", "most": 5, "label": "i"},
+     "a label has True or False for each letter, and not 'i'"),
+    ({"is": "add", "source": "Z", "target": "Sample", "most": 5, "label": {"i": 1}},
+     "a label has True or False for each letter, and not {'i': 1}"),
+    ({"is": "add", "source": "Z", "target": "Sample", "most": 5, "says": 5}, "a sentence is a text, and not 5"),
 ]
 
 
@@ -102,7 +130,21 @@ class Followers(unittest.TestCase):
         follower.saw("i", True, 45)
         self.assertTrue(follower.saw("i", True, 45).again)
         self.assertTrue(follower.tell(Expect("i", 50)).again)
-        self.assertEqual((follower.version, len(follower.outlook().limits)), (5, 9))
+        self.assertEqual((follower.version, len(follower.outlook().limits)), (6, 9))
+
+    def test_each_sender_s_key_is_kept(self) -> None:
+        follower = self.follower()
+        follower.did("Sample", 5, "ward 3")
+        again = follower.did("Sample", 5, "lab 7")
+        self.assertEqual((again.again, again.key, again.version), (True, "lab 7", 3))
+        self.assertRaises(Contradicts, follower.did, "Sample", 6, "lab 7")
+        self.assertEqual([(it.event.key, it.standing) for it in follower.history()],
+                         [("ward 3", Standing.TAKEN), ("lab 7", Standing.KNOWN)])
+        self.assertEqual(follower.correct("ward 3", Did("Sample", 6)).fallen, ("lab 7",))
+        self.assertEqual(follower.correct("lab 7").fallen, ())
+        self.assertEqual((follower.outlook().done["Sample"], follower.outlook().fallen), (6, ()))
+        follower.release()
+        self.assertEqual(follower.outlook().done["Sample"], 6)
 
     def test_what_is_refused_changes_nothing(self) -> None:
         follower = self.follower()
@@ -138,7 +180,6 @@ class Followers(unittest.TestCase):
         events: list[tuple[Event, str]] = [
             (Saw("infection", True, 5), "a letter is one of A to Z, a to z: 'infection'"),
             (Expect("ä", 5), "a letter is one of A to Z, a to z: 'ä'"),
-            (Now(1.5), "a moment is a whole tick: 1.5"),  # type: ignore[arg-type]
             (Did("Sample", 5, ""), "a key is a text that is not empty and does not begin with #: ''")]
         for event, says in events:
             with self.assertRaises(Refused) as caught:
@@ -189,6 +230,24 @@ class Followers(unittest.TestCase):
         follower.tell(Deadline(50))
         self.assertEqual(follower.verdict().can, Can.NO)
 
+    def test_more_than_one_thing_has_to_give_way(self) -> None:
+        follower = self.follower()
+        self.assertEqual(follower.blamed_sets(), ())
+        follower.tell_all([Did("Sample", 20), Saw("i", True, 45), Did("Antibiotic", 112), Did("Review", 240)])
+        self.assertEqual([way.would_do for way in follower.ways_out()], [None, None])
+        self.assertEqual(follower.blamed_sets(), ((2,), (0,)))
+        for number in (0, 2):
+            follower.tell(Change(number, None))
+        self.assertEqual(follower.verdict().can, Can.YES)
+        follower.tell(Deadline(100))
+        self.assertEqual(follower.blamed_sets(), ())
+
+    def test_a_part_that_comes_late(self) -> None:
+        follower = self.follower()
+        follower.tell_all([Did("Sample", 5), Saw("i", True, 45), Add("Antibiotic", "Z", -120)])
+        ways = [(way.limit.id if way.limit else None, way.added, way.would_do) for way in follower.ways_out()]
+        self.assertEqual(ways, [(2, False, 115), (8, True, -95), (None, False, None)])
+
     def test_a_deadline_that_would_do(self) -> None:
         follower = self.follower(Plan.read(CLINIC.document, deadline=190))
         follower.tell(Change(7, None))
@@ -212,6 +271,13 @@ class Followers(unittest.TestCase):
         self.assertEqual(follower.next(), Next(0, ("A", "wait", "i")))
         follower.tell_all([Did("wait", 0), Did("i", 0), Did("A", 0)])
         self.assertEqual(follower.next(), Next(1, (), ("i",)))
+
+    def test_steps_of_one_moment_stand_in_their_order(self) -> None:
+        follower = self.follower(Plan.of_sentences(
+            "deadline 9\nstep Last\nstep Log\nstep First\nstep A\nstep B\nLast after Log\nLog after First\nA with B\n"))
+        self.assertEqual(follower.next(), Next(0, ("First", "A", "B", "Log", "Last")))
+        follower.did("First", 0)
+        self.assertEqual(follower.next(), Next(0, ("Log", "A", "B", "Last")))
 
     def test_the_lines_that_bring_it_back(self) -> None:
         follower = self.follower()
@@ -238,11 +304,40 @@ class Followers(unittest.TestCase):
         self.assertEqual(again.clock, follower.clock)
         self.assertRaises(TypeError, self.follower().did, "Sample", origin)
 
-    def test_outcomes_of_another_type(self) -> None:
-        for value in ("false", "", None, 0, 1):
-            with self.subTest(value=value):
-                self.assertRaises(TypeError, Saw, "i", value, 80)
-                self.assertRaises(ValueError, from_data, {"is": "saw", "letter": "i", "value": value, "at": 80})
+    def test_events_of_other_types(self) -> None:
+        for data, says in WRONG:
+            with self.subTest(data=data):
+                kind, values = KINDS[str(data["is"])], {name: it for name, it in data.items() if name != "is"}
+                with self.assertRaises(WrongType) as caught:
+                    kind(**values)
+                self.assertEqual((str(caught.exception), caught.exception.code), (says, "type"))
+                self.assertRaises(ValueError, from_data, data)
+
+    def test_calls_with_other_types(self) -> None:
+        follower = self.follower()
+        follower.did("Sample", 5, "s")
+        wrong: Any = follower
+        calls: list[Callable[[], object]] = [
+            lambda: wrong.tell("did 5 Sample"), lambda: wrong.tell(None), lambda: wrong.did(None, 5),
+            lambda: wrong.did("Sample", "5"), lambda: wrong.by(5), lambda: wrong.by(None),
+            lambda: wrong.correct("s", "did 6 Sample"), lambda: wrong.correct("s", 6, own_key="c")]
+        read: list[Callable[[Any], object]] = [Plan.read, Plan.of_sentences]
+        maker: Any = Follower
+        clock: Any = Clock
+        folder = tempfile.TemporaryDirectory()
+        self.addCleanup(folder.cleanup)
+        host: Any = Host(SqliteStore(os.path.join(folder.name, "ward.db")))
+        self.addCleanup(host.close)
+        calls += [lambda: maker("examples/x.graphml", MemoryJournal()), lambda: maker(CLINIC.document, MemoryJournal()),
+                  lambda: clock("22:00"), lambda: clock(datetime(2026, 11, 30)), lambda: host.create("ward", "x"),
+                  lambda: clock(datetime.now(timezone.utc), 60), lambda: host.create(5, CLINIC)]
+        for call in calls:
+            self.assertRaises(WrongType, call)
+        for one in read:
+            for document in (None, 5, CLINIC, [b"<graphml/>"]):
+                self.assertRaises(WrongType, one, document)
+        self.assertEqual([type(it) for it in wrong.tell_all(["did 5 Sample", Now(9)])], [WrongType, Receipt])
+        self.assertEqual(follower.version, 3)
 
 
 class Corrections(unittest.TestCase):
@@ -283,10 +378,28 @@ class Corrections(unittest.TestCase):
         before = self.follower.outlook()
         for key, instead, error in (("x", None, Unknown), ("", None, Unknown), ("l", None, Refused),
                                     ("a", Add("Z", "Review", 9), Refused),
-                                    ("a", Did("Nobody", 9), Refused), ("a", Did("Sample", 70), Refused)):
+                                    ("a", Did("Nobody", 9), Refused), ("a", Did("Sample", 70), Refused),
+                                    ("a", Deadline(300), Refused), ("r", Did("Review", 90), Refused),
+                                    ("s", Now(9), Refused)):
             with self.subTest(key=key, instead=instead):
                 self.assertRaises(error, self.follower.correct, key, instead)
                 self.assertEqual(self.follower.outlook(), before)
+
+    def test_told_twice(self) -> None:
+        self.follower.correct("s", Did("Sample", 7), own_key="c1")
+        self.follower.correct("s", Did("Sample", 9), own_key="c2")
+        again = self.follower.correct("s", Did("Sample", 7), own_key="c1", expect=1)
+        self.assertEqual((again.again, again.version, self.follower.outlook().done["Sample"]), (True, 7, 9))
+        for key, instead in (("s", Did("Sample", 8)), ("s", None), ("a", Did("Antibiotic", 70))):
+            with self.assertRaises(Contradicts) as caught:
+                self.follower.correct(key, instead, own_key="c1")
+            self.assertEqual((caught.exception.code, caught.exception.with_key), ("key", "c1"))
+        for own_key in ("", "#3", "\udc80"):
+            self.assertRaises(Refused, self.follower.correct, "s", None, own_key=own_key)
+        self.same_when_told_anew()
+        again_read = Follower(CLINIC, self.follower.journal)
+        self.addCleanup(again_read.close)
+        self.assertTrue(again_read.correct("s", Did("Sample", 9), own_key="c2").again)
 
     def test_of_a_fact_that_waits(self) -> None:
         follower = Follower(CLINIC, MemoryJournal())

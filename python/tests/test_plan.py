@@ -8,6 +8,9 @@ from cstn import BadDocument, Can, NoProgram, OutOfTime, Plan, Unavailable, prog
 from tests.support import CLINIC, EMERGENCY, EXAMPLES, Folder, reads_plans
 
 HOSTILE = '<script>alert("1")</script>&\'%20 ¬\u2028'
+BAD_SENTENCE = """plan line 2 word 3: here may stand observes, if, or nothing more; a name with a space stands in quotes
+  step Log book # a
+           ^^^^"""
 NAMES = [HOSTILE, "\u0007\u001b[31m".replace("\u0007", "é"), "".join(map(chr, range(33, 97)))]
 
 
@@ -52,8 +55,15 @@ class Documents(Folder):
                                                                  'P after "a - -> b" and Z and Z and Z and Z if p'])
         self.assertEqual((again.words, CLINIC.words, again.digest), ({"n": "not-so"}, {}, odd.digest))
         self.assertEqual(Plan.load(EXAMPLES / "clinical-pathway.plan").words, {"i": "infection"})
-        with self.assertRaisesRegex(BadDocument, r"^plan line 2 word 3$"):
-            Plan.of_sentences(b"deadline 9\nstep Log book\n")
+        with self.assertRaises(BadDocument) as caught:
+            Plan.of_sentences("deadline 9\nstep Log book # a\n")
+        self.assertEqual(str(caught.exception), BAD_SENTENCE)
+        self.assertEqual((caught.exception.code, caught.exception.line), ("word", 2))
+
+    def test_a_text_is_read_as_its_bytes(self) -> None:
+        self.assertEqual(Plan.read(CLINIC.document.decode()), CLINIC)
+        self.assertRaises(BadDocument, Plan.read, "examples/clinical-pathway.graphml")
+        self.assertRaises(BadDocument, Plan.read, "\udcff")
 
     def test_sentences_are_those_above_the_edges(self) -> None:
         self.assertEqual(CLINIC.limits[0].says, "The sample is taken within 15 minutes.")
@@ -64,6 +74,9 @@ class Documents(Folder):
         with self.assertRaises(BadDocument) as caught:
             Plan.read(CLINIC.document[:900])
         self.assertEqual((caught.exception.code, caught.exception.says), ("X2", "document X2 at 900"))
+        self.assertEqual(caught.exception.why, "a tag, a text, or an attribute is not of its form or not allowed "
+                         "there, is missing, or comes twice")
+        self.assertIn("not closed before that", str(caught.exception))
         self.assertEqual(caught.exception.line, CLINIC.document[:900].count(b"\n") + 1)
         with self.assertRaises(BadDocument) as caught:
             Plan.load(EXAMPLES / "insurance-claim.graphml")

@@ -11,7 +11,7 @@ from unittest import mock
 
 from cstn import BadDocument, Can, OutOfTime, Plan
 from cstn.sweep import Bar, Outcome, Variant, ranges, sweep, variants
-from tests.support import CLINIC, EMERGENCY, EXAMPLES, TOP, Folder
+from tests.support import CLINIC, EMERGENCY, EXAMPLES, TOP, Folder, reads_plans
 
 try:
     distributed: Any = importlib.import_module("distributed")
@@ -49,6 +49,15 @@ class Sweeps(Folder):
             self.assertEqual(len(client.scheduler_info()["workers"]), 2)
             with client.get_executor() as executor:
                 self.swept(executor)
+
+    @unittest.skipUnless(reads_plans(), "the program reads no plans in sentences")
+    def test_lengths_of_tasks(self) -> None:
+        plan = Plan.of_sentences("deadline 90\ntask Dig 10..25\ntask Fill 5\nstep Look\nLook 2..9 after end of Dig\n")
+        found = {it.name: Plan.read(it.document) for it in variants(plan, one_by_one=False)}
+        self.assertEqual(list(found), ["as planned", "all at their shortest", "all at their longest",
+                                       "tasks at their longest"])
+        self.assertEqual([it.most for it in found["tasks at their longest"].limits if it.most < 0], [-25, -5, -2])
+        self.assertEqual([it.most for it in found["all at their longest"].limits if it.most < 0], [-25, -5, -9])
 
     def test_lengths(self) -> None:
         plan = Plan.load(EXAMPLES / "mission.graphml")

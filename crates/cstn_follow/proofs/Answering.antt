@@ -1,12 +1,12 @@
 -- What a session says ends a line, and its names stay.
-use Rattle.std.proofs.Common.{ℕ, zero, suc, ◌≡◌, inl, inr, ◌<◌, Bool, true, false, List, [], ◌∷◌, ◌++◌, Option, Some, None, length, map, arith, refl, sym}
+use Rattle.std.proofs.Common.{ℕ, zero, suc, ◌≡◌, inl, inr, ◌+◌, ◌<◌, Bool, true, false, List, [], ◌∷◌, ◌++◌, Option, Some, None, length, map, arith, refl, sym}
 use Rattle.std.proofs.Common.{subst, ap, ◌∙◌}
 use Rattle.std.specs.Prelude.{◌⊎◌, Result, Ok, Err, IfOk, OnErr, ◌&&◌, not, nat_lt, slice_get, if◌then◌else◌, codes, decimal}
 use Rattle.std.specs.List.{filter, range_with_len}
 use Rattle.std.proofs.lemmas.List.{append_assoc, length-map}
 use Rattle.std.proofs.lemmas.Result.{IfOk-weaker}
 use Rattle.cstn_label.specs.Bounds.{Bound}
-use Rattle.cstn_net.specs.Limits.{most_constraints, most_deadline}
+use Rattle.cstn_net.specs.Limits.{most_constraints, most_deadline, most_edits}
 use Rattle.cstn_net.specs.Networks.{count}
 use Rattle.cstn_log.specs.Cuts.{part}
 use Rattle.cstn_lift.specs.Lowered.{lowered}
@@ -22,23 +22,26 @@ use Rattle.cstn_history.specs.Rest.{is_left, left, sight_left}
 use Rattle.cstn_next.specs.Next.{next_moment, named, awaited}
 use Rattle.cstn_text.specs.Names.{number_of}
 use Rattle.cstn_text.specs.PrintedNames.{printed_name}
-use Rattle.cstn_change.specs.Changes.{Change, removes, revalues, Refusal, refusal, after}
+use Rattle.cstn_change.specs.Changes.{Change, removes, revalues, Refusal, EditLimit, refusal, after}
 use Rattle.cstn_change.specs.ChangeLines.{accepted_text, refused_text, addition}
 use Rattle.cstn_lines.specs.EditLines.{Edit, added, removed, changed, asked}
 use Rattle.cstn_lines.specs.FollowLines.{Follow, done_at, came_at, now_at, awaited_at, edits, ends_by, asks_next, asks_by, asks_blame, asks_rest}
 use Rattle.cstn_reply.specs.Texts.{line}
 use Rattle.cstn_reply.specs.Written.{EndsLine}
-use Rattle.cstn_follow.specs.Following.{Following, Heard, says, saves, left_now, name_at, names_left, verdict_now, verdict_within, verdict_line}
+use Rattle.cstn_follow.specs.Following.{Following, Heard, says, saves, left_now, name_of_point, names_left, verdict_now, verdict_within, verdict_line}
 use Rattle.cstn_follow.specs.Following.{on_left_verdict}
 use Rattle.cstn_follow.specs.FactLines.{refused_fact, unknown_name, refuses, records, on_result, all_done, nodes_of, unknown_of, on_known, on_did, on_fact}
 use Rattle.cstn_follow.specs.PlanLines.{edited_network, replanned, on_refusal, on_edit, on_deadline}
 use Rattle.cstn_follow.specs.Replans.{with_due}
 use Rattle.cstn_follow.specs.Questions.{tells_verdict, next_text, next_at, next_after, check_after, on_rest}
-use Rattle.cstn_follow.specs.Searches.{has_place, until_text, by_refusal, by_after, by_unless, by_number, blame_line, blame_after, ids_text}
+use Rattle.cstn_follow.specs.Searches.{has_place_for_one, until_text, by_refusal, by_after, by_unless, by_number, blame_line, blame_after, ids_text}
 use Rattle.cstn_follow.specs.Waiting.{waits_until}
 use Rattle.cstn_follow.specs.Blame.{ids_to_blame}
-use Rattle.cstn_follow.specs.Asking.{Spoken, of_line, of_question}
-use Rattle.cstn_follow.specs.Hearing.{on_plan, on_other, on_follow, on_line, counted, hear}
+use Rattle.cstn_follow.specs.Amending.{Amendment, forgives}
+use Rattle.cstn_follow.specs.Asking.{Spoken, of_line, of_question, of_amendment}
+use Rattle.cstn_follow.specs.Forgiving.{broken_ids, after_removals}
+use Rattle.cstn_follow.specs.ForgivingLines.{forgiven_line}
+use Rattle.cstn_follow.specs.Hearing.{on_plan, on_other, on_follow, on_amendment, on_line, counted, hear}
 use Rattle.cstn_follow.proofs.Further.{ends, verdict_ends, answer_ends}
 use Rattle.cstn_follow.specs.declared.following.Heard.{Heard as HeardText}
 use Rattle.cstn_follow.specs.declared.following.Heard.TheVariants.{Text, Rest}
@@ -133,7 +136,7 @@ module _ (s : Following) where
   check_keeps Full = tells_keeps
 
   by_ends : (x : ℕ) (o : Option ℕ) → EndsLine (until_text s x o)
-  by_ends x (Some t) = ends (codes "by " ++ decimal t ++ 32 ∷ printed_name (name_at s.names x))
+  by_ends x (Some t) = ends (codes "by " ++ decimal t ++ 32 ∷ printed_name (name_of_point s.names x))
   by_ends x None = ends (codes "full " ++ decimal s.cap)
 
   by_keeps : (x : ℕ) (v : Verdict) → Keeps s.names (by_after s x v)
@@ -146,8 +149,8 @@ module _ (s : Following) where
   by_place x false = (refl, ends (codes "refused F8"))
 
   by_possible : (x : ℕ) (b : Bool) → Keeps s.names (by_unless s x (if not b then Some (line (refused_fact s.names (Undecided x)))
-      else if has_place (left_now s).base && has_place (lowered (left_now s)) then None else Some (line (codes "refused F8"))))
-  by_possible x true = by_place x (has_place (left_now s).base && has_place (lowered (left_now s)))
+      else if has_place_for_one (left_now s).base && has_place_for_one (lowered (left_now s)) then None else Some (line (codes "refused F8"))))
+  by_possible x true = by_place x (has_place_for_one (left_now s).base && has_place_for_one (lowered (left_now s)))
   by_possible x false = (refl, ends (refused_fact s.names (Undecided x)))
 
   by_refused : (x : ℕ) (o : Option ℕ) → Keeps s.names (by_unless s x (by_refusal s x o))
@@ -170,18 +173,18 @@ module _ (s : Following) where
   -- ---- what is left
 
   first_left : (n : ℕ) → 0 < n → n ≡ length s.names →
-      slice_get (map (name_at s.names) (filter (is_left s.network s.history) (range_with_len 0 n))) 0 ≡ slice_get s.names 0
+      slice_get (map (name_of_point s.names) (filter (is_left s.network s.history) (range_with_len 0 n))) 0 ≡ slice_get s.names 0
   first_left zero some long = absurd (omega arith)
   first_left (suc n) some long = first_of s.names (omega arith)
     where
-      first_of : (names : List (List ℕ)) → 0 < length names → Some (name_at names 0) ≡ slice_get names 0
+      first_of : (names : List (List ℕ)) → 0 < length names → Some (name_of_point names 0) ≡ slice_get names 0
       first_of [] none = absurd (omega arith)
       first_of (name ∷ names) more = refl
 
   rest_keeps : 0 < count s.network.base → length s.names ≡ count s.network.base → Keeps s.names (on_rest s)
   rest_keeps some long = (
     refl,
-    length-map (left s.network s.history) (name_at s.names) ∙ sym (length-map (left s.network s.history) (sight_left s.network s.history)),
+    length-map (left s.network s.history) (name_of_point s.names) ∙ sym (length-map (left s.network s.history) (sight_left s.network s.history)),
     first_left (count s.network.base) some (sym long),
   )
 
@@ -205,10 +208,21 @@ module _ (s : Following) where
   follow_keeps some long asks_blame = blame_keeps (verdict_now s)
   follow_keeps some long asks_rest = rest_keeps some long
 
-  line_keeps : 0 < count s.network.base → length s.names ≡ count s.network.base → (o : Option Spoken) → Keeps s.names (on_line s o)
+  forgive_keeps : (ids : List ℕ) (b : Bool) → Keeps s.names
+      (if b then says (line (refused_text EditLimit)) s else says (forgiven_line ids) (replanned s (after_removals (edited_network s) ids)))
+  forgive_keeps ids true = (refl, ends (refused_text EditLimit))
+  forgive_keeps ids false = (refl, ends (codes "forgiven" ++ ids_text ids))
+
+  amendment_keeps : (amendment : Amendment) → Keeps s.names (on_amendment s amendment)
+  amendment_keeps forgives =
+      let ids = broken_ids s.network s.history in
+      forgive_keeps ids (nat_lt most_edits (s.edits + length ids))
+
+  pub line_keeps : 0 < count s.network.base → length s.names ≡ count s.network.base → (o : Option Spoken) → Keeps s.names (on_line s o)
   line_keeps some long None = other_keeps
   line_keeps some long (Some (of_line line)) = follow_keeps some long line
   line_keeps some long (Some (of_question question)) = (refl, answer_ends s question)
+  line_keeps some long (Some (of_amendment amendment)) = amendment_keeps amendment
 
 -- the names stay, and what is said ends a line
 pub hear_keeps : (s : Following) → 0 < count s.network.base → length s.names ≡ count s.network.base → (o : Option Spoken) → Keeps s.names (hear s o)

@@ -16,22 +16,22 @@ use Rattle.cstn_check.specs.declared.verdicts.Verdict.TheVariants.{Yes, No, Full
 use Rattle.cstn_history.specs.Histories.{History}
 use Rattle.cstn_history.specs.Rest.{is_left, left, left_upto, sight_left}
 use Rattle.cstn_history.proofs.Lists.{passing_next}
-use Rattle.cstn_follow.specs.Following.{Following, says, left_now, name_at, names_left, verdict_now, verdict_line}
+use Rattle.cstn_follow.specs.Following.{Following, says, left_now, name_of_point, names_left, verdict_now, verdict_line}
 use Rattle.cstn_follow.specs.Blame.{ids_to_blame}
 use Rattle.cstn_follow.specs.Questions.{tells, tells_verdict, check_after, on_check}
 use Rattle.cstn_follow.specs.Searches.{blame_line, blame_after, on_blame}
 
 -- the name of the next time-point, where it is left
-pub names_turn : (m : Labelled) (h : History) (names old new : List (List ℕ)) (x : ℕ) (b : Bool) → old ≡ map (name_at names) (left_upto m h x)
-    → b ≡ is_left m h x → new ≡ old ++ (if b then name_at names x ∷ [] else []) → new ≡ map (name_at names) (left_upto m h (x + 1))
+pub names_turn : (m : Labelled) (h : History) (names old new : List (List ℕ)) (x : ℕ) (b : Bool) → old ≡ map (name_of_point names) (left_upto m h x)
+    → b ≡ is_left m h x → new ≡ old ++ (if b then name_of_point names x ∷ [] else []) → new ≡ map (name_of_point names) (left_upto m h (x + 1))
 names_turn m h names old new x b so_far test is =
     let next : x + 1 ≡ suc x = omega arith in
-    is ∙ ap (λ l. l ++ (if b then name_at names x ∷ [] else [])) so_far ∙ ap (λ l. map (name_at names) (left_upto m h x) ++ l) (one b)
-    ∙ sym (map-append (name_at names) (left_upto m h x) (if b then x ∷ [] else []))
-    ∙ ap (λ t. map (name_at names) (left_upto m h x ++ (if t then x ∷ [] else []))) test
-    ∙ ap (map (name_at names)) (sym (passing_next (is_left m h) x) ∙ ap (left_upto m h) (sym next))
+    is ∙ ap (λ l. l ++ (if b then name_of_point names x ∷ [] else [])) so_far ∙ ap (λ l. map (name_of_point names) (left_upto m h x) ++ l) (one b)
+    ∙ sym (map-append (name_of_point names) (left_upto m h x) (if b then x ∷ [] else []))
+    ∙ ap (λ t. map (name_of_point names) (left_upto m h x ++ (if t then x ∷ [] else []))) test
+    ∙ ap (map (name_of_point names)) (sym (passing_next (is_left m h) x) ∙ ap (left_upto m h) (sym next))
   where
-    one : (t : Bool) → (if t then name_at names x ∷ [] else []) ≡ map (name_at names) (if t then x ∷ [] else [])
+    one : (t : Bool) → (if t then name_of_point names x ∷ [] else []) ≡ map (name_of_point names) (if t then x ∷ [] else [])
     one true = refl
     one false = refl
 
@@ -49,7 +49,7 @@ names_few old new name x b few is =
 
 -- each time-point that is left has a name
 pub names_long : (s : Following) → length (names_left s) ≡ count (left_now s).base
-names_long s = length-map (left s.network s.history) (name_at s.names) ∙ sym (length-map (left s.network s.history) (sight_left s.network s.history))
+names_long s = length-map (left s.network s.history) (name_of_point s.names) ∙ sym (length-map (left s.network s.history) (sight_left s.network s.history))
 
 -- after a no the load is that of the network
 pub no_load : (cap load : ℕ) (net : Network) → verdict cap net ≡ No load → load ≡ load_of net

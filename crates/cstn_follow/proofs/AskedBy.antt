@@ -14,7 +14,7 @@ use Rattle.cstn_reply.specs.Texts.{line, full_line}
 use Rattle.cstn_follow.specs.Following.{Following, says, left_now, too_many, verdict_now, verdict_line}
 use Rattle.cstn_follow.specs.FactLines.{refused_fact}
 use Rattle.cstn_follow.specs.Questions.{tells_verdict}
-use Rattle.cstn_follow.specs.Searches.{has_place, by_refusal, by_line, until_text, by_after, by_unless, by_number, on_by}
+use Rattle.cstn_follow.specs.Searches.{has_place_for_one, by_refusal, by_line, until_text, by_after, by_unless, by_number, on_by}
 use Rattle.cstn_follow.specs.Waiting.{HasRoomToWait, waits_until}
 use Rattle.cstn_follow.specs.Answers.{ruled_out, wait_refusal}
 
@@ -26,7 +26,7 @@ refused_by m h x inside =
 
 module _ (s : Following) (x : ℕ) (inside : x < count s.network.base) (text : List ℕ) where
   abbrev room : Bool
-  room = has_place (left_now s).base && has_place (lowered (left_now s))
+  room = has_place_for_one (left_now s).base && has_place_for_one (lowered (left_now s))
 
   -- F4 and F5
   pub refusal_said : (e : FactRefusal) → wait_refusal s.network s.history x ≡ Some e → text ≡ line (refused_fact s.names e)
@@ -57,7 +57,7 @@ module _ (s : Following) (x : ℕ) (inside : x < count s.network.base) (text : L
 
   pub room_said : wait_refusal s.network s.history x ≡ None → HasRoomToWait s.network s.history s.fresh
       → by_unless s x (by_refusal s x (s.history.done x)) ≡ by_after s x (verdict_now s)
-  room_said free has = ap (by_unless s x) (by_room free ∙ with_room (has_place (left_now s).base) (has_place (lowered (left_now s))) (lt_true _ has.base) (lt_true _ has.lowered))
+  room_said free has = ap (by_unless s x) (by_room free ∙ with_room (has_place_for_one (left_now s).base) (has_place_for_one (lowered (left_now s))) (lt_true _ has.base) (lt_true _ has.lowered))
     where
       lt_true : (n : ℕ) → n < most_constraints → nat_lt n most_constraints ≡ true
       lt_true n few = grind arith
@@ -70,13 +70,13 @@ module _ (s : Following) (x : ℕ) (inside : x < count s.network.base) (text : L
   pub many_said : wait_refusal s.network s.history x ≡ None → (HasRoomToWait s.network s.history s.fresh → ⊥) → text ≡ too_many
       → by_unless s x (by_refusal s x (s.history.done x)) ≡ says text s
   many_said free none is =
-      ap (by_unless s x) (by_room free ∙ without_room (has_place (left_now s).base) (has_place (lowered (left_now s))) refl refl)
+      ap (by_unless s x) (by_room free ∙ without_room (has_place_for_one (left_now s).base) (has_place_for_one (lowered (left_now s))) refl refl)
       ∙ ap (λ t. says t s) (sym is)
     where
       true_lt : (n : ℕ) → nat_lt n most_constraints ≡ true → n < most_constraints
       true_lt n few = grind arith
 
-      without_room : (a b : Bool) → has_place (left_now s).base ≡ a → has_place (lowered (left_now s)) ≡ b → (if a && b then None else Some too_many) ≡ Some too_many
+      without_room : (a b : Bool) → has_place_for_one (left_now s).base ≡ a → has_place_for_one (lowered (left_now s)) ≡ b → (if a && b then None else Some too_many) ≡ Some too_many
       without_room true true p q = absurd (none (record { base = true_lt _ p; lowered = true_lt _ q }))
       without_room true false p q = refl
       without_room false b p q = refl

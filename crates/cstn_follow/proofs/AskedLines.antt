@@ -7,7 +7,7 @@ use Rattle.cstn_follow.specs.Following.{Following, left_now, verdict_now, too_ma
 use Rattle.cstn_follow.specs.Further.{line_now, each_after, each_answer}
 use Rattle.cstn_follow.specs.Pauses.{is_undone}
 use Rattle.cstn_follow.specs.Read.{FollowingParts, IsFollowing, the_following}
-use Rattle.cstn_follow.specs.Searches.{has_place, by_line}
+use Rattle.cstn_follow.specs.Searches.{has_place_for_one, by_line}
 use Rattle.cstn_follow.specs.Waiting.{waits_until}
 use Rattle.cstn_follow.proofs.Edited.{within_is}
 
@@ -23,6 +23,6 @@ line_is s x o undone found =
     ∙ ap (option_map (λ t. by_line s.names t x)) found
 
 -- the lines of all, by whether there is room for one constraint more
-pub each_is : (s : Following) (b : Bool) → (has_place (left_now s).base && has_place (lowered (left_now s))) ≡ b
+pub each_is : (s : Following) (b : Bool) → (has_place_for_one (left_now s).base && has_place_for_one (lowered (left_now s))) ≡ b
     → each_answer s ≡ (if b then each_after s.names s.network s.history s.fresh s.cap (verdict_now s) else too_many)
 each_is s b is = ap (λ r. if r then each_after s.names s.network s.history s.fresh s.cap (verdict_now s) else too_many) is

@@ -8,13 +8,22 @@ use Rattle.cstn_check.specs.declared.verdicts.Verdict.{Verdict}
 use Rattle.cstn_check.specs.declared.verdicts.Verdict.TheVariants.{Yes, No, Full}
 use Rattle.cstn_reply.specs.Texts.{line}
 use Rattle.cstn_reply.specs.Written.{EndsLine}
-use Rattle.cstn_follow.specs.Asking.{Asked, asks_verdict, asks_until, asks_each, asks_late}
+use Rattle.cstn_follow.specs.Asking.{FurtherQuestion, asks_verdict, asks_until, asks_each, asks_late, asks_raise, asks_least}
 use Rattle.cstn_follow.specs.FactLines.{refused_fact}
 use Rattle.cstn_follow.specs.Following.{Following, left_now, verdict_now, verdict_line, too_many}
-use Rattle.cstn_follow.specs.Further.{pause_text, lines_now, each_text, each_after, late_text, answer_to}
+use Rattle.cstn_follow.specs.Further.{pause_text, lines_now, each_text, each_after, late_text, raise_text, least_text, answer_to_question}
 use Rattle.cstn_follow.specs.Lateness.{Late, late_until, late_never, late_refused, late_unknown, late_of}
+use Rattle.cstn_follow.specs.LeastDeadline.{least_of}
 use Rattle.cstn_follow.specs.Pauses.{pause_of}
-use Rattle.cstn_follow.specs.Searches.{has_place}
+use Rattle.cstn_text.specs.Numbers.{printed_value}
+use Rattle.cstn_change.specs.Changes.{NoSuch}
+use Rattle.cstn_change.specs.ChangeLines.{refused_text}
+use Rattle.cstn_follow.specs.Raises.{raise_of}
+use Rattle.cstn_follow.specs.Searches.{has_place_for_one}
+use Rattle.cstn_follow.specs.declared.answers.LeastDeadline.{LeastDeadline}
+use Rattle.cstn_follow.specs.declared.answers.LeastDeadline.TheVariants.{At, Never, Unknown as IsUnknown}
+use Rattle.cstn_follow.specs.declared.answers.Raise.{Raise}
+use Rattle.cstn_follow.specs.declared.answers.Raise.TheVariants.{To, Never as IsVain, NoSuch as IsNoId, Possible as IsPossible, Unknown as IsUnfound}
 use Rattle.cstn_follow.specs.declared.answers.Pause.{Pause}
 use Rattle.cstn_follow.specs.declared.answers.Pause.TheVariants.{Until, Finished, TooManyConstraints, Impossible, Unknown}
 
@@ -39,6 +48,18 @@ late_ends names cap p late_never = ends (codes "late none " ++ letter_of p ∷ [
 late_ends names cap p (late_refused e) = ends (refused_fact names e)
 late_ends names cap p late_unknown = ends (codes "full " ++ decimal cap)
 
+raise_ends : (cap : ℕ) (v : Verdict) (id : ℕ) (r : Raise) → EndsLine (raise_text cap v id r)
+raise_ends cap v id (To w) = ends (codes "raise " ++ decimal id ++ 32 ∷ printed_value w)
+raise_ends cap v id IsVain = ends (codes "raise " ++ decimal id ++ codes " none")
+raise_ends cap v id IsNoId = ends (refused_text (NoSuch id))
+raise_ends cap v id IsPossible = verdict_ends cap v
+raise_ends cap v id IsUnfound = ends (codes "full " ++ decimal cap)
+
+least_ends : (cap : ℕ) (l : LeastDeadline) → EndsLine (least_text cap l)
+least_ends cap (At n) = ends (codes "least " ++ decimal n)
+least_ends cap Never = ends (codes "least none")
+least_ends cap IsUnknown = ends (codes "full " ++ decimal cap)
+
 module _ (s : Following) where
   text_ends : (o : Option (List ℕ)) → EndsLine (each_text s.cap o)
   text_ends None = ends (codes "full " ++ decimal s.cap)
@@ -53,8 +74,10 @@ module _ (s : Following) where
   each_ends true = after_ends (verdict_now s)
   each_ends false = ends (codes "refused F8")
 
-  pub answer_ends : (question : Asked) → EndsLine (answer_to s question)
+  pub answer_ends : (question : FurtherQuestion) → EndsLine (answer_to_question s question)
   answer_ends asks_verdict = verdict_ends s.cap (verdict_now s)
   answer_ends asks_until = pause_ends s.cap (verdict_now s) (pause_of s.network s.history s.fresh s.cap (verdict_now s))
-  answer_ends asks_each = each_ends (has_place (left_now s).base && has_place (lowered (left_now s)))
+  answer_ends asks_each = each_ends (has_place_for_one (left_now s).base && has_place_for_one (lowered (left_now s)))
   answer_ends (asks_late p) = late_ends s.names s.cap p (late_of s.network s.history s.fresh s.cap p (verdict_now s))
+  answer_ends (asks_raise id) = raise_ends s.cap (verdict_now s) id (raise_of s.network s.history s.fresh s.cap id (verdict_now s))
+  answer_ends asks_least = least_ends s.cap (least_of s.network s.history s.fresh s.cap)

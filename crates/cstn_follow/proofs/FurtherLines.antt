@@ -10,9 +10,13 @@ use Rattle.cstn_lines.specs.FollowLines.{Follow, IsFollow, followed_read, follow
 use Rattle.cstn_lines.specs.LiveLines.{prop_read}
 use Rattle.cstn_lines.proofs.LiveLemmas.{joined_cut, prop_only}
 use Rattle.cstn_lines.proofs.FollowLemmas.{follow_is}
-use Rattle.cstn_follow.specs.Asking.{Asked, asks_verdict, asks_until, asks_each, asks_late, IsAsked, late_read, asked_read, printed_asked, of_line, of_question, spoken_by, spoken_read, IfLine}
+use Rattle.cstn_follow.specs.Asking.{FurtherQuestion, asks_verdict, asks_until, asks_each, asks_late, asks_raise, asks_least, IsFurtherQuestion, late_read, raise_read}
+use Rattle.cstn_follow.specs.Asking.{either_read, asked_read, printed_asked, of_line, of_question, of_amendment, amended_by, spoken_by, spoken_read, IfLine}
+use Rattle.cstn_follow.specs.Amending.{Amendment, forgives, amendment_read, printed_amendment}
+use Rattle.cstn_text.specs.Numbers.{printed_number}
 use Rattle.cstn_follow.specs.Following.{Following, Heard, says, saves}
 use Rattle.cstn_follow.specs.Hearing.{on_line}
+use Rattle.cstn_follow.proofs.RaiseLines.{raise_back, raise_only}
 
 -- the session that follows
 abbrev pub next_of : Heard → Following
@@ -23,30 +27,39 @@ next_of (saves m names next) = next
 pub spoken_is : (bytes : List ℕ) → IfLine (spoken_read bytes) IsFollow
 spoken_is bytes = by_line (follow_read bytes) (follow_is bytes)
   where
-    by_question : (o : Option Asked) → IfLine (option_map of_question o) IsFollow
+    by_question : (o : Option FurtherQuestion) → IfLine (option_map of_question o) IsFollow
     by_question None = tt
     by_question (Some question) = tt
 
+    by_amendment : (o : Option Amendment) → IfLine (amended_by o bytes) IsFollow
+    by_amendment None = by_question (asked_read bytes)
+    by_amendment (Some amendment) = tt
+
     by_line : (o : Option Follow) → ((l : Follow) → o ≡ Some l → IsFollow l) → IfLine (spoken_by o bytes) IsFollow
-    by_line None is = by_question (asked_read bytes)
+    by_line None is = by_amendment (amendment_read bytes)
     by_line (Some line) is = is line refl
 
-pub question_back : (question : Asked) → IsAsked question → spoken_read (printed_asked question) ≡ Some (of_question question)
+pub question_back : (question : FurtherQuestion) → IsFurtherQuestion question → spoken_read (printed_asked question) ≡ Some (of_question question)
 question_back asks_verdict is = refl
 question_back asks_until is = refl
 question_back asks_each is = refl
+question_back asks_least is = refl
+question_back (asks_raise id) is =
+    let text = codes "raise" ++ 32 ∷ printed_number id in
+    let none : follow_read text ≡ None = ap (option_and_then followed_read) (joined_cut (codes "raise") (printed_number id) refl) in
+    ap (λ o. spoken_by o text) none ∙ ap (option_map of_question) (raise_back id is)
 question_back (asks_late p) is =
     let text = codes "late" ++ 32 ∷ letter_of p ∷ [] in
     let none : follow_read text ≡ None = ap (option_and_then followed_read) (joined_cut (codes "late") (letter_of p ∷ []) refl) in
-    ap (λ o. spoken_by o text) none ∙ ap (λ o. option_map of_question (option_map asks_late o)) (letter_back p is)
+    ap (λ o. spoken_by o text) none ∙ ap (λ o. option_map of_question (either_read (option_map asks_late o) (raise_read text))) (letter_back p is)
 
 spelled : (text word : List ℕ) → bytes_eq text word ≡ true → word ≡ text
 spelled text word is = sym ((bytes_eq-Decides text word).0 is)
 
-abbrev IsWritten : List ℕ → Asked → Type 0
-IsWritten text question = (printed_asked question ≡ text) × IsAsked question
+abbrev IsWritten : List ℕ → FurtherQuestion → Type 0
+IsWritten text question = (printed_asked question ≡ text) × IsFurtherQuestion question
 
-late_only : (text : List ℕ) (question : Asked) → late_read text ≡ Some question → IsWritten text question
+late_only : (text : List ℕ) (question : FurtherQuestion) → late_read text ≡ Some question → IsWritten text question
 late_only text question is = by_word (bytes_eq (take 5 text) (codes "late ")) refl is
   where
     by_prop : (rest : List ℕ) → rest ≡ drop 5 text → codes "late " ≡ take 5 text → (o : Option ℕ) → prop_read rest ≡ o → option_map asks_late o ≡ Some question
@@ -64,37 +77,80 @@ late_only text question is = by_word (bytes_eq (take 5 text) (codes "late ")) re
     by_word true word so = by_prop (drop 5 text) refl (spelled (take 5 text) (codes "late ") word) (prop_read (drop 5 text)) refl so
     by_word false word so = absurd (cc)
 
-asked_only : (text : List ℕ) (question : Asked) → asked_read text ≡ Some question → IsWritten text question
-asked_only text question is = by (bytes_eq text (codes "verdict")) (bytes_eq text (codes "until")) (bytes_eq text (codes "by")) refl refl refl is
+operand_only : (text : List ℕ) (question : FurtherQuestion) (o : Option FurtherQuestion) → late_read text ≡ o → either_read o (raise_read text) ≡ Some question
+    → IsWritten text question
+operand_only text question None none so = raise_only text question so
+operand_only text question (Some other) some so = let same : other ≡ question = cc in late_only text question (some ∙ ap (λ q. Some q) same)
+
+asked_only : (text : List ℕ) (question : FurtherQuestion) → asked_read text ≡ Some question → IsWritten text question
+asked_only text question is =
+    by (bytes_eq text (codes "verdict")) (bytes_eq text (codes "until")) (bytes_eq text (codes "by")) (bytes_eq text (codes "least")) refl refl refl refl is
   where
-    here : (a : Asked) → IsWritten text a → Some a ≡ Some question → IsWritten text question
+    here : (a : FurtherQuestion) → IsWritten text a → Some a ≡ Some question → IsWritten text question
     here a written same = let e : a ≡ question = cc in subst (IsWritten text) e written
 
-    by : (a b c : Bool) → bytes_eq text (codes "verdict") ≡ a → bytes_eq text (codes "until") ≡ b → bytes_eq text (codes "by") ≡ c
-        → (if a then Some asks_verdict else if b then Some asks_until else if c then Some asks_each else late_read text) ≡ Some question → IsWritten text question
-    by true b c first second third so = here asks_verdict (spelled text (codes "verdict") first, tt) so
-    by false true c first second third so = here asks_until (spelled text (codes "until") second, tt) so
-    by false false true first second third so = here asks_each (spelled text (codes "by") third, tt) so
-    by false false false first second third so = late_only text question so
+    by : (a b c d : Bool) → bytes_eq text (codes "verdict") ≡ a → bytes_eq text (codes "until") ≡ b → bytes_eq text (codes "by") ≡ c
+        → bytes_eq text (codes "least") ≡ d
+        → (if a then Some asks_verdict else if b then Some asks_until else if c then Some asks_each else if d then Some asks_least else either_read (late_read text) (raise_read text))
+        ≡ Some question → IsWritten text question
+    by true b c d first second third fourth so = here asks_verdict (spelled text (codes "verdict") first, tt) so
+    by false true c d first second third fourth so = here asks_until (spelled text (codes "until") second, tt) so
+    by false false true d first second third fourth so = here asks_each (spelled text (codes "by") third, tt) so
+    by false false false true first second third fourth so = here asks_least (spelled text (codes "least") fourth, tt) so
+    by false false false false first second third fourth so = operand_only text question (late_read text) refl so
 
-pub question_only : (text : List ℕ) (question : Asked) → spoken_read text ≡ Some (of_question question) → IsWritten text question
+pub question_only : (text : List ℕ) (question : FurtherQuestion) → spoken_read text ≡ Some (of_question question) → IsWritten text question
 question_only text question is = by_line (follow_read text) is
   where
-    by_question : (o : Option Asked) → option_map of_question o ≡ Some (of_question question) → o ≡ Some question
+    by_question : (o : Option FurtherQuestion) → option_map of_question o ≡ Some (of_question question) → o ≡ Some question
     by_question None so = absurd (cc)
     by_question (Some other) so = cc
 
+    by_amendment : (o : Option Amendment) → amended_by o text ≡ Some (of_question question) → IsWritten text question
+    by_amendment None so = asked_only text question (by_question (asked_read text) so)
+    by_amendment (Some amendment) so = absurd (cc)
+
     by_line : (o : Option Follow) → spoken_by o text ≡ Some (of_question question) → IsWritten text question
-    by_line None so = asked_only text question (by_question (asked_read text) so)
+    by_line None so = by_amendment (amendment_read text) so
+    by_line (Some line) so = absurd (cc)
+
+-- amendments and their texts
+pub amendment_back : (amendment : Amendment) → spoken_read (printed_amendment amendment) ≡ Some (of_amendment amendment)
+amendment_back forgives = refl
+
+amended_only : (text : List ℕ) (amendment : Amendment) → amendment_read text ≡ Some amendment → printed_amendment amendment ≡ text
+amended_only text amendment is = by (bytes_eq text (codes "forgive")) refl is
+  where
+    by : (b : Bool) → bytes_eq text (codes "forgive") ≡ b → (if b then Some forgives else None) ≡ Some amendment → printed_amendment amendment ≡ text
+    by true word so = let e : forgives ≡ amendment = cc in subst (λ a. printed_amendment a ≡ text) e (spelled text (codes "forgive") word)
+    by false word so = absurd (cc)
+
+pub amendment_only : (text : List ℕ) (amendment : Amendment) → spoken_read text ≡ Some (of_amendment amendment) → printed_amendment amendment ≡ text
+amendment_only text amendment is = by_line (follow_read text) is
+  where
+    by_question : (o : Option FurtherQuestion) → option_map of_question o ≡ Some (of_amendment amendment) → printed_amendment amendment ≡ text
+    by_question None so = absurd (cc)
+    by_question (Some question) so = absurd (cc)
+
+    by_amendment : (o : Option Amendment) → amendment_read text ≡ o → amended_by o text ≡ Some (of_amendment amendment) → printed_amendment amendment ≡ text
+    by_amendment None reads so = by_question (asked_read text) so
+    by_amendment (Some other) reads so =
+        let e : other ≡ amendment = cc in subst (λ a. printed_amendment a ≡ text) e (amended_only text other reads)
+
+    by_line : (o : Option Follow) → spoken_by o text ≡ Some (of_amendment amendment) → printed_amendment amendment ≡ text
+    by_line None so = by_amendment (amendment_read text) refl so
     by_line (Some line) so = absurd (cc)
 
 pub line_spoken : (text : List ℕ) (line : Follow) → follow_read text ≡ Some line → spoken_read text ≡ Some (of_line line)
 line_spoken text line is = ap (λ o. spoken_by o text) is
 
--- what is no line that tells, edits or asks changes nothing
-pub others_keep : (s : Following) (bytes : List ℕ) → follow_read bytes ≡ None → next_of (on_line s (spoken_read bytes)) ≡ s
-others_keep s bytes none = ap (λ o. next_of (on_line s (spoken_by o bytes))) none ∙ by_question (asked_read bytes)
+-- what is no line that tells, edits, amends or asks changes nothing
+pub others_keep : (s : Following) (bytes : List ℕ) → follow_read bytes ≡ None → amendment_read bytes ≡ None → next_of (on_line s (spoken_read bytes)) ≡ s
+others_keep s bytes none also =
+    ap (λ o. next_of (on_line s (spoken_by o bytes))) none
+    ∙ ap (λ o. next_of (on_line s (amended_by o bytes))) also
+    ∙ by_question (asked_read bytes)
   where
-    by_question : (o : Option Asked) → next_of (on_line s (option_map of_question o)) ≡ s
+    by_question : (o : Option FurtherQuestion) → next_of (on_line s (option_map of_question o)) ≡ s
     by_question None = refl
     by_question (Some question) = refl

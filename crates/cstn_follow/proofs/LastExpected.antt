@@ -1,6 +1,6 @@
 -- Until when an outcome may be late.
 use Rattle.std.proofs.Common.{ℕ, zero, suc, ◌≡◌, ◌+◌, ◌<◌, ◌≤◌, inl, inr, Bool, true, false, Option, Some, None, arith, refl, sym, subst, ap, ◌∙◌}
-use Rattle.std.specs.Prelude.{max, min, cond, nat_lt, if◌then◌else◌}
+use Rattle.std.specs.Prelude.{max, min, cond, not, ◌&&◌, nat_lt, nat_le, if◌then◌else◌}
 use Rattle.std.specs.List.{All}
 use Rattle.std.proofs.lemmas.Bool.{cases_eq, eq-eqb, ne_eqb, ltb-true, ltb-false}
 use Rattle.cstn_net.specs.Limits.{most_deadline, most_reaction}
@@ -14,17 +14,19 @@ use Rattle.cstn_check.specs.declared.verdicts.Verdict.{Verdict}
 use Rattle.cstn_check.specs.declared.verdicts.Verdict.TheVariants.{Yes, No, Full}
 use Rattle.cstn_check.proofs.Halves.{last_found}
 use Rattle.cstn_history.specs.Continuations.{Can}
-use Rattle.cstn_history.specs.Facts.{FactRefusal, since, observed_since, latest_expected, expected_refusal, with_expected}
+use Rattle.cstn_history.specs.Facts.{FactRefusal, OutOfRange, expected_after, again_expected, since, observed_since, latest_expected, expected_refusal, with_expected}
 use Rattle.cstn_history.specs.Histories.{History, IsTimelyHistory, IsInTime, IsObservedAt, or_at, known_at}
 use Rattle.cstn_history.proofs.Recorded.{timely_expected, latest_upto}
 use Rattle.cstn_follow.specs.Eased.{IsEased}
 use Rattle.cstn_follow.specs.Following.{verdict_left}
 use Rattle.cstn_follow.specs.Lateness.{late_never, late_most, IsLastExpected, IsNeverInTime, unless_expected}
 use Rattle.cstn_follow.specs.Lateness.{said_late, late_found, late_possible, late_first, late_tried, late_stuck, late_by, late_untold, late_since}
-use Rattle.cstn_follow.specs.Lateness.{late_of, IsRightLate}
+use Rattle.cstn_follow.specs.Lateness.{late_of, IsLateFull, IsRightLate}
 use Rattle.cstn_follow.specs.Pauses.{said_of}
 use Rattle.cstn_follow.proofs.GoesOn.{verdict_right}
+use Rattle.cstn_follow.proofs.Halved.{none_within}
 use Rattle.cstn_follow.proofs.LastNow.{eased_continues, said_goes, said_stops}
+use Rattle.cstn_follow.proofs.Roomy.{expected_fits}
 
 -- ---- an outcome that is expected earlier
 
@@ -190,10 +192,49 @@ module _ (m : Labelled) (h : History) (fresh cap : ℕ) (good : IsLabelled m) (t
       (record { low = low; high = most }) t (record { low = (upto, can); high = λ u goes. goes.0; upto = most_upto }) (omega arith) e in
       record { upto = last.0.0; goes = last.0.1; last = λ u before goes. last.1 u (before, goes) }
 
-  right_found : (low : ℕ) → low ≤ most → Can m (with_expected h low p) → (o : Option ℕ)
-      → halving (said_late m h fresh cap p) 20 (record { low = low; high = most }) ≡ o → IsRightLate m h p (late_found o)
-  right_found low upto can None e = tt
-  right_found low upto can (Some t) e = from_low low t upto can e
+  -- a moment that comes after its observer was done, from now on, isn't refused while nothing was told
+  tests : (t now u last : ℕ) → now ≤ t → u < t → t ≤ last → (not (nat_lt t now) && nat_lt u t && nat_le t last) ≡ true
+  tests t now u last from after upto = grind arith
+
+  not_refused : h.told p ≡ None → (t : ℕ) → h.now ≤ t → t0 < t → t ≤ most → expected_refusal m h t p ≡ None
+  not_refused untold t from after upto =
+      ap (expected_after m h t p) is_since ∙ ap (again_expected m h t p t0) untold
+      ∙ ap (λ b. if b then None else Some (OutOfRange t)) (tests t h.now t0 most from after upto)
+
+  module _ (v : Verdict) (is : verdict_left m h fresh cap ≡ Some v) (untold : h.told p ≡ None) where
+    pub full_late : (t : ℕ) → h.now ≤ t → t0 < t → t ≤ most → said_late m h fresh cap p t ≡ None → IsLateFull m h fresh cap p
+    full_late t from after upto said =
+        let none = not_refused untold t from after upto in
+        by_verdict none (verdict_left m (with_expected h t p) fresh cap) refl
+        (sym (ap (λ o. unless_expected o (said_of (verdict_left m (with_expected h t p) fresh cap))) none) ∙ said)
+      where
+        by_verdict : expected_refusal m h t p ≡ None → (o : Option Verdict) → verdict_left m (with_expected h t p) fresh cap ≡ o → said_of o ≡ None
+            → IsLateFull m h fresh cap p
+        by_verdict none None some e = absurd (expected_fits m h fresh cap t p v is some)
+        by_verdict none (Some (Yes load)) some e = absurd (cc)
+        by_verdict none (Some (No load)) some e = absurd (cc)
+        by_verdict none (Some Full) some e =
+            inr (t, verdict_right m (with_expected h t p) fresh cap Full good (timely_expected m h good timely.history timely.in_time t p none) above some)
+
+    right_found : (low : ℕ) → low ≤ most → ((t : ℕ) → low < t → t ≤ most → (h.now ≤ t) × (t0 < t)) → Can m (with_expected h low p) → (o : Option ℕ)
+        → halving (said_late m h fresh cap p) 20 (record { low = low; high = most }) ≡ o → IsRightLate m h fresh cap p (late_found o)
+    right_found low upto soon can None e =
+        let there = none_within (said_late m h fresh cap p) 20 (record { low = low; high = most }) upto e in
+        let both = soon there.0 there.1 there.2 in
+        full_late there.0 both.0 both.1 there.2 there.3
+    right_found low upto soon can (Some t) e = from_low low t upto can e
+
+  -- it is known after its observer was done
+  known_after : t0 < known_at m h p t0
+  known_after = by_expected (h.expected p) refl (observed_back m h p t0 is_since)
+    where
+      by_expected : (o : Option ℕ) → h.expected p ≡ o → IsObservedAt m h p t0 → t0 < or_at o (t0 + m.base.reaction p)
+      by_expected None none o = let some = good.base.network.reacts o.observer p o.observes in omega arith
+      by_expected (Some e) some o =
+          let there = timely.history.expected p e some in
+          let same = one_since there.0 there.2 in
+          let after = there.1 in
+          omega arith
 
   min_first : (a b : ℕ) → min a b ≤ a
   min_first a b = grind arith
@@ -201,11 +242,15 @@ module _ (m : Labelled) (h : History) (fresh cap : ℕ) (good : IsLabelled m) (t
   min_second : (a b : ℕ) → min a b ≤ b
   min_second a b = grind arith
 
-  right_possible : Can m h → IsRightLate m h p (late_possible m h fresh cap p t0)
-  right_possible can =
+  min_soon : (last now known since t : ℕ) → since < known → min last (max now known) < t → t ≤ last → (now ≤ t) × (since < t)
+  min_soon last now known since t after more upto = (grind arith, grind arith)
+
+  right_possible : (v : Verdict) → verdict_left m h fresh cap ≡ Some v → h.told p ≡ None → Can m h → IsRightLate m h fresh cap p (late_possible m h fresh cap p t0)
+  right_possible v is untold can =
       let low = min most (max h.now (known_at m h p t0)) in
       let eased = expected_eased m h low p (λ u o. subst (λ k. low ≤ max h.now (known_at m h p k)) (sym (one_since u o)) (min_second most (max h.now (known_at m h p t0)))) in
-      right_found low (min_first most (max h.now (known_at m h p t0))) (can.0, eased_continues m h (with_expected h low p) can.0 eased can.1)
+      right_found v is untold low (min_first most (max h.now (known_at m h p t0)))
+      (λ t more upto. min_soon most h.now (known_at m h p t0) t0 t known_after more upto) (can.0, eased_continues m h (with_expected h low p) can.0 eased can.1)
       (halving (said_late m h fresh cap p) 20 (record { low = low; high = most })) refl
 
   abbrev first : ℕ
@@ -257,34 +302,41 @@ module _ (m : Labelled) (h : History) (fresh cap : ℕ) (good : IsLabelled m) (t
         first_upto : (now seen u : ℕ) → seen < u → max now (seen + 1) ≤ max now u
         first_upto now seen u = grind arith
 
-    right_first : first ≤ most → (o : Option Bool) → said_late m h fresh cap p first ≡ o → IsRightLate m h p (late_first m h fresh cap p first o)
-    right_first upto None says = tt
-    right_first upto (Some true) says =
-        right_found first upto (holds first says) (halving (said_late m h fresh cap p) 20 (record { low = first; high = most })) refl
-    right_first upto (Some false) says = none_from says
+    first_soon : (now since t : ℕ) → max now (since + 1) < t → (now ≤ t) × (since < t)
+    first_soon now since t more = (grind arith, grind arith)
 
-    right_tried : (b : Bool) → nat_lt most first ≡ b
-        → IsRightLate m h p (if b then late_never else late_first m h fresh cap p first (said_late m h fresh cap p first))
-    right_tried true past = none_after (ltb-true most first past)
-    right_tried false upto = right_first (ltb-false most first upto) (said_late m h fresh cap p first) refl
+    first_here : (now since : ℕ) → (now ≤ max now (since + 1)) × (since < max now (since + 1))
+    first_here now since = (grind arith, grind arith)
 
-    right_stuck : IsRightLate m h p (late_stuck m h fresh cap p t0)
-    right_stuck = right_tried (nat_lt most first) refl
+    right_first : (v : Verdict) → verdict_left m h fresh cap ≡ Some v → h.told p ≡ None → first ≤ most → (o : Option Bool) → said_late m h fresh cap p first ≡ o → IsRightLate m h fresh cap p (late_first m h fresh cap p first o)
+    right_first v is untold upto None says =
+        let both = first_here h.now t0 in full_late v is untold first both.0 both.1 upto says
+    right_first v is untold upto (Some true) says =
+        right_found v is untold first upto (λ t more within. first_soon h.now t0 t more) (holds first says) (halving (said_late m h fresh cap p) 20 (record { low = first; high = most })) refl
+    right_first v is untold upto (Some false) says = none_from says
 
-  right_by : (v : Verdict) → verdict_left m h fresh cap ≡ Some v → IsRightLate m h p (late_by m h fresh cap p t0 v)
-  right_by (Yes load) is = right_possible (verdict_right m h fresh cap (Yes load) good timely above is)
-  right_by (No load) is = right_stuck (verdict_right m h fresh cap (No load) good timely above is)
-  right_by Full is = tt
+    right_tried : (v : Verdict) → verdict_left m h fresh cap ≡ Some v → h.told p ≡ None → (b : Bool) → nat_lt most first ≡ b
+        → IsRightLate m h fresh cap p (if b then late_never else late_first m h fresh cap p first (said_late m h fresh cap p first))
+    right_tried v is untold true past = none_after (ltb-true most first past)
+    right_tried v is untold false upto = right_first v is untold (ltb-false most first upto) (said_late m h fresh cap p first) refl
 
-  right_untold : (v : Verdict) → verdict_left m h fresh cap ≡ Some v → (o : Option Bool) → h.told p ≡ o → IsRightLate m h p (late_untold m h fresh cap p v t0 o)
+    right_stuck : (v : Verdict) → verdict_left m h fresh cap ≡ Some v → h.told p ≡ None → IsRightLate m h fresh cap p (late_stuck m h fresh cap p t0)
+    right_stuck v is untold = right_tried v is untold (nat_lt most first) refl
+
+  right_by : (v : Verdict) → verdict_left m h fresh cap ≡ Some v → h.told p ≡ None → IsRightLate m h fresh cap p (late_by m h fresh cap p t0 v)
+  right_by (Yes load) is untold = right_possible (Yes load) is untold (verdict_right m h fresh cap (Yes load) good timely above is)
+  right_by (No load) is untold = right_stuck (verdict_right m h fresh cap (No load) good timely above is) (No load) is untold
+  right_by Full is untold = inl (verdict_right m h fresh cap Full good timely above is)
+
+  right_untold : (v : Verdict) → verdict_left m h fresh cap ≡ Some v → (o : Option Bool) → h.told p ≡ o → IsRightLate m h fresh cap p (late_untold m h fresh cap p v t0 o)
   right_untold v is (Some value) told = told
-  right_untold v is None untold = right_by v is
+  right_untold v is None untold = right_by v is untold
 
 module _ (m : Labelled) (h : History) (fresh cap : ℕ) (good : IsLabelled m) (timely : IsTimelyHistory m h) (above : All (λ c. c.id < fresh) m.base.constraints)
     (p : ℕ) (v : Verdict) (is : verdict_left m h fresh cap ≡ Some v) where
-  right_since : (o : Option ℕ) → observed_since m h p ≡ o → IsRightLate m h p (late_since m h fresh cap p v o)
+  right_since : (o : Option ℕ) → observed_since m h p ≡ o → IsRightLate m h fresh cap p (late_since m h fresh cap p v o)
   right_since None none = λ u o. let some = observed_at m h good p u o in absurd (let both : ◌≡◌ {A = Option ℕ} None (Some u) = sym none ∙ some in cc)
   right_since (Some t0) some = right_untold m h fresh cap good timely above p t0 some v is (h.told p) refl
 
-  pub right_late : IsRightLate m h p (late_of m h fresh cap p v)
+  pub right_late : IsRightLate m h fresh cap p (late_of m h fresh cap p v)
   right_late = right_since (observed_since m h p) refl

@@ -24,10 +24,12 @@ use Rattle.cstn_history.proofs.Settled.{allows_true, holds_allows}
 use Rattle.cstn_follow.specs.Eased.{IsEased}
 use Rattle.cstn_follow.specs.Following.{any_below, verdict_left}
 use Rattle.cstn_follow.specs.Pauses.{said_of, is_undone, is_any_undone, is_any_left, IsLastNow, said_at, pause_found, has_room_later, pause_until}
-use Rattle.cstn_follow.specs.Pauses.{pause_by, pause_of, IsRightPause}
+use Rattle.cstn_follow.specs.Pauses.{pause_by, pause_of, IsPauseFull, IsRightPause}
 use Rattle.cstn_follow.specs.declared.answers.Pause.TheVariants.{Finished, TooManyConstraints}
 use Rattle.cstn_follow.proofs.AllDone.{any_false, somewhere, none_open}
 use Rattle.cstn_follow.proofs.GoesOn.{verdict_right}
+use Rattle.cstn_follow.proofs.Halved.{none_within}
+use Rattle.cstn_follow.proofs.Roomy.{now_fits}
 
 -- ---- earlier is no worse
 
@@ -202,23 +204,45 @@ module _ (m : Labelled) (h : History) (fresh cap : ℕ) (good : IsLabelled m) (t
 
   -- ---- the answer
 
-  right_until : Can m h → (o : Option ℕ) → pause_found m h fresh cap ≡ o → IsRightPause m h (pause_until o)
-  right_until can None e = tt
-  right_until can (Some t) e = pause_is_last can t e
+  module _ (v : Verdict) (is : verdict_left m h fresh cap ≡ Some v) where
+    full_at : has_room_later m h fresh ≡ true → (t : ℕ) → t ≤ most_deadline → said_at m h fresh cap t ≡ None → IsPauseFull m h fresh cap
+    full_at room t upto said = by_verdict (verdict_left m (at_now h (max h.now t)) fresh cap) refl said
+      where
+        by_verdict : (o : Option Verdict) → verdict_left m (at_now h (max h.now t)) fresh cap ≡ o → said_of o ≡ None → IsPauseFull m h fresh cap
+        by_verdict None none e = absurd (now_fits m h fresh cap (max h.now t) v is room none)
+        by_verdict (Some (Yes load)) some e = absurd (cc)
+        by_verdict (Some (No load)) some e = absurd (cc)
+        by_verdict (Some Full) some e =
+            inr (max h.now t, verdict_right m (at_now h (max h.now t)) fresh cap Full good (at_timely t upto) above some)
 
-  right_after : Can m h → (b : Bool) → is_any_left m h ≡ b
-      → IsRightPause m h (if b then pause_until (pause_found m h fresh cap) else Finished)
-  right_after can true some = right_until can (pause_found m h fresh cap) refl
-  right_after can false over = (can, none_open m h good timely.history over)
+    -- where nothing is found, a log that is tried is full
+    none_full : Can m h → has_room_later m h fresh ≡ true → (b : Bool) → is_any_undone m h ≡ b
+        → (if b then halving (said_at m h fresh cap) 20 (record { low = h.now; high = m.base.deadline }) else Some most_deadline) ≡ None → IsPauseFull m h fresh cap
+    none_full can room true some none =
+        let in_time = good.base.in_time in
+        let there = none_within (said_at m h fresh cap) 20 (record { low = h.now; high = m.base.deadline }) (bounded can some h.now can) none in
+        full_at room there.0 (let upto = there.2 in omega arith) there.3
+    none_full can room false over none = absurd (cc)
 
-  right_by : (v : Verdict) → verdict_left m h fresh cap ≡ Some v → IsRightPause m h (pause_by m h fresh cap v)
-  right_by (Yes load) is = right_after (verdict_right m h fresh cap (Yes load) good timely above is) (is_any_left m h) refl
-  right_by (No load) is = verdict_right m h fresh cap (No load) good timely above is
-  right_by Full is = tt
+    right_until : Can m h → has_room_later m h fresh ≡ true → (o : Option ℕ) → pause_found m h fresh cap ≡ o → IsRightPause m h fresh cap (pause_until o)
+    right_until can room None e = none_full can room (is_any_undone m h) refl e
+    right_until can room (Some t) e = pause_is_last can t e
 
-  right_if : (b : Bool) (v : Verdict) → verdict_left m h fresh cap ≡ Some v → IsRightPause m h (if b then pause_by m h fresh cap v else TooManyConstraints)
-  right_if true v is = right_by v is
-  right_if false v is = tt
+    right_after : Can m h → has_room_later m h fresh ≡ true → (b : Bool) → is_any_left m h ≡ b
+        → IsRightPause m h fresh cap (if b then pause_until (pause_found m h fresh cap) else Finished)
+    right_after can room true some = right_until can room (pause_found m h fresh cap) refl
+    right_after can room false over = (can, none_open m h good timely.history over)
 
-  pub right_pause : (v : Verdict) → verdict_left m h fresh cap ≡ Some v → IsRightPause m h (pause_of m h fresh cap v)
-  right_pause v is = right_if (has_room_later m h fresh) v is
+  right_by : (v : Verdict) → verdict_left m h fresh cap ≡ Some v → has_room_later m h fresh ≡ true → IsRightPause m h fresh cap (pause_by m h fresh cap v)
+  right_by (Yes load) is room =
+      right_after (Yes load) is (verdict_right m h fresh cap (Yes load) good timely above is) room (is_any_left m h) refl
+  right_by (No load) is room = verdict_right m h fresh cap (No load) good timely above is
+  right_by Full is room = inl (verdict_right m h fresh cap Full good timely above is)
+
+  right_if : (b : Bool) → has_room_later m h fresh ≡ b → (v : Verdict) → verdict_left m h fresh cap ≡ Some v
+      → IsRightPause m h fresh cap (if b then pause_by m h fresh cap v else TooManyConstraints)
+  right_if true room v is = right_by v is room
+  right_if false room v is = room
+
+  pub right_pause : (v : Verdict) → verdict_left m h fresh cap ≡ Some v → IsRightPause m h fresh cap (pause_of m h fresh cap v)
+  right_pause v is = right_if (has_room_later m h fresh) refl v is

@@ -1,16 +1,17 @@
 -- A session that follows keeps its time-points, their names and its cap.
-use Rattle.std.proofs.Common.{ℕ, ◌≡◌, ◌+◌, Bool, true, false, List, [], ◌∷◌, Option, Some, None, refl, sym, subst, ◌∙◌}
+use Rattle.std.proofs.Common.{ℕ, ◌≡◌, ◌+◌, Bool, true, false, List, [], ◌∷◌, length, Option, Some, None, refl, sym, subst, ◌∙◌}
 use Rattle.std.specs.Prelude.{Result, Ok, Err, nat_lt, if◌then◌else◌}
 use Rattle.std.proofs.lemmas.Option.{same_Some}
-use Rattle.cstn_net.specs.Limits.{most_constraints, most_deadline}
+use Rattle.cstn_net.specs.Limits.{most_constraints, most_deadline, most_edits}
 use Rattle.cstn_text.specs.Names.{number_of}
 use Rattle.cstn_check.specs.declared.verdicts.Verdict.{Verdict}
 use Rattle.cstn_history.specs.Histories.{History}
-use Rattle.cstn_change.specs.Changes.{Change, removes, revalues, Refusal, refusal, after}
-use Rattle.cstn_change.specs.ChangeLines.{addition}
+use Rattle.cstn_change.specs.Changes.{EditedNetwork, Change, removes, revalues, Refusal, EditLimit, refusal, after}
+use Rattle.cstn_change.specs.ChangeLines.{refused_text, addition}
 use Rattle.cstn_lines.specs.EditLines.{Edit, added, removed, changed, asked}
 use Rattle.cstn_lines.specs.FollowLines.{Follow, IsFollow, done_at, came_at, now_at, awaited_at, edits, ends_by, asks_next, asks_by, asks_blame}
 use Rattle.cstn_lines.specs.FollowLines.{asks_rest}
+use Rattle.cstn_reply.specs.Texts.{line}
 use Rattle.cstn_reply.specs.Sessions.{Turn, more, last, wrong}
 use Rattle.cstn_reply.specs.Reached.{state_after}
 use Rattle.cstn_reply.proofs.Sessions.{first_leads}
@@ -18,8 +19,12 @@ use Rattle.cstn_follow.specs.Following.{Following, Heard, says, saves, verdict_n
 use Rattle.cstn_follow.specs.FactLines.{records}
 use Rattle.cstn_follow.specs.PlanLines.{edited_network, replanned, on_refusal, on_edit, on_deadline}
 use Rattle.cstn_follow.specs.Replans.{with_due}
-use Rattle.cstn_follow.specs.Asking.{Spoken, of_line, of_question, IfLine, spoken_read}
-use Rattle.cstn_follow.specs.Hearing.{on_plan, on_other, on_follow, on_line, counted, hear}
+use Rattle.cstn_follow.specs.Amending.{Amendment, forgives}
+use Rattle.cstn_follow.specs.Asking.{Spoken, of_line, of_question, of_amendment, IfLine, spoken_read}
+use Rattle.cstn_follow.specs.Forgiving.{broken_ids, after_removals}
+use Rattle.cstn_follow.specs.ForgivingLines.{forgiven_line}
+use Rattle.cstn_follow.specs.Hearing.{on_plan, on_other, on_follow, on_amendment, on_line, counted, hear}
+use Rattle.cstn_follow.proofs.Forgiven.{removed_is}
 use Rattle.cstn_follow.specs.Recorded.{IsFact}
 use Rattle.cstn_follow.specs.Turns.{Writing, heard_by, turn_by}
 use Rattle.cstn_follow.proofs.FurtherLines.{next_of, spoken_is}
@@ -83,12 +88,25 @@ follow_keeps s (asks_by name) sound is = subst (KeepsPoints s) (sym (by_keeps s 
 follow_keeps s asks_blame sound is = subst (KeepsPoints s) (sym (blame_keeps s (verdict_now s))) (same s)
 follow_keeps s asks_rest sound is = same s
 
+forgive_keeps : (s : Following) (ids : List ℕ) (b : Bool)
+    → KeepsPoints s (next_of (if b then says (line (refused_text EditLimit)) s else says (forgiven_line ids) (replanned s (after_removals (edited_network s) ids))))
+forgive_keeps s ids true = same s
+forgive_keeps s ids false =
+    subst (λ (e : EditedNetwork). KeepsPoints s (replanned s e)) (sym (removed_is (edited_network s) ids))
+    (record { names = refl; observes = refl; reaction = refl; cap = refl })
+
+amendment_keeps : (s : Following) (amendment : Amendment) → KeepsPoints s (next_of (on_amendment s amendment))
+amendment_keeps s forgives =
+    let ids = broken_ids s.network s.history in
+    forgive_keeps s ids (nat_lt most_edits (s.edits + length ids))
+
 line_keeps : (s : Following) (o : Option Spoken) → IsSound s → IfLine o IsFollow → KeepsPoints s (next_of (on_line s o))
 line_keeps s None sound is = same s
 line_keeps s (Some (of_line line)) sound is = follow_keeps s line sound is
 line_keeps s (Some (of_question question)) sound is = same s
+line_keeps s (Some (of_amendment amendment)) sound is = amendment_keeps s amendment
 
-hear_keeps : (s : Following) (text : List ℕ) → IsSound s → KeepsPoints s (next_of (hear s (spoken_read text)))
+pub hear_keeps : (s : Following) (text : List ℕ) → IsSound s → KeepsPoints s (next_of (hear s (spoken_read text)))
 hear_keeps s text sound =
     through s (counted s) (next_of (hear s (spoken_read text))) (record { names = refl; observes = refl; reaction = refl; cap = refl })
     (line_keeps (counted s) (spoken_read text) (counted_sound s sound) (spoken_is text))

@@ -19,8 +19,8 @@ use Rattle.cstn_history.specs.Facts.{expected_after, again_expected, observed_si
 use Rattle.cstn_history.proofs.Recorded.{put_there, put_other, put_kept}
 use Rattle.cstn_lines.specs.LiveLines.{printed_truth}
 use Rattle.cstn_reply.specs.Texts.{line}
-use Rattle.cstn_follow.specs.Following.{name_at}
-use Rattle.cstn_follow.specs.FactLines.{refused_fact, unless_refused, all_done, unknown_of, node_numbered, node_named, nodes_of}
+use Rattle.cstn_follow.specs.Following.{name_of_point}
+use Rattle.cstn_follow.specs.FactLines.{refused_fact, unless_fact_refused, all_done, unknown_of, node_numbered, node_named, nodes_of}
 use Rattle.cstn_follow.proofs.InOrder.{none_refused}
 use Rattle.cstn_follow.specs.Recorded.{AreDone, HasCome, HasPassed, IsExpectedAt}
 
@@ -33,9 +33,9 @@ IsRefusal text = (why : List ℕ) × (text ≡ line (codes "refused " ++ why))
 pub fact_refusal : (names : List (List ℕ)) (e : FactRefusal) → IsRefusal (line (refused_fact names e))
 fact_refusal names (Past now) = (codes "F1 " ++ decimal now, refl)
 fact_refusal names (OutOfRange moment) = (codes "F2 " ++ decimal moment, refl)
-fact_refusal names (NoSuch x) = (codes "F3 " ++ printed_name (name_at names x), refl)
-fact_refusal names (Done x moment) = (codes "F4 " ++ printed_name (name_at names x) ++ 32 ∷ decimal moment, refl)
-fact_refusal names (Undecided x) = (codes "F5 " ++ printed_name (name_at names x), refl)
+fact_refusal names (NoSuch x) = (codes "F3 " ++ printed_name (name_of_point names x), refl)
+fact_refusal names (Done x moment) = (codes "F4 " ++ printed_name (name_of_point names x) ++ 32 ∷ decimal moment, refl)
+fact_refusal names (Undecided x) = (codes "F5 " ++ printed_name (name_of_point names x), refl)
 fact_refusal names (NotObserved p) = (codes "F6 " ++ letter_of p ∷ [], refl)
 fact_refusal names (Told p v) = (codes "F7 " ++ letter_of p ∷ 32 ∷ printed_truth v, refl)
 
@@ -61,7 +61,7 @@ module _ (m : Labelled) (t : ℕ) where
       → (h.done x.0 ≡ None) × (all_done m t (with_done h t x.0) xs ≡ Ok g)
   first_done h g x xs is = by_refusal (done_refusal m h t x.0) refl is
     where
-      by_refusal : (o : Option FactRefusal) → done_refusal m h t x.0 ≡ o → unless_refused o (all_done m t (with_done h t x.0) xs) ≡ Ok g
+      by_refusal : (o : Option FactRefusal) → done_refusal m h t x.0 ≡ o → unless_fact_refused o (all_done m t (with_done h t x.0) xs) ≡ Ok g
           → (h.done x.0 ≡ None) × (all_done m t (with_done h t x.0) xs ≡ Ok g)
       by_refusal None none so = (undone_here m h t x.0 none, so)
       by_refusal (Some e) some so = absurd (cc)

@@ -10,7 +10,7 @@ use Rattle.cstn_history.specs.Histories.{History}
 use Rattle.cstn_check.specs.declared.verdicts.Verdict.{Verdict}
 use Rattle.cstn_history.specs.Facts.{FactRefusal, done_refusal, with_done}
 use Rattle.cstn_follow.specs.Following.{Following, says, too_many, verdict_line, verdict_left, on_left_verdict}
-use Rattle.cstn_follow.specs.FactLines.{records, all_done, unless_refused}
+use Rattle.cstn_follow.specs.FactLines.{records, all_done, unless_fact_refused}
 
 -- the next name, where a time-point has it
 pub nodes_turn : (f : List ℕ → Option NodeId) (given : List (List ℕ)) (nodes new : List NodeId) (i : ℕ) (name : List ℕ) → i < length given
@@ -21,7 +21,7 @@ nodes_turn f given nodes new i name inside is so_far news =
 
 -- the next time-point is done, or can't be
 one_done : (m : Labelled) (t : ℕ) (h : History) (xs : List NodeId) (i : ℕ) (x : NodeId) → i < length xs → x ≡ slice_index_or xs i x
-    → all_done m t h (drop i xs) ≡ unless_refused (done_refusal m h t x.0) (all_done m t (with_done h t x.0) (drop (i + 1) xs))
+    → all_done m t h (drop i xs) ≡ unless_fact_refused (done_refusal m h t x.0) (all_done m t (with_done h t x.0) (drop (i + 1) xs))
 one_done m t h xs i x inside is =
     ap (all_done m t h) (drop_more xs i x inside ∙ ap (λ y. y ∷ drop (i + 1) xs) (sym is))
 
@@ -29,13 +29,13 @@ pub done_turn : (m : Labelled) (t : ℕ) (h next : History) (xs : List NodeId) (
     → done_refusal m h t x.0 ≡ None → next ≡ with_done h t x.0 → all_done m t h (drop i xs) ≡ all_done m t next (drop (i + 1) xs)
 done_turn m t h next xs i x inside is accepted recorded =
     one_done m t h xs i x inside is
-    ∙ ap (λ o. unless_refused o (all_done m t (with_done h t x.0) (drop (i + 1) xs))) accepted
+    ∙ ap (λ o. unless_fact_refused o (all_done m t (with_done h t x.0) (drop (i + 1) xs))) accepted
     ∙ ap (λ k. all_done m t k (drop (i + 1) xs)) (sym recorded)
 
 pub done_stops : (m : Labelled) (t : ℕ) (h : History) (xs : List NodeId) (i : ℕ) (x : NodeId) (e : FactRefusal) → i < length xs → x ≡ slice_index_or xs i x
     → done_refusal m h t x.0 ≡ Some e → all_done m t h (drop i xs) ≡ Err e
 done_stops m t h xs i x e inside is refused =
-    one_done m t h xs i x inside is ∙ ap (λ o. unless_refused o (all_done m t (with_done h t x.0) (drop (i + 1) xs))) refused
+    one_done m t h xs i x inside is ∙ ap (λ o. unless_fact_refused o (all_done m t (with_done h t x.0) (drop (i + 1) xs))) refused
 
 -- what has happened is recorded, unless there are too many constraints then
 pub recorded_none : (s : Following) (h : History) (text : List ℕ) → verdict_left s.network h s.fresh s.cap ≡ None → text ≡ too_many → records s h ≡ says text s

@@ -1,13 +1,13 @@
 -- A session that follows stays sound, and its verdicts are true.
 use Rattle.std.proofs.Common.{ℕ, ℤ, ◌≡◌, ◌+◌, ◌<◌, ◌≤◌, Bool, true, false, List, [], ◌∷◌, ◌++◌, length, Option, Some, None, arith, refl, sym, subst, ap, ◌∙◌}
 use Rattle.std.specs.Prelude.{Result, Ok, Err, nat_lt, if◌then◌else◌, codes, decimal, bytes_eq}
-use Rattle.std.specs.List.{All}
+use Rattle.std.specs.List.{All, filter}
 use Rattle.std.proofs.lemmas.List.Quantifiers.{position-Some}
 use Rattle.std.proofs.lemmas.Option.{same_Some}
 use Rattle.cstn_label.specs.declared.nodes.NodeId.{NodeId}
 use Rattle.cstn_label.specs.declared.marks.Mark.TheVariants.{Absent}
 use Rattle.cstn_label.specs.Labels.{Label}
-use Rattle.cstn_net.specs.Limits.{most_constraints, most_deadline}
+use Rattle.cstn_net.specs.Limits.{most_constraints, most_deadline, most_edits}
 use Rattle.cstn_net.specs.Networks.{Constraint, IsWellFormed, count}
 use Rattle.cstn_net.proofs.WellFormed.{well_formed_by}
 use Rattle.cstn_text.specs.Names.{number_of}
@@ -27,28 +27,33 @@ use Rattle.cstn_history.proofs.Recorded.{timely_now, timely_done, timely_told, t
 use Rattle.cstn_lines.specs.EditLines.{Edit, added, removed, changed, asked, IsEdit}
 use Rattle.cstn_lines.specs.FollowLines.{Follow, IsFollow, done_at, came_at, now_at, awaited_at, edits, ends_by, asks_next, asks_by, asks_blame}
 use Rattle.cstn_lines.specs.FollowLines.{asks_rest}
-use Rattle.cstn_change.specs.Changes.{Change, adds, removes, revalues, Refusal, id_above, refusal, constraints_after, fresh_after, IsBetween}
-use Rattle.cstn_change.specs.ChangeLines.{accepted_text, addition_between}
+use Rattle.cstn_change.specs.Changes.{EditedNetwork, Change, adds, removes, revalues, Refusal, EditLimit, id_above, refusal, constraints_after, fresh_after, IsBetween}
+use Rattle.cstn_change.specs.ChangeLines.{accepted_text, refused_text, addition_between}
 use Rattle.cstn_change.proofs.IdLemmas.{above_each, ids_below}
 use Rattle.cstn_change.proofs.PlanLemmas.{edited_labelled}
 use Rattle.cstn_reply.specs.Texts.{line}
 use Rattle.cstn_reply.specs.Sessions.{Turn, more, last, wrong}
 use Rattle.cstn_reply.specs.Reached.{state_after}
 use Rattle.cstn_reply.proofs.Sessions.{first_leads}
-use Rattle.cstn_follow.specs.Following.{Following, Heard, says, saves, begun, verdict_now, verdict_within, on_left_verdict, follows, verdict_line}
-use Rattle.cstn_follow.specs.FactLines.{on_result, records, refuses, refused_fact, unknown_name, unless_refused, all_done, on_known, on_did, nodes_of}
+use Rattle.cstn_follow.specs.Following.{Following, Heard, says, saves, begun_following, verdict_now, verdict_within, on_left_verdict, follows, verdict_line}
+use Rattle.cstn_follow.specs.FactLines.{on_result, records, refuses, refused_fact, unknown_name, unless_fact_refused, all_done, on_known, on_did, nodes_of}
 use Rattle.cstn_follow.specs.FactLines.{unknown_of, on_fact, on_now, on_saw, on_await}
-use Rattle.cstn_follow.specs.PlanLines.{edited_network, on_refusal, on_edit, on_add, on_deadline}
+use Rattle.cstn_follow.specs.PlanLines.{edited_network, replanned, on_refusal, on_edit, on_add, on_deadline}
 use Rattle.cstn_follow.specs.Questions.{next_after, check_after}
 use Rattle.cstn_follow.specs.Searches.{by_number, by_unless, by_after, by_refusal, blame_after}
-use Rattle.cstn_follow.specs.Asking.{Spoken, of_line, of_question, IfLine, spoken_read}
-use Rattle.cstn_follow.specs.Hearing.{on_plan, on_other, on_follow, on_line, counted, hear}
+use Rattle.cstn_follow.specs.Amending.{Amendment, forgives}
+use Rattle.cstn_follow.specs.Asking.{Spoken, of_line, of_question, of_amendment, IfLine, spoken_read}
+use Rattle.cstn_follow.specs.Forgiving.{broken_ids, after_removals}
+use Rattle.cstn_follow.specs.ForgivingLines.{forgiven_line}
+use Rattle.cstn_follow.specs.Hearing.{on_plan, on_other, on_follow, on_amendment, on_line, counted, hear}
+use Rattle.cstn_follow.proofs.Forgiven.{isnt_of, removed_is, part_verdict}
+use Rattle.cstn_follow.proofs.Parts.{part_labelled, part_above}
 use Rattle.cstn_follow.proofs.FurtherLines.{next_of, spoken_is}
 use Rattle.cstn_follow.proofs.InOrder.{IsOfLetters, can_change, changed_in_order}
 use Rattle.cstn_follow.proofs.Edited.{left_fits, within_is}
 use Rattle.cstn_follow.proofs.GoesOn.{verdict_right}
 use Rattle.cstn_follow.specs.Recorded.{IsFact, IsRecorded}
-use Rattle.cstn_follow.specs.Turns.{Writing, IsTrueOf, heard_by, turn_by}
+use Rattle.cstn_follow.specs.Turns.{Writing, IsTrueOfSession, heard_by, turn_by}
 use Rattle.cstn_follow.proofs.RecordedFacts.{IsRefusal, fact_refusal, same_history, are_done, has_passed, has_come, is_expected}
 
 -- the network is labelled and each of its time-points has a name, what has happened is a history of it, its ids are below the
@@ -81,7 +86,7 @@ all_timely m t h g (x ∷ xs) good timely is =
     by_refusal (done_refusal m h t x.0) refl (λ none so. all_timely m t (with_done h t x.0) g xs good (timely_done m h good timely.history timely.in_time t x.0 none) so) is
   where
     by_refusal : (o : Option FactRefusal) → done_refusal m h t x.0 ≡ o → (done_refusal m h t x.0 ≡ None → all_done m t (with_done h t x.0) xs ≡ Ok g → IsTimelyHistory m g)
-        → unless_refused o (all_done m t (with_done h t x.0) xs) ≡ Ok g → IsTimelyHistory m g
+        → unless_fact_refused o (all_done m t (with_done h t x.0) xs) ≡ Ok g → IsTimelyHistory m g
     by_refusal None none goes_on so = goes_on none so
     by_refusal (Some e) some goes_on so = absurd (cc)
 
@@ -174,6 +179,27 @@ deadline_sound s deadline sound within =
     replan_sound s deadline s.network.base.constraints s.edits s.fresh (λ v. line (codes "deadline " ++ decimal deadline)) sound
     (well_formed_by s.network.base deadline sound.labelled.base within) sound.above
 
+-- ---- amendments
+
+-- what is broken is removed, unless there would be too many edits
+forgive_sound : (s : Following) (ids : List ℕ) (b : Bool) → IsSound s
+    → IsSound (next_of (if b then says (line (refused_text EditLimit)) s else says (forgiven_line ids) (replanned s (after_removals (edited_network s) ids))))
+forgive_sound s ids true sound = sound
+forgive_sound s ids false sound =
+    subst (λ (e : EditedNetwork). IsSound (replanned s e)) (sym (removed_is (edited_network s) ids)) (record {
+      labelled = part_labelled s.network (isnt_of ids) sound.labelled;
+      named = sound.named;
+      timely = timely_edited s.network s.history s.network.base.deadline (filter (λ (c : Constraint). isnt_of ids c.id) s.network.base.constraints)
+          sound.timely.history sound.timely.in_time;
+      above = part_above s.network (isnt_of ids) s.fresh sound.above;
+      verdict = part_verdict s.network (isnt_of ids) s.history s.fresh s.cap (verdict_now s) sound.labelled sound.verdict;
+    })
+
+amendment_sound : (s : Following) (amendment : Amendment) → IsSound s → IsSound (next_of (on_amendment s amendment))
+amendment_sound s forgives sound =
+    let ids = broken_ids s.network s.history in
+    forgive_sound s ids (nat_lt most_edits (s.edits + length ids)) sound
+
 -- ---- lines
 
 -- a question changes nothing
@@ -234,6 +260,7 @@ line_sound : (s : Following) (o : Option Spoken) → IsSound s → IfLine o IsFo
 line_sound s None sound is = sound
 line_sound s (Some (of_line line)) sound is = follow_sound s line sound is
 line_sound s (Some (of_question question)) sound is = sound
+line_sound s (Some (of_amendment amendment)) sound is = amendment_sound s amendment sound
 
 pub counted_sound : (s : Following) → IsSound s → IsSound (counted s)
 counted_sound s sound = record { labelled = sound.labelled; named = sound.named; timely = sound.timely; above = sound.above; verdict = sound.verdict }
@@ -270,7 +297,7 @@ nothing_timely m good = record {
   in_time = record { now = omega arith; expected = λ p e is. absurd (cc); origin = λ p e is. absurd (cc) };
 }
 
-pub begun_sound : (cap : ℕ) (names : List (List ℕ)) (m : Labelled) → IsLabelled m → length (lowered m).constraints ≤ most_constraints → length names ≡ count m.base → IsSound (begun cap names m)
+pub begun_sound : (cap : ℕ) (names : List (List ℕ)) (m : Labelled) → IsLabelled m → length (lowered m).constraints ≤ most_constraints → length names ≡ count m.base → IsSound (begun_following cap names m)
 begun_sound cap names m good few named =
     let fresh = id_above m.base.constraints in
     let room : HasRoom m = record { base = good.base.few_constraints; lowered = few } in
@@ -283,5 +310,5 @@ begun_sound cap names m good few named =
     }
 
 -- the verdict of a sound session is true of what has happened
-pub verdict_true : (s : Following) (v : Verdict) → IsSound s → verdict_now s ≡ v → IsTrueOf s v
+pub verdict_true : (s : Following) (v : Verdict) → IsSound s → verdict_now s ≡ v → IsTrueOfSession s v
 verdict_true s v sound is = verdict_right s.network s.history s.fresh s.cap v sound.labelled sound.timely sound.above (sound.verdict ∙ ap Some is)

@@ -12,15 +12,15 @@ use Rattle.cstn_follow.specs.declared.findings.Finding.{Finding}
 use Rattle.cstn_follow.specs.Executions.{ExecutionParts}
 use Rattle.cstn_follow.specs.Findings.{verdict_of}
 use Rattle.cstn_follow.specs.declared.errors.FollowError.{FollowError}
-use Rattle.cstn_follow.specs.FactLines.{unless_refused}
+use Rattle.cstn_follow.specs.FactLines.{unless_fact_refused}
 use Rattle.cstn_follow.specs.Following.{verdict_left}
 use Rattle.cstn_follow.specs.Sessions.{SessionParts, Records, session_parts, unrecorded}
 
-pub fact_refused : (o : Option FactRefusal) (told : Result History FactRefusal) (e : FactRefusal) → Some e ≡ o → unless_refused o told ≡ Err e
-fact_refused o told e is = ap (λ p. unless_refused p told) (sym is)
+pub fact_refused : (o : Option FactRefusal) (told : Result History FactRefusal) (e : FactRefusal) → Some e ≡ o → unless_fact_refused o told ≡ Err e
+fact_refused o told e is = ap (λ p. unless_fact_refused p told) (sym is)
 
-pub fact_accepted : (o : Option FactRefusal) (told : Result History FactRefusal) → None ≡ o → unless_refused o told ≡ told
-fact_accepted o told is = ap (λ p. unless_refused p told) (sym is)
+pub fact_accepted : (o : Option FactRefusal) (told : Result History FactRefusal) → None ≡ o → unless_fact_refused o told ≡ told
+fact_accepted o told is = ap (λ p. unless_fact_refused p told) (sym is)
 
 -- what the calls make of a session doesn't change with an equal account of the facts
 pub records_same : (told same : Result History FactRefusal) (old new : SessionParts) (r : Result Verdict FollowError) → told ≡ same

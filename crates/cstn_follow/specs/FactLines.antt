@@ -12,15 +12,15 @@ use Rattle.cstn_history.specs.Histories.{History}
 use Rattle.cstn_history.specs.Facts.{FactRefusal, Past, OutOfRange, NoSuch, Done, Undecided, NotObserved, Told}
 use Rattle.cstn_history.specs.Facts.{is_beyond, now_refusal, done_refusal, told_refusal, expected_refusal, at_now, with_done, with_told, with_expected}
 use Rattle.cstn_reply.specs.Texts.{line}
-use Rattle.cstn_follow.specs.Following.{Following, Heard, says, name_at, verdict_line, follows}
+use Rattle.cstn_follow.specs.Following.{Following, Heard, says, name_of_point, verdict_line, follows}
 
 -- F1 to F7: what is said of a refused fact
 abbrev pub refused_fact : List (List ℕ) → FactRefusal → List ℕ
 refused_fact names (Past now) = codes "refused F1 " ++ decimal now
 refused_fact names (OutOfRange moment) = codes "refused F2 " ++ decimal moment
-refused_fact names (NoSuch x) = codes "refused F3 " ++ printed_name (name_at names x)
-refused_fact names (Done x moment) = codes "refused F4 " ++ printed_name (name_at names x) ++ 32 ∷ decimal moment
-refused_fact names (Undecided x) = codes "refused F5 " ++ printed_name (name_at names x)
+refused_fact names (NoSuch x) = codes "refused F3 " ++ printed_name (name_of_point names x)
+refused_fact names (Done x moment) = codes "refused F4 " ++ printed_name (name_of_point names x) ++ 32 ∷ decimal moment
+refused_fact names (Undecided x) = codes "refused F5 " ++ printed_name (name_of_point names x)
 refused_fact names (NotObserved p) = codes "refused F6 " ++ letter_of p ∷ []
 refused_fact names (Told p v) = codes "refused F7 " ++ letter_of p ∷ 32 ∷ printed_truth v
 
@@ -40,14 +40,14 @@ abbrev pub on_result : Following → Result History FactRefusal → Heard
 on_result s (Err e) = refuses s e
 on_result s (Ok h) = records s h
 
-abbrev pub unless_refused : Option FactRefusal → Result History FactRefusal → Result History FactRefusal
-unless_refused None more = more
-unless_refused (Some e) more = Err e
+abbrev pub unless_fact_refused : Option FactRefusal → Result History FactRefusal → Result History FactRefusal
+unless_fact_refused None more = more
+unless_fact_refused (Some e) more = Err e
 
 -- what has happened once these time-points were done at t, one after the other; the first that can't be done refuses all
 abbrev pub all_done : Labelled → ℕ → History → List NodeId → Result History FactRefusal
 all_done m t h [] = Ok h
-all_done m t h (x ∷ xs) = unless_refused (done_refusal m h t x.0) (all_done m t (with_done h t x.0) xs)
+all_done m t h (x ∷ xs) = unless_fact_refused (done_refusal m h t x.0) (all_done m t (with_done h t x.0) xs)
 
 -- the first of these names that no time-point has, and the time-points that have these names
 abbrev pub unknown_of : List (List ℕ) → List (List ℕ) → Option (List ℕ)
@@ -72,7 +72,7 @@ on_did s t given = if is_beyond t then refuses s (OutOfRange t) else on_known s 
 
 -- a fact is refused for this, or this is what has happened once it is recorded
 abbrev pub on_fact : Following → Option FactRefusal → History → Heard
-on_fact s refusal h = on_result s (unless_refused refusal (Ok h))
+on_fact s refusal h = on_result s (unless_fact_refused refusal (Ok h))
 
 -- `now`: it is t
 abbrev pub on_now : Following → ℕ → Heard

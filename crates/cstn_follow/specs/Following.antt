@@ -31,8 +31,8 @@ pub record Following : Type 0 where
   pub lines : ℕ
 
 -- a session that begins: nothing has happened yet
-abbrev pub begun : ℕ → List (List ℕ) → Labelled → Following
-begun cap names m = record {
+abbrev pub begun_following : ℕ → List (List ℕ) → Labelled → Following
+begun_following cap names m = record {
   network = m;
   names = names;
   history = nothing_yet;
@@ -46,11 +46,11 @@ begun cap names m = record {
 abbrev pub left_now : Following → Labelled
 left_now s = rest s.network s.history s.fresh
 
-abbrev pub name_at : List (List ℕ) → ℕ → List ℕ
-name_at names x = slice_index_or names x []
+abbrev pub name_of_point : List (List ℕ) → ℕ → List ℕ
+name_of_point names x = slice_index_or names x []
 
 abbrev pub names_left : Following → List (List ℕ)
-names_left s = map (name_at s.names) (left s.network s.history)
+names_left s = map (name_of_point s.names) (left s.network s.history)
 
 -- the verdict on what is left
 abbrev pub verdict_now : Following → Verdict

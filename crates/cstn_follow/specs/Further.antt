@@ -8,16 +8,25 @@ use Rattle.cstn_lift.specs.Lowered.{lowered}
 use Rattle.cstn_check.specs.declared.verdicts.Verdict.{Verdict}
 use Rattle.cstn_check.specs.declared.verdicts.Verdict.TheVariants.{Yes, No, Full}
 use Rattle.cstn_history.specs.Histories.{History}
+use Rattle.cstn_text.specs.Numbers.{printed_value}
+use Rattle.cstn_change.specs.Changes.{NoSuch}
+use Rattle.cstn_change.specs.ChangeLines.{refused_text}
 use Rattle.cstn_reply.specs.Texts.{line, full_line}
-use Rattle.cstn_follow.specs.Asking.{Asked, asks_verdict, asks_until, asks_each, asks_late}
+use Rattle.cstn_follow.specs.Asking.{FurtherQuestion, asks_verdict, asks_until, asks_each, asks_late, asks_raise, asks_least}
 use Rattle.cstn_follow.specs.Following.{Following, Heard, says, left_now, verdict_now, verdict_line, too_many}
 use Rattle.cstn_follow.specs.FactLines.{refused_fact}
 use Rattle.cstn_follow.specs.Lateness.{Late, late_until, late_never, late_refused, late_unknown, late_of}
+use Rattle.cstn_follow.specs.LeastDeadline.{least_of}
 use Rattle.cstn_follow.specs.Pauses.{is_undone, pause_of}
-use Rattle.cstn_follow.specs.Searches.{has_place, by_line}
+use Rattle.cstn_follow.specs.Raises.{raise_of}
+use Rattle.cstn_follow.specs.Searches.{has_place_for_one, by_line}
 use Rattle.cstn_follow.specs.Waiting.{waits_until}
+use Rattle.cstn_follow.specs.declared.answers.LeastDeadline.{LeastDeadline}
+use Rattle.cstn_follow.specs.declared.answers.LeastDeadline.TheVariants.{At, Never, Unknown as IsUnknown}
 use Rattle.cstn_follow.specs.declared.answers.Pause.{Pause}
 use Rattle.cstn_follow.specs.declared.answers.Pause.TheVariants.{Until, Finished, TooManyConstraints, Impossible, Unknown}
+use Rattle.cstn_follow.specs.declared.answers.Raise.{Raise}
+use Rattle.cstn_follow.specs.declared.answers.Raise.TheVariants.{To, Never as IsVain, NoSuch as IsNoId, Possible as IsPossible, Unknown as IsUnfound}
 
 -- `until`: until when nothing at all may happen
 abbrev pub pause_text : ℕ → Verdict → Pause → List ℕ
@@ -64,7 +73,7 @@ each_after names m h fresh cap Full = verdict_line cap Full
 -- `by`: until when each time-point that is left to be done can wait
 abbrev pub each_answer : Following → List ℕ
 each_answer s =
-    if has_place (left_now s).base && has_place (lowered (left_now s)) then each_after s.names s.network s.history s.fresh s.cap (verdict_now s)
+    if has_place_for_one (left_now s).base && has_place_for_one (lowered (left_now s)) then each_after s.names s.network s.history s.fresh s.cap (verdict_now s)
     else too_many
 
 -- `late`: until when the outcome of p may be late
@@ -77,12 +86,34 @@ late_text names cap p late_unknown = full_line cap
 abbrev pub late_answer : Following → ℕ → List ℕ
 late_answer s p = late_text s.names s.cap p (late_of s.network s.history s.fresh s.cap p (verdict_now s))
 
--- what is said to a further question, which changes nothing
-abbrev pub answer_to : Following → Asked → List ℕ
-answer_to s asks_verdict = verdict_line s.cap (verdict_now s)
-answer_to s asks_until = until_answer s
-answer_to s asks_each = each_answer s
-answer_to s (asks_late p) = late_answer s p
+-- `raise`: by how much the constraint of the id has to give way
+abbrev pub raise_text : ℕ → Verdict → ℕ → Raise → List ℕ
+raise_text cap v id (To w) = line (codes "raise " ++ decimal id ++ 32 ∷ printed_value w)
+raise_text cap v id IsVain = line (codes "raise " ++ decimal id ++ codes " none")
+raise_text cap v id IsNoId = line (refused_text (NoSuch id))
+raise_text cap v id IsPossible = verdict_line cap v
+raise_text cap v id IsUnfound = full_line cap
 
-abbrev pub on_asked : Following → Asked → Heard
-on_asked s question = says (answer_to s question) s
+abbrev pub raise_answer : Following → ℕ → List ℕ
+raise_answer s id = raise_text s.cap (verdict_now s) id (raise_of s.network s.history s.fresh s.cap id (verdict_now s))
+
+-- `least`: which deadline is enough
+abbrev pub least_text : ℕ → LeastDeadline → List ℕ
+least_text cap (At n) = line (codes "least " ++ decimal n)
+least_text cap Never = line (codes "least none")
+least_text cap IsUnknown = full_line cap
+
+abbrev pub least_answer : Following → List ℕ
+least_answer s = least_text s.cap (least_of s.network s.history s.fresh s.cap)
+
+-- what is said to a further question, which changes nothing
+abbrev pub answer_to_question : Following → FurtherQuestion → List ℕ
+answer_to_question s asks_verdict = verdict_line s.cap (verdict_now s)
+answer_to_question s asks_until = until_answer s
+answer_to_question s asks_each = each_answer s
+answer_to_question s (asks_late p) = late_answer s p
+answer_to_question s (asks_raise id) = raise_answer s id
+answer_to_question s asks_least = least_answer s
+
+abbrev pub on_asked : Following → FurtherQuestion → Heard
+on_asked s question = says (answer_to_question s question) s

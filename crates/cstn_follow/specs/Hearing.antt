@@ -4,10 +4,12 @@ use Rattle.cstn_net.specs.Limits.{most_deadline}
 use Rattle.cstn_lines.specs.EditLines.{Edit, added, removed, changed, asked}
 use Rattle.cstn_lines.specs.FollowLines.{Follow, done_at, came_at, now_at, awaited_at, edits, ends_by, asks_next, asks_by, asks_blame, asks_rest}
 use Rattle.cstn_reply.specs.Texts.{line}
-use Rattle.cstn_follow.specs.Asking.{Spoken, of_line, of_question}
+use Rattle.cstn_follow.specs.Amending.{Amendment, forgives}
+use Rattle.cstn_follow.specs.Asking.{Spoken, of_line, of_question, of_amendment}
 use Rattle.cstn_follow.specs.Following.{Following, Heard, says}
 use Rattle.cstn_follow.specs.Further.{on_asked}
 use Rattle.cstn_follow.specs.FactLines.{on_did, on_saw, on_now, on_await}
+use Rattle.cstn_follow.specs.ForgivingLines.{on_forgive}
 use Rattle.cstn_follow.specs.PlanLines.{on_add, on_remove, on_change, on_deadline}
 use Rattle.cstn_follow.specs.Questions.{on_next, on_check, on_rest}
 use Rattle.cstn_follow.specs.Searches.{on_by, on_blame}
@@ -40,11 +42,16 @@ on_follow s (asks_by name) = on_by s name
 on_follow s asks_blame = on_blame s
 on_follow s asks_rest = on_rest s
 
+-- what is said to an amendment
+abbrev pub on_amendment : Following → Amendment → Heard
+on_amendment s forgives = on_forgive s
+
 -- what is said to a line, where it is one of the session
 abbrev pub on_line : Following → Option Spoken → Heard
 on_line s None = on_other s
 on_line s (Some (of_line line)) = on_follow s line
 on_line s (Some (of_question question)) = on_asked s question
+on_line s (Some (of_amendment amendment)) = on_amendment s amendment
 
 -- the session that has heard one line more; there are never more than 16,777,217
 abbrev pub counted : Following → Following

@@ -1,7 +1,8 @@
 -- Until when an outcome may be late.
-use Rattle.std.specs.Prelude.{ℕ, ◌≡◌, ◌+◌, ◌<◌, ◌≤◌, Bool, true, false, max, min, nat_lt, Option, None, Some, if◌then◌else◌}
+use Rattle.std.specs.Prelude.{ℕ, ◌≡◌, ◌+◌, ◌<◌, ◌≤◌, ◌⊎◌, Bool, true, false, max, min, nat_lt, Option, None, Some, if◌then◌else◌}
 use Rattle.cstn_lift.specs.Labelled.{Labelled}
-use Rattle.cstn_lift.specs.Lowered.{observer_of}
+use Rattle.cstn_lift.specs.Lowered.{observer_of, lowered}
+use Rattle.cstn_check.specs.Growth.{load_of}
 use Rattle.cstn_check.specs.Search.{halving}
 use Rattle.cstn_check.specs.declared.verdicts.Verdict.{Verdict}
 use Rattle.cstn_check.specs.declared.verdicts.Verdict.TheVariants.{Yes, No, Full}
@@ -9,6 +10,7 @@ use Rattle.cstn_history.specs.Continuations.{Can}
 use Rattle.cstn_history.specs.Facts.{FactRefusal, NotObserved, Told, observed_since, latest_expected, expected_refusal, with_expected}
 use Rattle.cstn_history.specs.Histories.{History, IsObservedAt, known_at}
 use Rattle.cstn_history.specs.Read.{the_fact_refusal}
+use Rattle.cstn_history.specs.Rest.{rest}
 use Rattle.cstn_follow.specs.Following.{verdict_left}
 use Rattle.cstn_follow.specs.Pauses.{said_of}
 use Rattle.cstn_follow.specs.declared.answers.Lateness.{Lateness}
@@ -94,11 +96,17 @@ late_since m h fresh cap p v (Some since) = late_untold m h fresh cap p v since 
 abbrev pub late_of : Labelled → History → ℕ → ℕ → ℕ → Verdict → Late
 late_of m h fresh cap p v = late_since m h fresh cap p v (observed_since m h p)
 
--- the answer is right: the outcome may be as late as this and no later, or it is too late whenever it comes, or this is why it isn't told
-abbrev pub IsRightLate : Labelled → History → ℕ → Late → Type 0
-IsRightLate m h p (late_until t) = IsLastExpected m h p t
-IsRightLate m h p late_never = IsNeverInTime m h p
-IsRightLate m h p (late_refused (NotObserved q)) = (since : ℕ) → IsObservedAt m h p since → ⊥
-IsRightLate m h p (late_refused (Told q v)) = h.told p ≡ Some v
-IsRightLate m h p (late_refused e) = ⊥
-IsRightLate m h p late_unknown = Unit
+-- the log of what is left, as it is or when the outcome of p is expected at some moment, has more entries than it may
+abbrev pub IsLateFull : Labelled → History → ℕ → ℕ → ℕ → Type 0
+IsLateFull m h fresh cap p =
+    (cap < load_of (lowered (rest m h fresh))) ⊎ ((t : ℕ) × (cap < load_of (lowered (rest m (with_expected h t p) fresh))))
+
+-- the answer is right: the outcome may be as late as this and no later, or it is too late whenever it comes, or this is why it isn't told,
+-- or a log that is tried is full
+abbrev pub IsRightLate : Labelled → History → ℕ → ℕ → ℕ → Late → Type 0
+IsRightLate m h fresh cap p (late_until t) = IsLastExpected m h p t
+IsRightLate m h fresh cap p late_never = IsNeverInTime m h p
+IsRightLate m h fresh cap p (late_refused (NotObserved q)) = (since : ℕ) → IsObservedAt m h p since → ⊥
+IsRightLate m h fresh cap p (late_refused (Told q v)) = h.told p ≡ Some v
+IsRightLate m h fresh cap p (late_refused e) = ⊥
+IsRightLate m h fresh cap p late_unknown = IsLateFull m h fresh cap p

@@ -1,15 +1,18 @@
 -- Until when nothing at all may happen.
-use Rattle.std.specs.Prelude.{ℕ, ◌≤◌, Bool, true, false, ◌&&◌, not, max, Option, None, Some, if◌then◌else◌}
+use Rattle.std.specs.Prelude.{ℕ, ◌≡◌, ◌<◌, ◌≤◌, ◌⊎◌, Bool, true, false, ◌&&◌, not, max, Option, None, Some, if◌then◌else◌}
 use Rattle.cstn_net.specs.Limits.{most_deadline}
 use Rattle.cstn_net.specs.Networks.{count}
 use Rattle.cstn_lift.specs.Labelled.{Labelled}
 use Rattle.cstn_lift.specs.Completion.{completed_label}
+use Rattle.cstn_lift.specs.Lowered.{lowered}
+use Rattle.cstn_check.specs.Growth.{load_of}
 use Rattle.cstn_check.specs.Search.{halving}
 use Rattle.cstn_check.specs.declared.verdicts.Verdict.{Verdict}
 use Rattle.cstn_check.specs.declared.verdicts.Verdict.TheVariants.{Yes, No, Full}
 use Rattle.cstn_history.specs.Continuations.{Can}
 use Rattle.cstn_history.specs.Facts.{at_now}
 use Rattle.cstn_history.specs.Histories.{History, is_done, allows}
+use Rattle.cstn_history.specs.Rest.{rest}
 use Rattle.cstn_next.specs.Next.{IsAllDone}
 use Rattle.cstn_follow.specs.Following.{any_below, is_open, is_within_limits, verdict_left}
 use Rattle.cstn_follow.specs.declared.answers.Pause.{Pause}
@@ -70,10 +73,15 @@ pause_by m h fresh cap Full = Unknown
 abbrev pub pause_of : Labelled → History → ℕ → ℕ → Verdict → Pause
 pause_of m h fresh cap v = if has_room_later m h fresh then pause_by m h fresh cap v else TooManyConstraints
 
--- the answer is right: nothing may happen until this moment and no longer; or nothing is left; or no table continues the history
-abbrev pub IsRightPause : Labelled → History → Pause → Type 0
-IsRightPause m h (Until t) = IsLastNow m h t
-IsRightPause m h Finished = Can m h × IsAllDone m h
-IsRightPause m h TooManyConstraints = Unit
-IsRightPause m h Impossible = Can m h → ⊥
-IsRightPause m h Unknown = Unit
+-- the log of what is left, as it is or at another moment, has more entries than it may
+abbrev pub IsPauseFull : Labelled → History → ℕ → ℕ → Type 0
+IsPauseFull m h fresh cap = (cap < load_of (lowered (rest m h fresh))) ⊎ ((t : ℕ) × (cap < load_of (lowered (rest m (at_now h t) fresh))))
+
+-- the answer is right: nothing may happen until this moment and no longer; or nothing is left; or at a later moment there are too many
+-- constraints; or no table continues the history; or a log that is tried is full
+abbrev pub IsRightPause : Labelled → History → ℕ → ℕ → Pause → Type 0
+IsRightPause m h fresh cap (Until t) = IsLastNow m h t
+IsRightPause m h fresh cap Finished = Can m h × IsAllDone m h
+IsRightPause m h fresh cap TooManyConstraints = has_room_later m h fresh ≡ false
+IsRightPause m h fresh cap Impossible = Can m h → ⊥
+IsRightPause m h fresh cap Unknown = IsPauseFull m h fresh cap

@@ -11,7 +11,7 @@ use Rattle.cstn_check.specs.declared.verdicts.Verdict.{Verdict}
 use Rattle.cstn_check.specs.declared.verdicts.Verdict.TheVariants.{Yes, No, Full}
 use Rattle.cstn_next.specs.Next.{next_moment, named, awaited}
 use Rattle.cstn_reply.specs.Texts.{line}
-use Rattle.cstn_follow.specs.Following.{Following, Heard, says, saves, left_now, name_at, names_left, verdict_now, verdict_line}
+use Rattle.cstn_follow.specs.Following.{Following, Heard, says, saves, left_now, name_of_point, names_left, verdict_now, verdict_line}
 
 -- the session goes on as it is, and this is said, or the line of its verdict
 abbrev pub tells : Following → List ℕ → Heard
@@ -22,11 +22,11 @@ tells_verdict s = tells s (verdict_line s.cap (verdict_now s))
 
 -- the time-points that are to be executed, each name behind a space, and the propositions whose outcomes are awaited
 abbrev pub names_text : List (List ℕ) → List ℕ → List ℕ
-names_text names xs = flat_map (λ x. 32 ∷ printed_name (name_at names x)) xs
+names_text names xs = flat_map (λ x. 32 ∷ printed_name (name_of_point names x)) xs
 
-abbrev pub steps_text : List (List ℕ) → List ℕ → List ℕ
-steps_text names [] = []
-steps_text names (x ∷ xs) = codes " do" ++ names_text names (x ∷ xs)
+abbrev pub steps_to_do_text : List (List ℕ) → List ℕ → List ℕ
+steps_to_do_text names [] = []
+steps_to_do_text names (x ∷ xs) = codes " do" ++ names_text names (x ∷ xs)
 
 abbrev pub outcomes_text : List ℕ → List ℕ
 outcomes_text [] = []
@@ -34,7 +34,7 @@ outcomes_text (p ∷ ps) = codes " wait " ++ map letter_of (p ∷ ps)
 
 -- what is next: the moment, the time-points that are to be executed at it, and the propositions whose outcomes are awaited at it
 abbrev pub next_text : List (List ℕ) → ℕ → List ℕ → List ℕ → List ℕ
-next_text names t xs ps = codes "next " ++ decimal t ++ steps_text names xs ++ outcomes_text ps
+next_text names t xs ps = codes "next " ++ decimal t ++ steps_to_do_text names xs ++ outcomes_text ps
 
 -- what is next at this moment, if there is one, by the bounds of a plan of what is left
 abbrev pub next_at : Following → List Bound → Option ℕ → List ℕ

@@ -11,26 +11,26 @@ use Rattle.cstn_check.specs.declared.verdicts.Verdict.TheVariants.{Yes, No, Full
 use Rattle.cstn_history.specs.Histories.{allows}
 use Rattle.cstn_history.specs.Facts.{Done, Undecided}
 use Rattle.cstn_reply.specs.Texts.{line, full_line}
-use Rattle.cstn_follow.specs.Following.{Following, Heard, left_now, name_at, verdict_now, too_many}
+use Rattle.cstn_follow.specs.Following.{Following, Heard, left_now, name_of_point, verdict_now, too_many}
 use Rattle.cstn_follow.specs.FactLines.{unknown_name, refused_fact}
 use Rattle.cstn_follow.specs.Questions.{tells, tells_verdict}
 use Rattle.cstn_follow.specs.Waiting.{waits_until}
 use Rattle.cstn_follow.specs.Blame.{ids_to_blame}
 
 -- F8: what is left, and its lowered network, have no room for one constraint more
-abbrev pub has_place : Network → Bool
-has_place net = nat_lt (length net.constraints) most_constraints
+abbrev pub has_place_for_one : Network → Bool
+has_place_for_one net = nat_lt (length net.constraints) most_constraints
 
 -- why it isn't told until when x can wait: F4, where it was done at the moment given, F5, where it is ruled out, and F8
 abbrev pub by_refusal : Following → ℕ → Option ℕ → Option (List ℕ)
 by_refusal s x (Some t) = Some (line (refused_fact s.names (Done x t)))
 by_refusal s x None =
     if not (allows s.history (completed_label s.network x)) then Some (line (refused_fact s.names (Undecided x)))
-    else if has_place (left_now s).base && has_place (lowered (left_now s)) then None else Some too_many
+    else if has_place_for_one (left_now s).base && has_place_for_one (lowered (left_now s)) then None else Some too_many
 
 -- until when x can wait, or the cap where a log that was tried is full
 abbrev pub by_line : List (List ℕ) → ℕ → ℕ → List ℕ
-by_line names t x = line (codes "by " ++ decimal t ++ 32 ∷ printed_name (name_at names x))
+by_line names t x = line (codes "by " ++ decimal t ++ 32 ∷ printed_name (name_of_point names x))
 
 abbrev pub until_text : Following → ℕ → Option ℕ → List ℕ
 until_text s x (Some t) = by_line s.names t x

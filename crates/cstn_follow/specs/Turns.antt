@@ -21,5 +21,5 @@ abbrev pub turn_by : Writing → Following → List ℕ → Turn Following
 turn_by write s text = heard_by write (hear s (spoken_read text))
 
 -- a verdict is true of what has happened in a session
-abbrev pub IsTrueOf : Following → Verdict → Type 0
-IsTrueOf s v = IsRightVerdict s.network s.history s.fresh s.cap v
+abbrev pub IsTrueOfSession : Following → Verdict → Type 0
+IsTrueOfSession s v = IsRightVerdict s.network s.history s.fresh s.cap v

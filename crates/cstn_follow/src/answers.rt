@@ -58,6 +58,32 @@ pub enum Lateness {
     Unknown,
 }
 
+/// By how much a limit has to give way.
+#[derive(Clone, Copy, Debug, PartialEq, Eq)]
+pub enum Raise {
+    /// To the least value above its own, in ticks.
+    To(i32),
+    /// No value above its own is enough, up to 1,000,000,000.
+    Never,
+    /// S2: no constraint has the id.
+    NoSuch,
+    /// What has happened can go on.
+    Possible,
+    /// A log that is tried is full.
+    Unknown,
+}
+
+/// Which deadline is enough for what has happened.
+#[derive(Clone, Copy, Debug, PartialEq, Eq)]
+pub enum LeastDeadline {
+    /// The least one, in ticks.
+    At(u32),
+    /// None up to 1,000,000.
+    Never,
+    /// The log of what is left by the deadline 1,000,000 is full.
+    Unknown,
+}
+
 /// Which constraints are to blame where what has happened can't go on.
 #[derive(Drop)]
 pub enum ToBlame {

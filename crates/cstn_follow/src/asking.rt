@@ -3,10 +3,14 @@ ghost use Rattle.std.specs.Prelude.{◌≡◌, IfOk, OnErr};
 ghost use Rattle.std.specs.Option.{option_map};
 ghost use Rattle.cstn_lines.specs.FollowLines.{IsNaming};
 ghost use Rattle.cstn_lines.specs.LiveLines.{prop_read};
-ghost use Rattle.cstn_follow.specs.Asking.{the_asked, behind, late_read, asked_read, of_question, the_spoken, spoken_read};
+ghost use Rattle.cstn_follow.specs.Amending.{amendment_read};
+ghost use Rattle.cstn_follow.specs.Asking.{the_further_question, behind_word, late_read, raise_read, asked_read, of_question, the_spoken};
+ghost use Rattle.cstn_follow.specs.Asking.{amended_by, spoken_read};
 
+use crate::amending::{Amendment, amendment_of};
 use cstn_label::Prop;
 use cstn_lines::{FollowLine, read_follow};
+use cstn_text::read_number_within;
 use std::alloc::{AllocError, Global};
 
 /// What a line asks beside the questions of `FollowLine`.
@@ -20,6 +24,10 @@ pub enum Question {
     Each,
     /// `late P`, with P an ASCII letter.
     Late { prop: Prop },
+    /// `raise ID`, with ID a number up to 4,294,967,295.
+    Raise { id: u32 },
+    /// `least`.
+    Least,
 }
 
 /// What a line of a session says.
@@ -29,17 +37,29 @@ pub enum Spoken {
     Line(FollowLine),
     /// A further question.
     Ask(Question),
+    /// An amendment of the plan.
+    Amend(Amendment),
 }
 
-/// What the line of these bytes, without its LF, says: exactly a form of `FollowLine` or of `Question`, with one space between the
-/// parts and no other. None where they are no such line. Fails for want of memory alone, and only at a line that names time-points.
+/// What the line of these bytes, without its LF, says: exactly a form of `FollowLine`, of `Amendment` or of `Question`, with one space
+/// between the parts and no other. None where they are no such line. Fails for want of memory alone, and only at a line that names time-points.
 pub fn read_spoken(alloc: Global, bytes: &[u8]) -> Result<Option<Spoken>, AllocError>
     ensures read { IfOk result (λ line. option_map the_spoken line ≡ spoken_read bytes.now) }
     ensures memory { OnErr result (IsNaming bytes.now) }
 {
     match read_follow(alloc, bytes)? {
         Some(line) => Ok(Some(Spoken::Line(line))),
-        None => Ok(read_question(bytes)),
+        None => Ok(read_further(bytes)),
+    }
+}
+
+// What the bytes amend, or the further question that they ask.
+fn read_further(bytes: &[u8]) -> Option<Spoken>
+    ensures { option_map the_spoken result ≡ amended_by (amendment_read bytes.now) bytes.now }
+{
+    match amendment_of(bytes) {
+        Some(amendment) => Some(Spoken::Amend(amendment)),
+        None => read_question(bytes),
     }
 }
 
@@ -52,7 +72,7 @@ fn read_question(bytes: &[u8]) -> Option<Spoken>
 }
 
 fn question_of(bytes: &[u8]) -> Option<Question>
-    ensures { option_map the_asked result ≡ asked_read bytes.now }
+    ensures { option_map the_further_question result ≡ asked_read bytes.now }
 {
     if bytes == b"verdict".as_slice() {
         return Some(Question::Verdict);
@@ -63,21 +83,36 @@ fn question_of(bytes: &[u8]) -> Option<Question>
     if bytes == b"by".as_slice() {
         return Some(Question::Each);
     }
-    read_late(bytes)
+    if bytes == b"least".as_slice() {
+        return Some(Question::Least);
+    }
+    match read_late(bytes) {
+        Some(question) => Some(question),
+        None => read_raise(bytes),
+    }
 }
 
 // `late P`.
 fn read_late(bytes: &[u8]) -> Option<Question>
-    ensures { option_map the_asked result ≡ late_read bytes.now }
+    ensures { option_map the_further_question result ≡ late_read bytes.now }
 {
-    let letter = behind(bytes, b"late ")?;
+    let letter = behind_word(bytes, b"late ")?;
     let prop = prop_of(letter)?;
     Some(Question::Late { prop })
 }
 
+// `raise ID`.
+fn read_raise(bytes: &[u8]) -> Option<Question>
+    ensures { option_map the_further_question result ≡ raise_read bytes.now }
+{
+    let number = behind_word(bytes, b"raise ")?;
+    let id = read_number_within(0, u32::MAX, number)?;
+    Some(Question::Raise { id })
+}
+
 // What follows these bytes, where a line begins with them.
-fn behind<'a>(bytes: &'a [u8], word: &[u8]) -> Option<&'a [u8]>
-    ensures { option_map (λ rest. rest.now) result ≡ behind word.now bytes.now }
+pub(crate) fn behind_word<'a>(bytes: &'a [u8], word: &[u8]) -> Option<&'a [u8]>
+    ensures { option_map (λ rest. rest.now) result ≡ behind_word word.now bytes.now }
 {
     bytes.strip_prefix(word)
 }

@@ -42,6 +42,28 @@ pub enum ReplanError {
     Memory(AllocError),
 }
 
+/// Why what is broken isn't forgiven.
+#[derive(Clone, Copy, Debug, PartialEq, Eq, Error)]
+pub enum ForgiveError {
+    /// S6: more than 1,000,000 edits would be counted.
+    #[error("no more than 1000000 edits")]
+    EditLimit,
+    /// Memory was refused.
+    #[error("out of memory")]
+    Memory(AllocError),
+}
+
+impl From<AllocError> for ForgiveError {
+    ghost use Rattle.std.specs.Prelude.{◌≡◌};
+    ghost use Rattle.cstn_follow.specs.declared.errors.ForgiveError.TheVariants.{Memory};
+
+    ghost from_gives = { λ x e. e ≡ Memory x };
+
+    fn from(error: AllocError) -> ForgiveError {
+        ForgiveError::Memory(error)
+    }
+}
+
 /// Why it isn't told until when a time-point can wait.
 #[derive(Clone, Copy, Debug, PartialEq, Eq, Error)]
 pub enum WaitError {

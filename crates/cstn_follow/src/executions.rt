@@ -2,7 +2,7 @@
 ghost use Rattle.std.specs.Prelude.{ℕ, ◌≡◌, ◌<◌, ◌≤◌, ◌^◌, None, Some, IsTrue, IfOk, IfErr, IsOk, IsErrOf, max};
 ghost use Rattle.std.specs.List.{All, AllPairs, Contains};
 ghost use Rattle.cstn_net.specs.Limits.{most_deadline};
-ghost use Rattle.cstn_net.specs.Networks.{count};
+ghost use Rattle.cstn_net.specs.Networks.{IsValue, count};
 ghost use Rattle.cstn_lift.specs.Lowered.{lowered};
 ghost use Rattle.cstn_lift.specs.Read.{the_labelled};
 ghost use Rattle.cstn_history.specs.Continuations.{Can, CanWait};
@@ -14,18 +14,20 @@ ghost use Rattle.cstn_history.specs.Rest.{is_left, rest};
 ghost use Rattle.cstn_change.specs.Changes.{id_above};
 ghost use Rattle.cstn_check.specs.Givers.{but, is_of};
 ghost use Rattle.cstn_follow.specs.Blame.{network_alone, ids_to_blame};
+ghost use Rattle.cstn_follow.specs.Copied.{IsSameExecution};
 ghost use Rattle.cstn_follow.specs.Executions.{IsExecution, execution_left};
 ghost use Rattle.cstn_follow.specs.Findings.{verdict_of, IsFindingOn};
 ghost use Rattle.cstn_follow.specs.Following.{verdict_left};
 ghost use Rattle.cstn_follow.specs.Lateness.{said_late};
 ghost use Rattle.cstn_follow.specs.Pauses.{said_of, said_at, has_room_later};
+ghost use Rattle.cstn_follow.specs.Raises.{said_raised};
 ghost use Rattle.cstn_follow.specs.Waiting.{HasRoomToWait, waits_until};
 
 use crate::blames::blame;
 use crate::errors::{BlameError, WaitError};
 use crate::findings::{Finding, finding_left, labelled_network_is_in_order};
 use crate::waits::by;
-use cstn_change::id_above;
+use cstn_change::{Change, changed, id_above, with_deadline};
 use cstn_check::Verdict;
 use cstn_history::{History, RestError, rest};
 use cstn_label::{NodeId, Prop};
@@ -70,6 +72,24 @@ impl Execution {
             network,
             history,
             fresh,
+        })
+    }
+
+    /// A copy of the execution. Fails for want of memory alone.
+    pub fn copy(&self, alloc: Global) -> Result<Execution, AllocError>
+        ensures same { IfOk result (IsSameExecution self.now) }
+        ensures execution { IfOk result IsExecution }
+    {
+        let deadline = self.network.base().deadline();
+        let Some(network) = with_deadline(alloc, &self.network, deadline)? else {
+            unreachable!();
+        };
+        labelled_network_is_in_order(&network);
+        let history = self.history.copy(alloc)?;
+        Ok(Execution {
+            network,
+            history,
+            fresh: self.fresh,
         })
     }
 
@@ -196,6 +216,35 @@ impl Execution {
         match later.expect(&self.network, moment, p) {
             Ok(()) => self.said_after(alloc, &later, cap),
             Err(_) => Ok(None),
+        }
+    }
+
+    /// What a check says of what is left when the constraint with this id has this value, in ticks; none where the log is full, or there
+    /// would be too many constraints.
+    pub fn said_raised(
+        &self,
+        alloc: Global,
+        id: u32,
+        most: i32,
+        cap: Cap,
+    ) -> Result<Option<bool>, AllocError>
+        requires value { IsValue most }
+        ensures said { IfOk result (λ o. o
+            ≡ said_raised (the_labelled self.now.network) (the_history self.now.history) self.now.fresh cap.entries id most) }
+    {
+        let made = changed(
+            alloc,
+            &self.network,
+            self.fresh,
+            Change::Revalue { id, most },
+        )?;
+        let Some(network) = made else {
+            return Ok(None);
+        };
+        match self.finding_replanned(alloc, &network, self.fresh, cap) {
+            Ok(finding) => Ok(said_by(finding.verdict())),
+            Err(RestError::TooManyConstraints) => Ok(None),
+            Err(RestError::Memory(e)) => Err(e),
         }
     }
 

@@ -9,6 +9,7 @@ ghost use Rattle.cstn_lift.specs.Read.{the_labelled};
 ghost use Rattle.cstn_lift.specs.WellFormed.{IsLabelled};
 ghost use Rattle.cstn_history.specs.Read.{the_history, IsKeptFor};
 ghost use Rattle.cstn_history.specs.Rest.{rest};
+ghost use Rattle.cstn_follow.specs.Copied.{IsSameFinding};
 ghost use Rattle.cstn_follow.specs.Findings.{verdict_of, IsFindingOn};
 ghost use Rattle.cstn_follow.specs.Following.{verdict_left};
 
@@ -43,6 +44,24 @@ impl Finding {
                 load: refutation.load(),
             },
             Finding::Unknown => Verdict::Full,
+        }
+    }
+
+    /// A copy of the finding. Fails for want of memory alone.
+    pub fn copy(&self, alloc: Global) -> Result<Finding, AllocError>
+        ensures same { IfOk result (IsSameFinding self.now) }
+    {
+        match self {
+            Finding::Planned { load, plan } => {
+                let plan = plan.copy(alloc)?;
+                Ok(Finding::Planned { load: *load, plan })
+            }
+            Finding::Refuted(refutation) => {
+                let steps = Vec::from_slice(alloc, refutation.steps())?;
+                let copy = Refutation::new(refutation.load(), steps);
+                Ok(Finding::Refuted(copy))
+            }
+            Finding::Unknown => Ok(Finding::Unknown),
         }
     }
 }

@@ -6,14 +6,16 @@ ghost use Rattle.cstn_net.specs.Networks.{count};
 ghost use Rattle.cstn_lift.specs.Read.{the_labelled};
 ghost use Rattle.cstn_text.specs.Names.{number_of};
 ghost use Rattle.cstn_follow.specs.Questions.{tells_verdict};
-ghost use Rattle.cstn_follow.specs.Following.{says, begun, outcome_by, following_ending, verdict_now};
+ghost use Rattle.cstn_follow.specs.Following.{says, begun_following, outcome_by, following_ending, verdict_now};
 ghost use Rattle.cstn_follow.specs.Read.{IsFollowing, the_following};
 
 mod asked;
 mod edits;
 mod facts;
+mod forgiving;
 mod hearing;
 mod questions;
+mod trials;
 
 use crate::session::Session;
 use crate::texts::verdict_line;
@@ -65,7 +67,7 @@ impl Following {
     ) -> Result<Following, AllocError>
         requires named { length names ≡ count (the_labelled network).base }
         requires ids { All (λ c. c.id < 2 ^ 31) (the_labelled network).base.constraints }
-        ensures start { IfOk result (λ f. the_following f ≡ begun cap.entries names (the_labelled network)) }
+        ensures start { IfOk result (λ f. the_following f ≡ begun_following cap.entries names (the_labelled network)) }
     {
         let session = Session::start(alloc, network, cap)?;
         Ok(Following {

@@ -1,5 +1,5 @@
 // Laws of progress, of waiting and of blame.
-ghost use Rattle.std.specs.Prelude.{ℕ, ◌≡◌, ◌+◌, ◌<◌, ◌≤◌, Bool, None, Some, List, IsTrue, length};
+ghost use Rattle.std.specs.Prelude.{ℕ, ℤ, pos, ◌≤ℤ◌, ◌≡◌, ◌+◌, ◌<◌, ◌≤◌, Bool, None, Some, List, IsTrue, length};
 ghost use Rattle.std.specs.List.{All, AllPairs, Contains};
 ghost use Rattle.cstn_label.specs.declared.nodes.NodeId.{NodeId};
 ghost use Rattle.cstn_net.specs.Limits.{most_constraints};
@@ -16,12 +16,14 @@ ghost use Rattle.cstn_history.specs.Facts.{done_refusal, with_done, at_now, with
 ghost use Rattle.cstn_history.specs.Handed.{HasRoom};
 ghost use Rattle.cstn_check.specs.Givers.{is_of, but};
 ghost use Rattle.cstn_check.specs.declared.verdicts.Verdict.{Verdict};
-ghost use Rattle.cstn_follow.specs.Asking.{Asked, IsAsked, printed_asked, of_line, of_question, spoken_read};
+ghost use Rattle.cstn_follow.specs.Asking.{FurtherQuestion, IsFurtherQuestion, printed_asked, of_line, of_question, spoken_read};
 ghost use Rattle.cstn_follow.specs.Blame.{network_alone, ids_to_blame};
 ghost use Rattle.cstn_follow.specs.Eased.{IsEased};
 ghost use Rattle.cstn_follow.specs.Following.{verdict_left};
 ghost use Rattle.cstn_follow.specs.Lateness.{late_of, IsRightLate};
+ghost use Rattle.cstn_follow.specs.LeastDeadline.{least_of, IsRightLeast};
 ghost use Rattle.cstn_follow.specs.Pauses.{pause_of, IsRightPause};
+ghost use Rattle.cstn_follow.specs.Raises.{with_limit, raise_of, IsRightRaise};
 ghost use Rattle.cstn_follow.specs.Progress.{HasRoomLeft, IsQuietUpto, IsHistoryStep, AreHistorySteps, history_after};
 ghost use Rattle.cstn_follow.specs.Waiting.{HasRoomToWait, waiting_one, waits_until};
 
@@ -105,18 +107,41 @@ pub fn waiting_falls()
 /// Until when nothing at all may happen is found by halving: where there is a verdict on what is left, the answer is right.
 pub fn pauses_are_found()
     ensures { (m : Labelled) (h : History) (fresh cap : ℕ) (v : Verdict) → IsLabelled m → IsTimelyHistory m h → All (λ c. c.id < fresh) m.base.constraints
-        → verdict_left m h fresh cap ≡ Some v → IsRightPause m h (pause_of m h fresh cap v) }
+        → verdict_left m h fresh cap ≡ Some v → IsRightPause m h fresh cap (pause_of m h fresh cap v) }
 {}
 
 /// Until when an outcome may be late is found by halving: where there is a verdict on what is left, the answer is right.
 pub fn lateness_is_found()
     ensures { (m : Labelled) (h : History) (fresh cap p : ℕ) (v : Verdict) → IsLabelled m → IsTimelyHistory m h → All (λ c. c.id < fresh) m.base.constraints
-        → verdict_left m h fresh cap ≡ Some v → IsRightLate m h p (late_of m h fresh cap p v) }
+        → verdict_left m h fresh cap ≡ Some v → IsRightLate m h fresh cap p (late_of m h fresh cap p v) }
+{}
+
+/// A looser limit is no worse: a table that continues a history continues it with a greater value of a constraint. From the deadline on
+/// all values are one: with such a value a history can go on where it can with any.
+pub fn looser_limits_are_no_worse()
+    ensures table { (m : Labelled) (h : History) (id : ℕ) (v w : ℤ) (table : Table) → IsLabelled m → v ≤ℤ w
+        → Continues (with_limit m id v) h table → Continues (with_limit m id w) h table }
+    ensures beyond { (m : Labelled) (h : History) (id : ℕ) (v w : ℤ) → IsLabelled m → pos m.base.deadline ≤ℤ w
+        → Can (with_limit m id v) h → Can (with_limit m id w) h }
+{}
+
+/// By how much a limit has to give way is found by halving: where there is a verdict on what is left, the answer is right.
+pub fn raises_are_found()
+    ensures { (m : Labelled) (h : History) (fresh cap id : ℕ) (v : Verdict) → IsLabelled m → IsTimelyHistory m h → All (λ c. c.id < fresh) m.base.constraints
+        → verdict_left m h fresh cap ≡ Some v → IsRightRaise m h fresh cap id (raise_of m h fresh cap id v) }
+{}
+
+/// The least deadline by which a history can go on is found by one check, of what is left by the deadline 1,000,000: where there is a
+/// verdict on what is left, the answer is right.
+pub fn least_deadlines_are_found()
+    ensures { (m : Labelled) (h : History) (fresh cap : ℕ) (v : Verdict) → IsLabelled m → IsTimelyHistory m h → All (λ c. c.id < fresh) m.base.constraints
+        → verdict_left m h fresh cap ≡ Some v → IsRightLeast m h fresh cap (least_of m h fresh cap) }
 {}
 
 /// A further question has one text, and no text of one is a line that tells, edits or asks otherwise.
 pub fn questions_have_one_text()
-    ensures back { (question : Asked) → IsAsked question → spoken_read (printed_asked question) ≡ Some (of_question question) }
-    ensures only { (text : List ℕ) (question : Asked) → spoken_read text ≡ Some (of_question question) → (printed_asked question ≡ text) × IsAsked question }
+    ensures back { (question : FurtherQuestion) → IsFurtherQuestion question → spoken_read (printed_asked question) ≡ Some (of_question question) }
+    ensures only { (text : List ℕ) (question : FurtherQuestion) → spoken_read text ≡ Some (of_question question)
+        → (printed_asked question ≡ text) × IsFurtherQuestion question }
     ensures others { (text : List ℕ) (line : Follow) → follow_read text ≡ Some line → spoken_read text ≡ Some (of_line line) }
 {}

@@ -3,10 +3,11 @@ ghost use Rattle.std.specs.Prelude.{◌≡◌, ◌++◌, ◌∷◌, [], map, IfO
 ghost use Rattle.cstn_label.specs.Letters.{letter_of};
 ghost use Rattle.cstn_text.specs.PrintedNames.{printed_name};
 ghost use Rattle.cstn_reply.specs.Texts.{line};
-ghost use Rattle.cstn_follow.specs.Questions.{names_text, steps_text, outcomes_text, next_text};
+ghost use Rattle.cstn_follow.specs.ForgivingLines.{forgiven_line};
+ghost use Rattle.cstn_follow.specs.Questions.{names_text, steps_to_do_text, outcomes_text, next_text};
 ghost use Rattle.cstn_follow.specs.Searches.{by_line, ids_text};
 
-use crate::texts::{ROOM, name_at};
+use crate::texts::{ROOM, name_of_point};
 use cstn_label::{NodeId, Prop};
 use cstn_next::NextMoment;
 use cstn_text::{Names, print_name};
@@ -42,7 +43,7 @@ fn put_steps(
     names: &Names,
     nodes: &[NodeId],
 ) -> Result<(), AllocError>
-    ensures { IfOk result (λ _. text.new.items ≡ text.old.items ++ steps_text names.now (map (λ x. x.0) nodes.now)) }
+    ensures { IfOk result (λ _. text.new.items ≡ text.old.items ++ steps_to_do_text names.now (map (λ x. x.0) nodes.now)) }
 {
     if nodes.is_empty() {
         return Ok(());
@@ -61,7 +62,7 @@ fn put_names(
     ensures { IfOk result (λ _. text.new.items ≡ text.old.items ++ names_text names.now (map (λ x. x.0) nodes.now)) }
 {
     for x in nodes {
-        put_name(alloc, text, name_at(names, *x))?;
+        put_name(alloc, text, name_of_point(names, *x))?;
     }
     Ok(())
 }
@@ -101,7 +102,7 @@ pub fn by_line(alloc: Global, names: &Names, moment: u32, x: NodeId) -> Result<V
     let mut text = Vec::with_capacity(alloc, ROOM)?;
     text.extend_from_slice(b"by ")?;
     text.extend_from_slice(digits.format(moment).as_bytes())?;
-    put_name(alloc, &mut text, name_at(names, x))?;
+    put_name(alloc, &mut text, name_of_point(names, x))?;
     text.push(b'\n')?;
     Ok(text)
 }
@@ -126,6 +127,17 @@ pub fn blame_line(alloc: Global, ids: &[u32]) -> Result<Vec<u8>, AllocError>
 {
     let mut text = Vec::with_capacity(alloc, ROOM)?;
     text.extend_from_slice(b"blame")?;
+    put_ids(&mut text, ids)?;
+    text.push(b'\n')?;
+    Ok(text)
+}
+
+/// The line of the ids of the constraints that are forgiven.
+pub fn forgiven_line(alloc: Global, ids: &[u32]) -> Result<Vec<u8>, AllocError>
+    ensures line { IfOk result (λ text. text.items ≡ forgiven_line ids.now) }
+{
+    let mut text = Vec::with_capacity(alloc, ROOM)?;
+    text.extend_from_slice(b"forgiven")?;
     put_ids(&mut text, ids)?;
     text.push(b'\n')?;
     Ok(text)

@@ -71,7 +71,8 @@ pub(crate) fn sources(alloc: Global, network: &Labelled) -> Result<Vec<u32>, All
     Ok(ids)
 }
 
-fn push_if(ids: &mut Vec<u32>, id: u32, is_kept: bool) -> Result<(), AllocError>
+/// Puts an id behind the others, if it is kept.
+pub(crate) fn push_if(ids: &mut Vec<u32>, id: u32, is_kept: bool) -> Result<(), AllocError>
     ensures { IfOk result (λ _. ids.new.items ≡ ids.old.items ++ (if is_kept then id ∷ [] else [])) }
 {
     if is_kept {
@@ -80,8 +81,8 @@ fn push_if(ids: &mut Vec<u32>, id: u32, is_kept: bool) -> Result<(), AllocError>
     Ok(())
 }
 
-// Whether the full label of a constraint is plain.
-fn is_plain(network: &Labelled, c: &Constraint) -> bool
+/// Whether the full label of a constraint is plain.
+pub(crate) fn is_plain(network: &Labelled, c: &Constraint) -> bool
     requires range { IsInRange (count (the_labelled network.now).base) c.now }
     requires given { IsConstraintOf (the_labelled network.now) (the_constraint c.now) }
     ensures { result ≡ is_plain (full_label (the_labelled network.now) (the_constraint c.now)) }

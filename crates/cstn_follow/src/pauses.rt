@@ -19,7 +19,8 @@ pub(crate) fn last_now(
     execution: &Execution,
     cap: Cap,
 ) -> Result<Option<u32>, AllocError>
-    ensures { IfOk result (λ o. o ≡ halving (said_at (the_labelled execution.now.network) (the_history execution.now.history) execution.now.fresh cap.entries) 20
+    ensures { IfOk result (λ o. o
+        ≡ halving (said_at (the_labelled execution.now.network) (the_history execution.now.history) execution.now.fresh cap.entries) 20
         (record { low = execution.now.history.time; high = execution.now.network.base.deadline })) }
 {
     let span = Span {

@@ -15,9 +15,13 @@ ghost use Rattle.cstn_follow.specs.Sessions.{IsSession, IsRightNow};
 
 mod edits;
 mod facts;
+mod forgiving;
 mod lateness;
+mod least;
 mod pauses;
 mod questions;
+mod raise;
+mod trials;
 
 use crate::executions::Execution;
 use crate::findings::Finding;

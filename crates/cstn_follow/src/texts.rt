@@ -3,7 +3,7 @@ ghost use Rattle.std.specs.Prelude.{◌≡◌, ◌≤◌, ◌++◌, ◌∷◌, [
 ghost use Rattle.cstn_label.specs.Letters.{letter_of};
 ghost use Rattle.cstn_history.specs.Read.{the_fact_refusal};
 ghost use Rattle.cstn_reply.specs.Texts.{line};
-ghost use Rattle.cstn_follow.specs.Following.{verdict_line, too_many, name_at};
+ghost use Rattle.cstn_follow.specs.Following.{verdict_line, too_many, name_of_point};
 ghost use Rattle.cstn_follow.specs.FactLines.{refused_fact, unknown_name};
 ghost use Rattle.cstn_text.specs.PrintedNames.{printed_name};
 ghost use Rattle.cstn_lines.specs.LiveLines.{printed_truth};
@@ -113,8 +113,8 @@ pub fn unknown_name(alloc: Global, name: &str) -> Result<Vec<u8>, AllocError>
 }
 
 /// The name of a time-point, or no text where there is none.
-pub fn name_at(names: &Names, x: NodeId) -> &str
-    ensures { result.now ≡ name_at names.now x.0 }
+pub fn name_of_point(names: &Names, x: NodeId) -> &str
+    ensures { result.now ≡ name_of_point names.now x.0 }
 {
     if x.0 as u32 >= names.count() {
         return "";
@@ -129,9 +129,9 @@ pub fn refused_fact(alloc: Global, names: &Names, error: FactError) -> Result<Ve
     match error {
         FactError::Past { now } => number_line(alloc, b"refused F1 ", now),
         FactError::OutOfRange { moment } => number_line(alloc, b"refused F2 ", moment),
-        FactError::NoSuch { node } => unknown_name(alloc, name_at(names, node)),
-        FactError::Done { node, moment } => done_line(alloc, name_at(names, node), moment),
-        FactError::Undecided { node } => undecided_line(alloc, name_at(names, node)),
+        FactError::NoSuch { node } => unknown_name(alloc, name_of_point(names, node)),
+        FactError::Done { node, moment } => done_line(alloc, name_of_point(names, node), moment),
+        FactError::Undecided { node } => undecided_line(alloc, name_of_point(names, node)),
         FactError::NotObserved { prop } => prop_line(alloc, b"refused F6 ", prop),
         FactError::Told { prop, value } => told_line(alloc, prop, value),
     }

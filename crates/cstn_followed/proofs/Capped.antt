@@ -1,10 +1,10 @@
 -- With a larger cap the same is said, but where a log had more entries than the smaller one.
-use Rattle.std.proofs.Common.{ℕ, zero, suc, ◌≡◌, ◌+◌, ◌-◌, ◌≤◌, Bool, true, false, List, [], ◌∷◌, ◌++◌, Option, Some, None, arith, refl, sym, subst, ap, ◌∙◌}
+use Rattle.std.proofs.Common.{ℕ, zero, suc, ◌≡◌, ◌+◌, ◌-◌, ◌≤◌, Bool, true, false, List, [], ◌∷◌, ◌++◌, length, Option, Some, None, arith, refl, sym, subst, ap, ◌∙◌}
 use Rattle.std.proofs.Common.{inl, inr}
 use Rattle.std.specs.Prelude.{◌⊎◌, Result, Ok, Err, nat_lt, if◌then◌else◌, option_and_then, codes, decimal}
 use Rattle.std.specs.Option.{option_map}
 use Rattle.std.proofs.lemmas.Option.{same_Some}
-use Rattle.cstn_net.specs.Limits.{most_constraints, most_deadline}
+use Rattle.cstn_net.specs.Limits.{most_constraints, most_deadline, most_edits}
 use Rattle.cstn_net.specs.Networks.{Network}
 use Rattle.cstn_text.specs.Names.{number_of}
 use Rattle.cstn_lift.specs.Labelled.{Labelled}
@@ -24,11 +24,11 @@ use Rattle.cstn_reply.specs.Sessions.{Turn, more}
 use Rattle.cstn_reply.specs.Reached.{state_after}
 use Rattle.cstn_reply.proofs.Sessions.{first_leads, state_more}
 use Rattle.cstn_save.specs.Canonical.{canonical}
-use Rattle.cstn_change.specs.Changes.{EditedNetwork, Change, removes, revalues, Refusal, refusal, after}
-use Rattle.cstn_change.specs.ChangeLines.{addition, accepted_text}
+use Rattle.cstn_change.specs.Changes.{EditedNetwork, Change, removes, revalues, Refusal, EditLimit, refusal, after}
+use Rattle.cstn_change.specs.ChangeLines.{addition, accepted_text, refused_text}
 use Rattle.cstn_follow.specs.Replans.{with_due}
 use Rattle.cstn_follow.specs.Following.{Following, Heard, says, saves, left_now, verdict_now, is_within_limits, on_left_verdict, follows, verdict_line}
-use Rattle.cstn_follow.specs.FactLines.{on_result, records, refuses, all_done, on_known, on_did, nodes_of, unknown_of, unless_refused, on_fact}
+use Rattle.cstn_follow.specs.FactLines.{on_result, records, refuses, all_done, on_known, on_did, nodes_of, unknown_of, unless_fact_refused, on_fact}
 use Rattle.cstn_follow.specs.PlanLines.{edited_network, replanned, on_refusal, on_edit, on_deadline}
 use Rattle.cstn_follow.specs.Questions.{next_after, check_after}
 use Rattle.cstn_follow.specs.Searches.{by_number, by_unless, by_after, until_text, by_refusal, blame_line, blame_after}
@@ -38,8 +38,11 @@ use Rattle.cstn_check.specs.Search.{narrowed, left_by, middle, halved, halving}
 use Rattle.cstn_follow.specs.Tries.{with_base}
 use Rattle.cstn_follow.specs.Waiting.{rest_until, tried_until, waits_until}
 use Rattle.cstn_follow.specs.Blame.{said_by_network, ids_to_blame}
-use Rattle.cstn_follow.specs.Asking.{Spoken, of_line, of_question, spoken_read}
-use Rattle.cstn_follow.specs.Hearing.{counted, on_plan, on_other, on_follow, on_line, hear}
+use Rattle.cstn_follow.specs.Asking.{Spoken, of_line, of_question, of_amendment, spoken_read}
+use Rattle.cstn_follow.specs.Amending.{Amendment, forgives}
+use Rattle.cstn_follow.specs.Forgiving.{broken_ids, after_removals}
+use Rattle.cstn_follow.specs.ForgivingLines.{forgiven_line}
+use Rattle.cstn_follow.specs.Hearing.{counted, on_plan, on_other, on_follow, on_amendment, on_line, hear}
 use Rattle.cstn_follow.specs.Turns.{heard_by}
 use Rattle.cstn_follow.proofs.States.{IsSound, next_sound}
 use Rattle.cstn_follow.proofs.Points.{turn_keeps}
@@ -108,7 +111,7 @@ module _ (s : Following) (larger : ℕ) (upto : s.cap ≤ larger) where
       by_moment false None = result_alike (all_done s.network t s.history (nodes_of s.names given))
 
   fact_alike : (o : Option FactRefusal) (h : History) → Alike (on_fact s o h) (on_fact Other o h)
-  fact_alike o h = result_alike (unless_refused o (Ok h))
+  fact_alike o h = result_alike (unless_fact_refused o (Ok h))
 
   -- the network of the session becomes this one
   replan_alike : (e : EditedNetwork) (text : List ℕ) → Alike (follows s (replanned s e) (λ v. text)) (follows Other (replanned Other e) (λ v. text))
@@ -228,10 +231,22 @@ module _ (s : Following) (larger : ℕ) (upto : s.cap ≤ larger) where
   follow_alike asks_blame = blame_alike
   follow_alike asks_rest = (refl, (refl, refl))
 
+  forgive_alike : (ids : List ℕ) (b : Bool)
+      → Alike (if b then says (line (refused_text EditLimit)) s else says (forgiven_line ids) (replanned s (after_removals (edited_network s) ids)))
+      (if b then says (line (refused_text EditLimit)) Other else says (forgiven_line ids) (replanned Other (after_removals (edited_network Other) ids)))
+  forgive_alike ids true = (refl, inl refl)
+  forgive_alike ids false = (refl, inl refl)
+
+  amendment_alike : (amendment : Amendment) → Alike (on_amendment s amendment) (on_amendment Other amendment)
+  amendment_alike forgives =
+      let ids = broken_ids s.network s.history in
+      forgive_alike ids (nat_lt most_edits (s.edits + length ids))
+
   pub line_alike : (o : Option Spoken) → Alike (on_line s o) (on_line Other o)
   line_alike None = (refl, inl refl)
   line_alike (Some (of_line line)) = follow_alike line
   line_alike (Some (of_question question)) = (refl, answers_alike s larger upto question)
+  line_alike (Some (of_amendment amendment)) = amendment_alike amendment
 
 -- ---- turns
 
@@ -241,7 +256,7 @@ pub record AnswersAlike (cap larger : ℕ) (text : List ℕ) (next : Following) 
   pub turn : other ≡ more said (with_cap next larger)
   pub same : (said ≡ text) ⊎ (text ≡ full_line cap)
 
-turn_alike : (cap larger : ℕ) (text : List ℕ) (next : Following) (one two : Heard) → IsAlike cap larger one two
+pub turn_alike : (cap larger : ℕ) (text : List ℕ) (next : Following) (one two : Heard) → IsAlike cap larger one two
     → heard_by canonical one ≡ more text next → AnswersAlike cap larger text next (heard_by canonical two)
 turn_alike cap larger text next (says words later) (says others after) alike is =
     let same_words : words ≡ text = cc in

@@ -1,12 +1,13 @@
 -- What lines make of the plan and of what has happened.
-use Rattle.std.proofs.Common.{ℕ, ℤ, ◌≡◌, ◌+◌, ◌<◌, ◌≤◌, Bool, true, false, List, [], ◌∷◌, ◌++◌, Option, Some, None, arith, refl, sym, subst, ap, ◌∙◌, inl, inr}
+use Rattle.std.proofs.Common.{ℕ, ℤ, ◌≡◌, ◌+◌, ◌<◌, ◌≤◌, Bool, true, false, List, [], ◌∷◌, ◌++◌, length, Option, Some, None, arith, refl, sym, subst, ap, ◌∙◌, inl, inr}
 use Rattle.std.specs.Prelude.{◌⊎◌, Result, Ok, Err, nat_lt, if◌then◌else◌, codes, decimal}
+use Rattle.std.specs.Option.{option_map}
 use Rattle.std.proofs.lemmas.Bool.{false≢true}
 use Rattle.std.proofs.lemmas.List.Elements.{All-weaker}
 use Rattle.std.proofs.lemmas.Option.{same_Some}
 use Rattle.cstn_label.specs.Labels.{Label}
 use Rattle.cstn_label.specs.Letters.{letter_of}
-use Rattle.cstn_net.specs.Limits.{most_constraints, most_deadline}
+use Rattle.cstn_net.specs.Limits.{most_constraints, most_deadline, most_edits}
 use Rattle.cstn_net.specs.Networks.{Constraint}
 use Rattle.cstn_text.specs.Names.{number_of}
 use Rattle.cstn_text.specs.Numbers.{printed_value}
@@ -26,19 +27,24 @@ use Rattle.cstn_save.specs.Canonical.{canonical}
 use Rattle.cstn_follow.specs.Following.{Following, Heard, says, saves, verdict_now, verdict_within, on_left_verdict, follows}
 use Rattle.cstn_follow.specs.PlanLines.{edited_network, replanned, on_refusal, on_edit, on_add, on_deadline}
 use Rattle.cstn_follow.specs.Replans.{with_due}
-use Rattle.cstn_follow.specs.Asking.{Spoken, spoken_read}
+use Rattle.cstn_follow.specs.Amending.{Amendment, forgives, amendment_read}
+use Rattle.cstn_follow.specs.Asking.{FurtherQuestion, asked_read, Spoken, of_line, of_question, of_amendment, amended_by, spoken_by, spoken_read}
+use Rattle.cstn_follow.specs.Forgiving.{broken_ids, after_removals}
+use Rattle.cstn_follow.specs.ForgivingLines.{forgiven_line}
 use Rattle.cstn_follow.specs.Hearing.{on_other, on_follow, counted, hear}
 use Rattle.cstn_follow.specs.Recorded.{IsRecorded}
 use Rattle.cstn_follow.specs.Turns.{heard_by}
+use Rattle.cstn_follow.proofs.Forgiven.{removed_is}
 use Rattle.cstn_follow.proofs.FurtherLines.{next_of, line_spoken, others_keep}
 use Rattle.cstn_follow.proofs.States.{IsSound, next_keeps, check_keeps, blame_keeps, by_keeps, next_sound}
 use Rattle.cstn_follow.proofs.Points.{turn_keeps}
 use Rattle.cstn_followed.specs.Sessions.{IsReached, follow_turn}
 use Rattle.cstn_followed.specs.Answers.{Accepts}
 use Rattle.cstn_followed.specs.Plans.{IsRefusedBy}
-use Rattle.cstn_followed.specs.Journal.{is_refusal, accepted_of, kept_unless_refused}
-use Rattle.cstn_followed.specs.Edits.{change_if, change_said, after_if, IsAcceptedText, plan_told, plan_by_lines, IsHistoryTold, IsHistoryByLines, IsEditLine}
-use Rattle.cstn_followed.specs.Edits.{Edits, IsNew}
+use Rattle.cstn_followed.specs.Journal.{accepted_of, kept_unless_refused}
+use Rattle.cstn_follow.specs.Trials.{is_refusal}
+use Rattle.cstn_followed.specs.Edits.{change_if, change_said, after_if, IsAcceptedText, plan_told, plan_spoken, IsPlanByLines, IsHistoryTold, IsHistoryByLines, IsEditLine}
+use Rattle.cstn_followed.specs.Edits.{Edits, Forgives, IsNew}
 use Rattle.cstn_followed.proofs.Verdicts.{reached_sound, fact_accepted}
 use Rattle.cstn_followed.proofs.Refusals.{refusal_stays}
 use Rattle.cstn_followed.proofs.Journals.{accepted_more}
@@ -128,24 +134,29 @@ edit_answered s next bytes text edit reads is answered =
 
 -- ---- a line that is accepted
 
--- what it makes of the plan and of what has happened
-pub record IsTold (s next : Following) (o : Option Follow) : Type 0 where
-  pub plan : edited_network next ≡ plan_told s.names (edited_network s) o
+-- what it makes of the plan, where it says this, and of what has happened, where it tells, edits or asks so
+pub record IsTold (s next : Following) (o : Option Follow) (said : Option Spoken) : Type 0 where
+  pub plan : edited_network next ≡ plan_spoken s.names s.network.labels (edited_network s) s.history said
   pub labels : next.network.labels ≡ s.network.labels
   pub history : IsHistoryTold s.names s.history o next.history
   pub fresh : s.fresh ≤ next.fresh
 
-nothing_told : (s next : Following) (o : Option Follow) → plan_told s.names (edited_network s) o ≡ edited_network s → IsHistoryTold s.names s.history o s.history
-    → next ≡ counted s → IsTold s next o
-nothing_told s next o plan history same =
-    subst (λ (g : Following). IsTold s g o) (sym same) (record { plan = sym plan; labels = refl; history = history; fresh = omega arith })
+nothing_told : (s next : Following) (o : Option Follow) (said : Option Spoken)
+    → plan_spoken s.names s.network.labels (edited_network s) s.history said ≡ edited_network s → IsHistoryTold s.names s.history o s.history
+    → next ≡ counted s → IsTold s next o said
+nothing_told s next o said plan history same =
+    subst (λ (g : Following). IsTold s g o said) (sym same) (record { plan = sym plan; labels = refl; history = history; fresh = omega arith })
+
+none_said : (s next : Following) (line : Follow) → plan_told s.names (edited_network s) (Some line) ≡ edited_network s
+    → IsHistoryTold s.names s.history (Some line) s.history → next ≡ counted s → IsTold s next (Some line) (Some (of_line line))
+none_said s next line = nothing_told s next (Some line) (Some (of_line line))
 
 fact_told : (s next : Following) (fact : Follow) (text : List ℕ) → plan_told s.names (edited_network s) (Some fact) ≡ edited_network s
     → ((h : History) → IsRecorded s.names s.history fact h → IsHistoryTold s.names s.history (Some fact) h) → is_refusal text ≡ false
-    → IsRefusedBy s text next ⊎ Accepts s fact text next → IsTold s next (Some fact)
+    → IsRefusedBy s text next ⊎ Accepts s fact text next → IsTold s next (Some fact) (Some (of_line fact))
 fact_told s next fact text plan history fine (inl refused) = absurd (false≢true (sym fine ∙ ap is_refusal refused.1.1))
 fact_told s next fact text plan history fine (inr accepts) =
-    subst (λ (g : Following). IsTold s g (Some fact)) (sym accepts.next_is)
+    subst (λ (g : Following). IsTold s g (Some fact) (Some (of_line fact))) (sym accepts.next_is)
     (record { plan = sym plan; labels = refl; history = history accepts.later accepts.recorded; fresh = omega arith })
 
 -- an id above all that were used stays above them
@@ -168,9 +179,9 @@ fresh_told names e asks_blame is = absurd is
 fresh_told names e asks_rest is = absurd is
 
 edit_told : (s next : Following) (edit : Follow) (text : List ℕ) → IsEditLine edit → ((h : History) → h ≡ s.history → IsHistoryTold s.names s.history (Some edit) h)
-    → is_refusal text ≡ false → IsRefusedBy s text next ⊎ Edits s edit text next → IsTold s next (Some edit)
+    → is_refusal text ≡ false → IsRefusedBy s text next ⊎ Edits s edit text next → IsTold s next (Some edit) (Some (of_line edit))
 edit_told s next edit text is history fine (inl refused) = absurd (false≢true (sym fine ∙ ap is_refusal refused.1.1))
-edit_told s next edit text is history fine (inr made) = subst (λ (g : Following). IsTold s g (Some edit)) (sym made.next_is) (record {
+edit_told s next edit text is history fine (inr made) = subst (λ (g : Following). IsTold s g (Some edit) (Some (of_line edit))) (sym made.next_is) (record {
   plan = refl;
   labels = refl;
   history = history s.history refl;
@@ -197,10 +208,60 @@ kept_by_line : (s next : Following) (bytes text : List ℕ) (line : Follow) → 
 kept_by_line s next bytes text line reads same answered =
     kept_by s next bytes text (ap (λ (o : Option Spoken). next_of (hear s o)) (line_spoken bytes line reads) ∙ same) answered
 
+-- ---- what is broken is forgiven
+
+upto_most : (n : ℕ) → nat_lt most_edits n ≡ false → n ≤ most_edits
+upto_most n few = grind arith
+
+-- what a turn says to `forgive`
+abbrev TurnForgives : Following → Turn Following → Type 0
+TurnForgives s (more text next) = IsRefusedBy s text next ⊎ Forgives s text next
+TurnForgives s (last said) = ⊥
+TurnForgives s wrong = ⊥
+
+forgive_says : (s : Following) (b : Bool) → nat_lt most_edits (s.edits + length (broken_ids s.network s.history)) ≡ b
+    → TurnForgives s (heard_by canonical (if b then says (line (refused_text EditLimit)) (counted s)
+    else says (forgiven_line (broken_ids s.network s.history)) (replanned (counted s) (after_removals (edited_network s) (broken_ids s.network s.history)))))
+forgive_says s true many = inl (refl, (codes "S6", refl))
+forgive_says s false few = inr (record { few = upto_most (s.edits + length (broken_ids s.network s.history)) few; next_is = refl; text_is = refl })
+
+pub forgive_answered : (s next : Following) (bytes text : List ℕ) → spoken_read bytes ≡ Some (of_amendment forgives) → follow_turn s bytes ≡ more text next
+    → IsRefusedBy s text next ⊎ Forgives s text next
+forgive_answered s next bytes text reads answered =
+    subst (TurnForgives s) (ap (λ (o : Option Spoken). heard_by canonical (hear s o)) (sym reads) ∙ answered)
+    (forgive_says s (nat_lt most_edits (s.edits + length (broken_ids s.network s.history))) refl)
+
+forgive_told : (s next : Following) (text : List ℕ) → is_refusal text ≡ false → IsRefusedBy s text next ⊎ Forgives s text next
+    → IsTold s next None (Some (of_amendment forgives))
+forgive_told s next text fine (inl refused) = absurd (false≢true (sym fine ∙ ap is_refusal refused.1.1))
+forgive_told s next text fine (inr made) = subst (λ (g : Following). IsTold s g None (Some (of_amendment forgives))) (sym made.next_is) (record {
+  plan = refl;
+  labels = refl;
+  history = refl;
+  fresh =
+      let same = ap (λ (e : EditedNetwork). e.fresh) (removed_is (edited_network s) (broken_ids s.network s.history)) in
+      omega arith;
+})
+
+-- a line that tells, edits or asks nothing amends the plan, or asks further
+amended_told : (s next : Following) (bytes text : List ℕ) → follow_read bytes ≡ None → follow_turn s bytes ≡ more text next → is_refusal text ≡ false
+    → IsTold s next None (spoken_by None bytes)
+amended_told s next bytes text reads answered fine = by_amendment (amendment_read bytes) refl
+  where
+    by_question : amendment_read bytes ≡ None → (o : Option FurtherQuestion) → IsTold s next None (option_map of_question o)
+    by_question none None = nothing_told s next None None refl refl (kept_by s next bytes text (others_keep (counted s) bytes reads none) answered)
+    by_question none (Some question) =
+        nothing_told s next None (Some (of_question question)) refl refl (kept_by s next bytes text (others_keep (counted s) bytes reads none) answered)
+
+    by_amendment : (o : Option Amendment) → amendment_read bytes ≡ o → IsTold s next None (amended_by o bytes)
+    by_amendment None is = by_question is (asked_read bytes)
+    by_amendment (Some forgives) is =
+        let spoken = ap (λ f. spoken_by f bytes) reads ∙ ap (λ o. amended_by o bytes) is in
+        forgive_told s next text fine (forgive_answered s next bytes text spoken answered)
+
 pub line_told : (s next : Following) (bytes text : List ℕ) → IsSound s → (o : Option Follow) → follow_read bytes ≡ o → follow_turn s bytes ≡ more text next
-    → is_refusal text ≡ false → IsTold s next o
-line_told s next bytes text sound None reads answered fine =
-    nothing_told s next None refl refl (kept_by s next bytes text (others_keep (counted s) bytes reads) answered)
+    → is_refusal text ≡ false → IsTold s next o (spoken_by o bytes)
+line_told s next bytes text sound None reads answered fine = amended_told s next bytes text reads answered fine
 line_told s next bytes text sound (Some (done_at t given)) reads answered fine =
     fact_told s next (done_at t given) text refl (λ h is. is) fine (fact_accepted s next bytes text (done_at t given) sound reads tt answered)
 line_told s next bytes text sound (Some (came_at t p value)) reads answered fine =
@@ -216,25 +277,25 @@ line_told s next bytes text sound (Some (edits (removed id))) reads answered fin
 line_told s next bytes text sound (Some (edits (changed id most))) reads answered fine =
     edit_told s next (edits (changed id most)) text tt (λ h is. is) fine (edit_answered s next bytes text (edits (changed id most)) reads tt answered)
 line_told s next bytes text sound (Some (edits asked)) reads answered fine =
-    nothing_told s next (Some (edits asked)) refl refl
+    none_said s next (edits asked) refl refl
     (kept_by_line s next bytes text (edits asked) reads (check_keeps (counted s) (verdict_now s)) answered)
 line_told s next bytes text sound (Some (ends_by deadline)) reads answered fine =
     edit_told s next (ends_by deadline) text tt (λ h is. is) fine (edit_answered s next bytes text (ends_by deadline) reads tt answered)
 line_told s next bytes text sound (Some asks_next) reads answered fine =
-    nothing_told s next (Some asks_next) refl refl (kept_by_line s next bytes text asks_next reads (next_keeps (counted s) (verdict_now s)) answered)
+    none_said s next asks_next refl refl (kept_by_line s next bytes text asks_next reads (next_keeps (counted s) (verdict_now s)) answered)
 line_told s next bytes text sound (Some (asks_by name)) reads answered fine =
-    nothing_told s next (Some (asks_by name)) refl refl
+    none_said s next (asks_by name) refl refl
     (kept_by_line s next bytes text (asks_by name) reads (by_keeps (counted s) name (number_of s.names name)) answered)
 line_told s next bytes text sound (Some asks_blame) reads answered fine =
-    nothing_told s next (Some asks_blame) refl refl (kept_by_line s next bytes text asks_blame reads (blame_keeps (counted s) (verdict_now s)) answered)
+    none_said s next asks_blame refl refl (kept_by_line s next bytes text asks_blame reads (blame_keeps (counted s) (verdict_now s)) answered)
 line_told s next bytes text sound (Some asks_rest) reads answered fine =
-    nothing_told s next (Some asks_rest) refl refl (kept_by_line s next bytes text asks_rest reads refl answered)
+    none_said s next asks_rest refl refl (kept_by_line s next bytes text asks_rest reads refl answered)
 
 -- ---- line after line
 
 -- what the accepted lines make of the plan and of what has happened
 pub record AreTold (s g : Following) (lines : List (List ℕ)) : Type 0 where
-  pub plan : edited_network g ≡ plan_by_lines s.names (edited_network s) (accepted_of s lines)
+  pub plan : IsPlanByLines s.names s.network.labels (edited_network s) s.history (accepted_of s lines) (edited_network g)
   pub labels : g.network.labels ≡ s.network.labels
   pub history : IsHistoryByLines s.names s.history (accepted_of s lines) g.history
   pub fresh : s.fresh ≤ g.fresh
@@ -256,12 +317,12 @@ told_more s g k first lines sound l rest = by_refusal (is_refusal l.text) refl
     by_refusal true refused =
         let gone = accepted_is ∙ ap (λ b. kept_unless_refused b first (accepted_of l.next lines)) refused in
         let same = refusal_stays s l.next first l.text sound l.answer refused in
-        let plan_same : edited_network l.next ≡ edited_network s = ap edited_network same in
         let history_same : l.next.history ≡ s.history = ap (λ (x : Following). x.history) same in
         let fresh_same : l.next.fresh ≡ s.fresh = ap (λ (x : Following). x.fresh) same in
         record {
-          plan = rest.plan ∙ ap (λ ns. plan_by_lines ns (edited_network l.next) (accepted_of l.next lines)) names_are
-              ∙ ap (λ p. plan_by_lines s.names p (accepted_of l.next lines)) plan_same ∙ ap (plan_by_lines s.names (edited_network s)) (sym gone);
+          plan = subst (λ ls. IsPlanByLines s.names s.network.labels (edited_network s) s.history ls (edited_network g)) (sym gone)
+              (subst (λ (x : Following). IsPlanByLines x.names x.network.labels (edited_network x) x.history (accepted_of l.next lines) (edited_network g))
+              same rest.plan);
           labels = rest.labels ∙ ap (λ (x : Following). x.network.labels) same;
           history = subst (λ ls. IsHistoryByLines s.names s.history ls g.history) (sym gone)
               (subst (λ h. IsHistoryByLines s.names h (accepted_of l.next lines) g.history) history_same
@@ -272,8 +333,14 @@ told_more s g k first lines sound l rest = by_refusal (is_refusal l.text) refl
         let kept = accepted_is ∙ ap (λ b. kept_unless_refused b first (accepted_of l.next lines)) fine in
         let one = line_told s l.next first l.text sound (follow_read first) refl l.answer fine in
         record {
-          plan = rest.plan ∙ ap (λ ns. plan_by_lines ns (edited_network l.next) (accepted_of l.next lines)) names_are
-              ∙ ap (λ p. plan_by_lines s.names p (accepted_of l.next lines)) one.plan ∙ ap (plan_by_lines s.names (edited_network s)) (sym kept);
+          plan = subst (λ ls. IsPlanByLines s.names s.network.labels (edited_network s) s.history ls (edited_network g)) (sym kept) (
+            l.next.history,
+            one.history,
+            subst (λ (e : EditedNetwork). IsPlanByLines s.names s.network.labels e l.next.history (accepted_of l.next lines) (edited_network g)) one.plan
+                (subst (λ ls. IsPlanByLines s.names ls (edited_network l.next) l.next.history (accepted_of l.next lines) (edited_network g)) one.labels
+                (subst (λ ns. IsPlanByLines ns l.next.network.labels (edited_network l.next) l.next.history (accepted_of l.next lines) (edited_network g))
+                names_are rest.plan)),
+          );
           labels = rest.labels ∙ one.labels;
           history = subst (λ ls. IsHistoryByLines s.names s.history ls g.history) (sym kept)
               (l.next.history, one.history, subst (λ ns. IsHistoryByLines ns l.next.history (accepted_of l.next lines) g.history) names_are rest.history);

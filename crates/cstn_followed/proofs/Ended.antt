@@ -11,7 +11,7 @@ use Rattle.cstn_reply.specs.Texts.{Said, say}
 use Rattle.cstn_reply.specs.declared.output.Outcome.{Outcome}
 use Rattle.cstn_reply.specs.declared.output.Outcome.TheVariants.{Good, Bad, Unfinished}
 use Rattle.cstn_follow.specs.Following.{Following, verdict_now, is_any_open, following_ending, outcome_by}
-use Rattle.cstn_follow.specs.Turns.{IsTrueOf}
+use Rattle.cstn_follow.specs.Turns.{IsTrueOfSession}
 use Rattle.cstn_followed.specs.Sessions.{IsReached}
 use Rattle.cstn_followed.specs.Finished.{IsCarriedOut, HaveTheSame}
 use Rattle.cstn_followed.proofs.Verdicts.{reached_sound, states_true}
@@ -42,7 +42,7 @@ outcome_is s o is = by_open (is_any_open s) is
 pub ended_good : (s : Following) → IsReached s → following_ending s ≡ say Good (codes "done") → IsCarriedOut s.network s.history
 ended_good s reached is = by (is_any_open s) refl (verdict_now s) (states_true s reached) (outcome_is s Good is)
   where
-    by : (open_ : Bool) → is_any_open s ≡ open_ → (v : Verdict) → IsTrueOf s v → end_by s open_ v ≡ Good → IsCarriedOut s.network s.history
+    by : (open_ : Bool) → is_any_open s ≡ open_ → (v : Verdict) → IsTrueOfSession s v → end_by s open_ v ≡ Good → IsCarriedOut s.network s.history
     by true at v truly same = absurd (cc)
     by false at (Yes load) can same = (ended_exactly s reached ((nothing_left s reached).0 at)).0 can
     by false at (No load) never same = absurd (cc)
@@ -51,7 +51,7 @@ ended_good s reached is = by (is_any_open s) refl (verdict_now s) (states_true s
 pub ended_bad : (s : Following) → IsReached s → following_ending s ≡ say Bad (codes "done") → IsCarriedOut s.network s.history → ⊥
 ended_bad s reached is out = by (is_any_open s) refl (verdict_now s) (states_true s reached) (outcome_is s Bad is)
   where
-    by : (open_ : Bool) → is_any_open s ≡ open_ → (v : Verdict) → IsTrueOf s v → end_by s open_ v ≡ Bad → ⊥
+    by : (open_ : Bool) → is_any_open s ≡ open_ → (v : Verdict) → IsTrueOfSession s v → end_by s open_ v ≡ Bad → ⊥
     by true at v truly same = absurd (cc)
     by false at (Yes load) can same = absurd (cc)
     by false at (No load) never same = never ((ended_exactly s reached ((nothing_left s reached).0 at)).1 out)

@@ -28,11 +28,11 @@ use Rattle.cstn_reply.specs.Reached.{state_after}
 use Rattle.cstn_reply.proofs.Sessions.{first_leads}
 use Rattle.cstn_save.specs.Canonical.{canonical}
 use Rattle.cstn_follow.specs.Following.{Following, verdict_now, is_open, is_any_open, following_ending, outcome_by}
-use Rattle.cstn_follow.specs.Turns.{IsTrueOf}
+use Rattle.cstn_follow.specs.Turns.{IsTrueOfSession}
 use Rattle.cstn_follow.proofs.States.{IsSound, next_sound}
 use Rattle.cstn_followed.specs.Sessions.{IsReached, follow_turn}
 use Rattle.cstn_followed.specs.Plans.{KeepsToNext, KeepToNext}
-use Rattle.cstn_followed.specs.Journal.{is_refusal}
+use Rattle.cstn_follow.specs.Trials.{is_refusal}
 use Rattle.cstn_followed.specs.Order.{TellsPast}
 use Rattle.cstn_followed.specs.End.{is_coming, is_unheard, count_below, count_left, IsTurn, AreTurns}
 use Rattle.cstn_followed.proofs.Verdicts.{reached_sound, states_true}
@@ -377,7 +377,7 @@ ends_well s reached can over = by_verdict (verdict_now s) refl (states_true s re
     closed : is_any_open s ≡ false
     closed = (nothing_left s reached).1 over
 
-    by_verdict : (v : Verdict) → verdict_now s ≡ v → IsTrueOf s v → (following_ending s ≡ say Good (codes "done")) ⊎ (verdict_now s ≡ Full)
+    by_verdict : (v : Verdict) → verdict_now s ≡ v → IsTrueOfSession s v → (following_ending s ≡ say Good (codes "done")) ⊎ (verdict_now s ≡ Full)
     by_verdict (Yes load) is truly = inl (
         ap (λ b. if b then say Unfinished (codes "unfinished " ++ decimal s.history.now) else say (outcome_by (verdict_now s)) (codes "done")) closed
         ∙ ap (λ v. say (outcome_by v) (codes "done")) is)

@@ -1,10 +1,11 @@
 -- With a larger cap the same is said to a further question, but where a log had more entries than the smaller one.
-use Rattle.std.proofs.Common.{ℕ, zero, suc, ◌≡◌, ◌≤◌, Bool, true, false, List, [], ◌++◌, Option, Some, None, refl, sym, subst, ap, ◌∙◌}
+use Rattle.std.proofs.Common.{ℕ, zero, suc, ◌≡◌, ◌≤◌, Bool, true, false, List, [], Option, Some, None, refl, sym, subst, ap, ◌∙◌}
 use Rattle.std.proofs.Common.{inl, inr}
-use Rattle.std.specs.Prelude.{◌⊎◌, ◌&&◌, nat_lt, if◌then◌else◌, codes, decimal}
+use Rattle.std.specs.Prelude.{ℤ, pos, ◌-ℤ◌, int_lt, ◌⊎◌, ◌&&◌, nat_lt, if◌then◌else◌}
 use Rattle.std.specs.Option.{option_map}
 use Rattle.cstn_net.specs.Limits.{most_deadline}
 use Rattle.cstn_net.specs.Networks.{count}
+use Rattle.cstn_plan.specs.Asked.{moment_of}
 use Rattle.cstn_lift.specs.Labelled.{Labelled}
 use Rattle.cstn_lift.specs.Lowered.{lowered}
 use Rattle.cstn_check.specs.Decisions.{verdict}
@@ -15,13 +16,16 @@ use Rattle.cstn_history.specs.Facts.{FactRefusal, at_now, observed_since, expect
 use Rattle.cstn_history.specs.Histories.{History}
 use Rattle.cstn_history.specs.Rest.{rest}
 use Rattle.cstn_reply.specs.Texts.{full_line}
-use Rattle.cstn_follow.specs.Asking.{Asked, asks_verdict, asks_until, asks_each, asks_late}
+use Rattle.cstn_follow.specs.Asking.{FurtherQuestion, asks_verdict, asks_until, asks_each, asks_late, asks_raise, asks_least}
 use Rattle.cstn_follow.specs.Following.{Following, left_now, verdict_now, verdict_line, verdict_left, is_within_limits, too_many}
-use Rattle.cstn_follow.specs.Further.{pause_text, joined_text, wait_line, wait_lines, each_text, each_after, late_text, answer_to}
+use Rattle.cstn_follow.specs.Further.{pause_text, joined_text, wait_line, wait_lines, each_text, each_after, late_text, raise_text, least_text, answer_to_question}
 use Rattle.cstn_follow.specs.Lateness.{late_never, late_most, unless_expected, said_late, late_found, late_from, late_first, late_tried, late_by, late_untold, late_since}
-use Rattle.cstn_follow.specs.Pauses.{said_of, said_at, is_undone, is_any_undone, is_any_left, pause_found, pause_until, pause_after, pause_by, pause_of, has_room_later}
-use Rattle.cstn_follow.specs.Searches.{has_place, by_line}
+use Rattle.cstn_follow.specs.LeastDeadline.{by_deadline, least_by}
+use Rattle.cstn_follow.specs.Pauses.{said_of, said_at, is_undone, is_any_undone, is_any_left, pause_found, pause_until, pause_by, has_room_later}
+use Rattle.cstn_follow.specs.Raises.{with_limit, value_among, said_raised, least_between, raised_to, raise_first, least_tried, raise_by, raise_from}
+use Rattle.cstn_follow.specs.Searches.{has_place_for_one, by_line}
 use Rattle.cstn_follow.specs.Waiting.{rest_until, tried_until, waits_until}
+use Rattle.cstn_follow.specs.declared.answers.Raise.TheVariants.{Never}
 use Rattle.cstn_follow.specs.declared.answers.Pause.TheVariants.{Finished, TooManyConstraints}
 use Rattle.cstn_followed.specs.Journal.{with_cap}
 use Rattle.cstn_followed.proofs.Alike.{SameIfSome, verdict_alike, said_alike, halving_alike, mapped_alike}
@@ -91,7 +95,7 @@ module _ (s : Following) (larger : ℕ) (upto : s.cap ≤ larger) where
       by_undone false = inr refl
       by_undone true = halving_alike one two (λ t. said_left_alike s.network (at_now s.history _) s.fresh) 20 s.history.now s.network.base.deadline
 
-  until_alike : SameText (answer_to s asks_until) (answer_to Other asks_until)
+  until_alike : SameText (answer_to_question s asks_until) (answer_to_question Other asks_until)
   until_alike = by_room (has_room_later s.network s.history s.fresh)
     where
       after_found : (load : ℕ) (one two : Option ℕ) → SameIfSome one two
@@ -139,8 +143,8 @@ module _ (s : Following) (larger : ℕ) (upto : s.cap ≤ larger) where
   waits_alike (suc n) = joined_alike (wait_lines s.names s.network s.history s.fresh s.cap n) (wait_lines s.names s.network s.history s.fresh larger n)
       (wait_line s.names s.network s.history s.fresh s.cap n) (wait_line s.names s.network s.history s.fresh larger n) (waits_alike n) (wait_alike n)
 
-  each_alike : SameText (answer_to s asks_each) (answer_to Other asks_each)
-  each_alike = by_place (has_place (left_now s).base && has_place (lowered (left_now s)))
+  each_alike : SameText (answer_to_question s asks_each) (answer_to_question Other asks_each)
+  each_alike = by_place (has_place_for_one (left_now s).base && has_place_for_one (lowered (left_now s)))
     where
       texts : (one two : Option (List ℕ)) → SameIfSome one two → SameText (each_text s.cap one) (each_text larger two)
       texts one two (inl none) = inr (ap (each_text s.cap) none)
@@ -196,7 +200,7 @@ module _ (s : Following) (larger : ℕ) (upto : s.cap ≤ larger) where
       by_past true = inl refl
       by_past false = by_first (said_late s.network s.history s.fresh s.cap p low) (said_late s.network s.history s.fresh larger p low) (late_said_alike p low)
 
-  late_alike : (p : ℕ) → SameText (answer_to s (asks_late p)) (answer_to Other (asks_late p))
+  late_alike : (p : ℕ) → SameText (answer_to_question s (asks_late p)) (answer_to_question Other (asks_late p))
   late_alike p = by_since (observed_since s.network s.history p)
     where
       by_told : (since : ℕ) (o : Option Bool)
@@ -211,8 +215,84 @@ module _ (s : Following) (larger : ℕ) (upto : s.cap ≤ larger) where
       by_since None = inl refl
       by_since (Some since) = by_told since (s.history.told p)
 
-  pub answers_alike : (question : Asked) → SameText (answer_to s question) (answer_to Other question)
+  module _ (id : ℕ) (own : ℤ) (load : ℕ) where
+    abbrev high : ℤ
+    high = pos s.network.base.deadline
+
+    abbrev lowest : ℤ
+    lowest = least_tried s.network own
+
+    abbrev says : ℕ → ℤ → Option Bool
+    says cap w = said_raised s.network s.history s.fresh cap id w
+
+    value_alike : (w : ℤ) → SameIfSome (says s.cap w) (says larger w)
+    value_alike w = said_left_alike (with_limit s.network id w) s.history s.fresh
+
+    between_alike : SameIfSome (least_between (says s.cap) 21 lowest high) (least_between (says larger) 21 lowest high)
+    between_alike = mapped_alike (λ u. high -ℤ pos u) _ _
+        (halving_alike (λ u. says s.cap (high -ℤ pos u)) (λ u. says larger (high -ℤ pos u)) (λ u. value_alike (high -ℤ pos u)) 21 0 (moment_of (high -ℤ lowest)))
+
+    stuck_alike : SameText (raise_text s.cap (No load) id (raise_by s.network s.history s.fresh s.cap id own (No load)))
+        (raise_text larger (No load) id (raise_by s.network s.history s.fresh larger id own (No load)))
+    stuck_alike = by_test (int_lt own high)
+      where
+        found : (one two : Option ℤ) → SameIfSome one two → SameText (raise_text s.cap (No load) id (raised_to one)) (raise_text larger (No load) id (raised_to two))
+        found one two (inl none) = inr (ap (λ o. raise_text s.cap (No load) id (raised_to o)) none)
+        found None two (inr same) = inr refl
+        found (Some w) two (inr same) = inl (ap (λ o. raise_text larger (No load) id (raised_to o)) same)
+
+        first : (one two : Option Bool) → SameIfSome one two → SameText (raise_text s.cap (No load) id (raise_first s.network s.history s.fresh s.cap id lowest one))
+            (raise_text larger (No load) id (raise_first s.network s.history s.fresh larger id lowest two))
+        first one two (inl none) = inr (ap (λ o. raise_text s.cap (No load) id (raise_first s.network s.history s.fresh s.cap id lowest o)) none)
+        first None two (inr same) = inr refl
+        first (Some true) two (inr same) =
+            subst (λ o. SameText (raise_text s.cap (No load) id (raise_first s.network s.history s.fresh s.cap id lowest (Some true)))
+            (raise_text larger (No load) id (raise_first s.network s.history s.fresh larger id lowest o))) (sym same)
+            (found (least_between (says s.cap) 21 lowest high) (least_between (says larger) 21 lowest high) between_alike)
+        first (Some false) two (inr same) = inl (ap (λ o. raise_text larger (No load) id (raise_first s.network s.history s.fresh larger id lowest o)) same)
+
+        by_test : (b : Bool)
+            → SameText (raise_text s.cap (No load) id (if b then raise_first s.network s.history s.fresh s.cap id lowest (says s.cap high) else Never))
+            (raise_text larger (No load) id (if b then raise_first s.network s.history s.fresh larger id lowest (says larger high) else Never))
+        by_test true = first (says s.cap high) (says larger high) (value_alike high)
+        by_test false = inl refl
+
+  raise_alike : (id : ℕ) → SameText (answer_to_question s (asks_raise id)) (answer_to_question Other (asks_raise id))
+  raise_alike id = by_own (value_among id s.network.base.constraints)
+    where
+      by_own : (o : Option ℤ)
+          → SameText (raise_text s.cap (verdict_now s) id (raise_from s.network s.history s.fresh s.cap id (verdict_now s) o))
+          (raise_text larger (verdict_now Other) id (raise_from s.network s.history s.fresh larger id (verdict_now Other) o))
+      by_own None = inl refl
+      by_own (Some own) =
+          by_verdict (λ cap v. raise_text cap v id (raise_by s.network s.history s.fresh cap id own v)) (λ load. inl refl) (λ load. stuck_alike id own load) refl
+
+  abbrev latest : Labelled
+  latest = by_deadline s.network most_deadline
+
+  least_alike : SameText (answer_to_question s asks_least) (answer_to_question Other asks_least)
+  least_alike = by_fits (is_within_limits latest s.history s.fresh) (verdict_alike s.cap larger upto (lowered (rest latest s.history s.fresh)))
+    where
+      texts : (v : Verdict) → SameText (least_text s.cap (least_by latest s.history s.fresh (Some v))) (least_text larger (least_by latest s.history s.fresh (Some v)))
+      texts (Yes load) = inl refl
+      texts (No load) = inl refl
+      texts Full = inr refl
+
+      by_fits : (b : Bool)
+          → (verdict s.cap (lowered (rest latest s.history s.fresh)) ≡ Full)
+          ⊎ (verdict larger (lowered (rest latest s.history s.fresh)) ≡ verdict s.cap (lowered (rest latest s.history s.fresh)))
+          → SameText (least_text s.cap (least_by latest s.history s.fresh (if b then Some (verdict s.cap (lowered (rest latest s.history s.fresh))) else None)))
+          (least_text larger (least_by latest s.history s.fresh (if b then Some (verdict larger (lowered (rest latest s.history s.fresh))) else None)))
+      by_fits false alike = inr refl
+      by_fits true (inl full) = inr (ap (λ v. least_text s.cap (least_by latest s.history s.fresh (Some v))) full)
+      by_fits true (inr same) =
+          subst (λ w. SameText (least_text s.cap (least_by latest s.history s.fresh (Some (verdict s.cap (lowered (rest latest s.history s.fresh))))))
+          (least_text larger (least_by latest s.history s.fresh (Some w)))) (sym same) (texts (verdict s.cap (lowered (rest latest s.history s.fresh))))
+
+  pub answers_alike : (question : FurtherQuestion) → SameText (answer_to_question s question) (answer_to_question Other question)
   answers_alike asks_verdict = now_told
   answers_alike asks_until = until_alike
   answers_alike asks_each = each_alike
   answers_alike (asks_late p) = late_alike p
+  answers_alike (asks_raise id) = raise_alike id
+  answers_alike asks_least = least_alike

@@ -1,10 +1,10 @@
 -- What is answered to further questions is right.
-use Rattle.std.proofs.Common.{ℕ, zero, suc, ◌≡◌, ◌<◌, inl, inr, Bool, true, false, not, ◌&&◌, List, [], length, Option, Some, None, refl, sym, subst, ap, ◌∙◌}
+use Rattle.std.proofs.Common.{ℕ, ◌≡◌, ◌<◌, inl, inr, Bool, true, false, ◌&&◌, List, [], length, Option, Some, None, refl, sym, subst, ap, ◌∙◌}
 use Rattle.std.specs.Prelude.{if◌then◌else◌}
 use Rattle.std.specs.Option.{option_map}
 use Rattle.std.proofs.lemmas.Bool.{and_parts, ltb-true}
-use Rattle.cstn_net.specs.Limits.{most_constraints}
-use Rattle.cstn_net.specs.Networks.{Network, count}
+use Rattle.cstn_net.specs.Limits.{most_constraints, most_deadline}
+use Rattle.cstn_net.specs.Networks.{Network}
 use Rattle.cstn_lift.specs.Lowered.{lowered}
 use Rattle.cstn_check.specs.declared.verdicts.Verdict.{Verdict}
 use Rattle.cstn_check.specs.declared.verdicts.Verdict.TheVariants.{Yes, No, Full}
@@ -12,18 +12,23 @@ use Rattle.cstn_history.specs.Continuations.{Can}
 use Rattle.cstn_reply.specs.Sessions.{more}
 use Rattle.cstn_save.specs.Canonical.{canonical}
 use Rattle.cstn_follow.specs.Answers.{IsLatest}
-use Rattle.cstn_follow.specs.Asking.{Asked, asks_verdict, asks_until, asks_each, asks_late, Spoken, of_question, spoken_read}
+use Rattle.cstn_follow.specs.Asking.{FurtherQuestion, asks_verdict, asks_until, asks_each, asks_late, asks_raise, asks_least, Spoken, of_question, spoken_read}
 use Rattle.cstn_follow.specs.Following.{Following, left_now, verdict_now, too_many}
-use Rattle.cstn_follow.specs.Further.{each_after, line_now, answer_to, on_asked}
+use Rattle.cstn_follow.specs.Further.{each_after, answer_to_question, on_asked}
 use Rattle.cstn_follow.specs.Hearing.{counted, hear}
 use Rattle.cstn_follow.specs.Lateness.{late_of}
-use Rattle.cstn_follow.specs.Pauses.{is_undone, pause_of}
-use Rattle.cstn_follow.specs.Searches.{has_place, by_line}
+use Rattle.cstn_follow.specs.LeastDeadline.{least_of}
+use Rattle.cstn_follow.specs.Pauses.{pause_of}
+use Rattle.cstn_follow.specs.Raises.{raise_of}
+use Rattle.cstn_follow.specs.Searches.{has_place_for_one, by_line}
 use Rattle.cstn_follow.specs.Turns.{heard_by}
 use Rattle.cstn_follow.specs.Waiting.{HasRoomToWait, waits_until}
+use Rattle.cstn_follow.proofs.DeadlineFound.{right_least}
 use Rattle.cstn_follow.proofs.GoesOn.{verdict_right}
 use Rattle.cstn_follow.proofs.LastExpected.{right_late}
 use Rattle.cstn_follow.proofs.LastNow.{right_pause}
+use Rattle.cstn_follow.proofs.RaiseFound.{right_raise}
+use Rattle.cstn_follow.proofs.Roomy.{deadline_fits}
 use Rattle.cstn_follow.proofs.States.{IsSound}
 use Rattle.cstn_follow.proofs.Undone.{undone_coming, undone_left}
 use Rattle.cstn_follow.proofs.Until.{last_found}
@@ -32,7 +37,7 @@ use Rattle.cstn_followed.specs.Sessions.{IsReached, follow_turn}
 use Rattle.cstn_followed.proofs.Questions.{TurnTells, turn_tells}
 use Rattle.cstn_followed.proofs.Verdicts.{reached_sound}
 
-place_is : (net : Network) → has_place net ≡ true → length net.constraints < most_constraints
+place_is : (net : Network) → has_place_for_one net ≡ true → length net.constraints < most_constraints
 place_is net is = ltb-true (length net.constraints) most_constraints is
 
 module _ (s : Following) (sound : IsSound s) where
@@ -58,29 +63,40 @@ module _ (s : Following) (sound : IsSound s) where
       let can = verdict_right s.network s.history s.fresh s.cap (Yes load) sound.labelled sound.timely sound.above (sound.verdict ∙ ap Some is) in
       (refl, latest_lines can room)
 
-  by_place : (place : Bool) → (has_place (left_now s).base && has_place (lowered (left_now s))) ≡ place
+  by_place : (place : Bool) → (has_place_for_one (left_now s).base && has_place_for_one (lowered (left_now s))) ≡ place
       → AnswersAsked s asks_each (if place then each_after s.names s.network s.history s.fresh s.cap (verdict_now s) else too_many)
   by_place false is = inl refl
   by_place true is =
-      let both = and_parts (has_place (left_now s).base) (has_place (lowered (left_now s))) is in
+      let both = and_parts (has_place_for_one (left_now s).base) (has_place_for_one (lowered (left_now s))) is in
       inr (each_tells (verdict_now s) refl (record { base = place_is (left_now s).base both.0; lowered = place_is (lowered (left_now s)) both.1 }))
 
-  asked_tells : (question : Asked) → AnswersAsked s question (answer_to (counted s) question)
+  asked_tells : (question : FurtherQuestion) → AnswersAsked s question (answer_to_question (counted s) question)
   asked_tells asks_verdict = refl
   asked_tells asks_until = (
     pause_of s.network s.history s.fresh s.cap (verdict_now s),
     right_pause s.network s.history s.fresh s.cap sound.labelled sound.timely sound.above (verdict_now s) sound.verdict,
     refl,
   )
-  asked_tells asks_each = by_place (has_place (left_now s).base && has_place (lowered (left_now s))) refl
+  asked_tells asks_each = by_place (has_place_for_one (left_now s).base && has_place_for_one (lowered (left_now s))) refl
   asked_tells (asks_late p) = (
     late_of s.network s.history s.fresh s.cap p (verdict_now s),
     right_late s.network s.history s.fresh s.cap sound.labelled sound.timely sound.above p (verdict_now s) sound.verdict,
     refl,
   )
+  asked_tells (asks_raise id) = (
+    raise_of s.network s.history s.fresh s.cap id (verdict_now s),
+    right_raise s.network s.history s.fresh s.cap id (verdict_now s) sound.labelled sound.timely sound.above sound.verdict,
+    refl,
+  )
+  asked_tells asks_least = (
+    least_of s.network s.history s.fresh s.cap,
+    right_least s.network s.history s.fresh s.cap sound.labelled sound.timely sound.above
+        (deadline_fits s.network most_deadline s.history s.fresh s.cap (verdict_now s) sound.labelled.base.in_time sound.verdict),
+    refl,
+  )
 
 -- the answer to a further question, which changes nothing but the count of lines
-pub asked_answered : (s t : Following) (bytes text : List ℕ) (question : Asked) → IsReached s → spoken_read bytes ≡ Some (of_question question)
+pub asked_answered : (s t : Following) (bytes text : List ℕ) (question : FurtherQuestion) → IsReached s → spoken_read bytes ≡ Some (of_question question)
     → follow_turn s bytes ≡ more text t → (t ≡ counted s) × AnswersAsked s question text
 asked_answered s t bytes text question reached reads answered =
     subst (TurnTells (counted s) (AnswersAsked s question)) (ap (λ (o : Option Spoken). heard_by canonical (hear s o)) (sym reads) ∙ answered)

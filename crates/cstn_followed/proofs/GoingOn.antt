@@ -26,8 +26,8 @@ use Rattle.cstn_lines.specs.FollowLines.{asks_rest}
 use Rattle.cstn_lines.proofs.FollowLemmas.{follow_is}
 use Rattle.cstn_reply.specs.Texts.{line, full_line}
 use Rattle.cstn_reply.specs.Reached.{state_after}
-use Rattle.cstn_follow.specs.Following.{Following, Heard, says, saves, begun, verdict_now, verdict_within, on_left_verdict, verdict_line}
-use Rattle.cstn_follow.specs.FactLines.{records, refuses, unless_refused, all_done, on_result, on_known, on_did, nodes_of, unknown_of, on_fact, on_now, on_saw}
+use Rattle.cstn_follow.specs.Following.{Following, Heard, says, saves, begun_following, verdict_now, verdict_within, on_left_verdict, verdict_line}
+use Rattle.cstn_follow.specs.FactLines.{records, refuses, unless_fact_refused, all_done, on_result, on_known, on_did, nodes_of, unknown_of, on_fact, on_now, on_saw}
 use Rattle.cstn_follow.specs.Asking.{spoken_read}
 use Rattle.cstn_follow.specs.Hearing.{on_follow, counted, hear}
 use Rattle.cstn_follow.specs.Progress.{HasRoomLeft, IsQuietUpto}
@@ -67,7 +67,7 @@ module _ (m : Labelled) (good : IsLabelled m) (table : Table) (t : ℕ) where
     where
       by_refusal : (o : Option FactRefusal) → done_refusal m h t x.0 ≡ o
           → (done_refusal m h t x.0 ≡ None → all_done m t (with_done h t x.0) xs ≡ Ok g → IsTimelyHistory m g × Can m g)
-          → unless_refused o (all_done m t (with_done h t x.0) xs) ≡ Ok g → IsTimelyHistory m g × Can m g
+          → unless_fact_refused o (all_done m t (with_done h t x.0) xs) ≡ Ok g → IsTimelyHistory m g × Can m g
       by_refusal None none follows so = follows none so
       by_refusal (Some e) some follows so = absurd (cc)
 
@@ -203,7 +203,7 @@ all_go s (first ∷ lines) sound can keep =
     (one.0, one.1, all_go one.0 lines (next_sound canonical s one.0 first one.1.text sound one.1.answer) one.1.can (keep.1 one.1.text one.0 one.1.answer))
 
 pub plans_go_on : (cap : ℕ) (names : List (List ℕ)) (m : Labelled) (before lines : List (List ℕ)) (s : Following) → IsLabelled m
-    → length (lowered m).constraints ≤ most_constraints → length names ≡ count m.base → state_after follow_turn (begun cap names m) 0 before ≡ Some s
+    → length (lowered m).constraints ≤ most_constraints → length names ≡ count m.base → state_after follow_turn (begun_following cap names m) 0 before ≡ Some s
     → Can s.network s.history → KeepToNext s lines → KeepGoing s lines
 plans_go_on cap names m before lines s good few named leads can keep =
-    all_go s lines (lines_sound canonical (begun cap names m) s 0 before (begun_sound cap names m good few named) leads) can keep
+    all_go s lines (lines_sound canonical (begun_following cap names m) s 0 before (begun_sound cap names m good few named) leads) can keep

@@ -15,7 +15,8 @@ use Rattle.cstn_follow.specs.Hearing.{counted, on_line}
 use Rattle.cstn_follow.specs.Turns.{heard_by}
 use Rattle.cstn_follow.proofs.States.{IsSound, next_sound}
 use Rattle.cstn_followed.specs.Sessions.{follow_turn}
-use Rattle.cstn_followed.specs.Journal.{is_refusal, texts_of, accepted_of, kept_unless_refused, with_count}
+use Rattle.cstn_followed.specs.Journal.{texts_of, accepted_of, kept_unless_refused, with_count}
+use Rattle.cstn_follow.specs.Trials.{is_refusal}
 use Rattle.cstn_followed.proofs.Recounted.{Refuses, recounted, line_same}
 use Rattle.cstn_followed.proofs.Refusals.{refusal_stays}
 

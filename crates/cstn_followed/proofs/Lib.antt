@@ -19,3 +19,7 @@ pub mod Ordered
 pub mod Ending
 -- What edits make of the plan.
 pub mod EditLines
+mod Forgave
+-- Sessions with marks.
+pub mod Counting
+pub mod Paired

@@ -20,7 +20,8 @@ use Rattle.cstn_follow.proofs.Points.{turn_keeps}
 use Rattle.cstn_followed.specs.Sessions.{follow_turn}
 use Rattle.cstn_followed.specs.Answers.{Accepts}
 use Rattle.cstn_followed.specs.Plans.{IsRefusedBy}
-use Rattle.cstn_followed.specs.Journal.{is_refusal, texts_of, AreAccepted}
+use Rattle.cstn_followed.specs.Journal.{texts_of, AreAccepted}
+use Rattle.cstn_follow.specs.Trials.{is_refusal}
 use Rattle.cstn_followed.specs.Order.{TellsDone, TellsOutcome, TellsPast, moment_told, AllTellPast, IsHistoryOf, TellTheSame}
 use Rattle.cstn_followed.proofs.Journals.{texts_more}
 use Rattle.cstn_followed.proofs.Verdicts.{fact_accepted}

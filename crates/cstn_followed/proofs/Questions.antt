@@ -3,47 +3,39 @@ use Rattle.std.proofs.Common.{ℕ, zero, suc, ◌≡◌, ◌<◌, Bool, true, fa
 use Rattle.std.proofs.Common.{inl, inr}
 use Rattle.std.specs.Prelude.{◌↔◌, if◌then◌else◌, bytes_eq}
 use Rattle.std.specs.Option.{is_some}
-use Rattle.std.proofs.lemmas.Bool.{cases_eq, and_parts, or_from, or_parts, both_ways, ltb-true}
+use Rattle.std.proofs.lemmas.Bool.{and_parts, ltb-true}
 use Rattle.std.proofs.lemmas.List.Quantifiers.{position-Some}
 use Rattle.cstn_facts.proofs.Ranges.{passing_ascends}
-use Rattle.cstn_label.specs.declared.marks.Mark.{Mark}
 use Rattle.cstn_label.specs.Bounds.{Bound}
-use Rattle.cstn_label.specs.Labels.{Scenario, MarkFits}
-use Rattle.cstn_label.proofs.LabelLemmas.{made_true, made_holds}
 use Rattle.cstn_net.specs.Limits.{most_constraints}
 use Rattle.cstn_net.specs.Networks.{Network, count}
 use Rattle.cstn_text.specs.Names.{number_of}
-use Rattle.cstn_lift.specs.Labelled.{Labelled}
 use Rattle.cstn_lift.specs.Completion.{completed_label}
 use Rattle.cstn_lift.specs.Lowered.{lowered}
-use Rattle.cstn_lift.specs.Strategies.{IsExecuted}
-use Rattle.cstn_lift.specs.WellFormed.{IsLabelled}
 use Rattle.cstn_lift.proofs.Equivalent.{equivalent}
 use Rattle.cstn_lift.proofs.WellFormed.{lowered_well_formed}
 use Rattle.cstn_check.specs.Growth.{log_of, live_bounds}
 use Rattle.cstn_check.specs.declared.verdicts.Verdict.{Verdict}
 use Rattle.cstn_check.specs.declared.verdicts.Verdict.TheVariants.{Yes, No, Full}
 use Rattle.cstn_check.proofs.Decides.{log_decides, log_closed, log_sound}
-use Rattle.cstn_history.specs.Histories.{History, IsHistory, AgreesWith, allows, mark_left}
+use Rattle.cstn_history.specs.Histories.{allows}
 use Rattle.cstn_history.specs.Continuations.{Can}
 use Rattle.cstn_history.specs.Rest.{sight_left, is_left, rest}
 use Rattle.cstn_history.specs.Handed.{HasRoom}
 use Rattle.cstn_history.proofs.Decides.{can_both}
-use Rattle.cstn_history.proofs.Places.{sees_left, sees_back}
-use Rattle.cstn_history.proofs.Settled.{allows_true, allows_back, as_told, told_agrees, holds_allows, holds_back}
 use Rattle.cstn_next.specs.Next.{IsPlannedBy, IsAllDone, coming_at, awaited_from, is_upto, next_moment, named, awaited}
 use Rattle.cstn_next.proofs.Exact.{is_next, named_exactly, awaited_exactly, done_exactly}
 use Rattle.cstn_lines.specs.FollowLines.{Follow, follow_read, asks_next, asks_by, asks_blame}
 use Rattle.cstn_reply.specs.Texts.{line}
 use Rattle.cstn_reply.specs.Sessions.{Turn, more, last, wrong}
 use Rattle.cstn_history.specs.Facts.{Undecided}
-use Rattle.cstn_follow.specs.Following.{Following, Heard, says, saves, left_now, verdict_now, verdict_within, verdict_line, too_many, is_open, any_below}
+use Rattle.cstn_follow.specs.Following.{Following, Heard, says, saves, left_now, verdict_now, verdict_within, verdict_line, too_many}
 use Rattle.cstn_follow.specs.Following.{is_any_open}
 use Rattle.cstn_follow.specs.FactLines.{refused_fact}
 use Rattle.cstn_follow.specs.Asking.{Spoken}
 use Rattle.cstn_follow.specs.Hearing.{on_follow, counted, hear}
 use Rattle.cstn_follow.specs.Questions.{next_at, next_after}
-use Rattle.cstn_follow.specs.Searches.{has_place, by_refusal, until_text, by_after, by_unless, by_number, blame_line, blame_after}
+use Rattle.cstn_follow.specs.Searches.{has_place_for_one, by_refusal, until_text, by_after, by_unless, by_number, blame_line, blame_after}
 use Rattle.cstn_check.proofs.Halves.{none_found}
 use Rattle.cstn_check.proofs.Leaving.{found_own, found_none}
 use Rattle.cstn_check.proofs.Said.{said_full}
@@ -145,21 +137,21 @@ module _ (s : Following) (sound : IsSound s) (x : ℕ) (here : x < count s.netwo
   abbrev refusal : Bool → Bool → Option (List ℕ)
   refusal possible place = if not possible then Some (line (refused_fact s.names (Undecided x))) else if place then None else Some too_many
 
-  place_is : (net : Network) → has_place net ≡ true → length net.constraints < most_constraints
+  place_is : (net : Network) → has_place_for_one net ≡ true → length net.constraints < most_constraints
   place_is net is = ltb-true (length net.constraints) most_constraints is
 
   by_possible : s.history.done x ≡ None → (possible : Bool) → allows s.history (completed_label s.network x) ≡ possible
-      → (place : Bool) → (has_place (left_now s).base && has_place (lowered (left_now s))) ≡ place
+      → (place : Bool) → (has_place_for_one (left_now s).base && has_place_for_one (lowered (left_now s))) ≡ place
       → Tells (counted s) (UnlessRefused s x (refusal possible place)) (by_unless (counted s) x (refusal possible place))
   by_possible none false is place room = (refl, refl)
   by_possible none true is false room = (refl, refl)
   by_possible none true is true room =
-      let both = and_parts (has_place (left_now s).base) (has_place (lowered (left_now s))) room in
+      let both = and_parts (has_place_for_one (left_now s).base) (has_place_for_one (lowered (left_now s))) room in
       wait_tells none is (record { base = place_is (left_now s).base both.0; lowered = place_is (lowered (left_now s)) both.1 }) (verdict_now s) refl
 
   by_done : (d : Option ℕ) → s.history.done x ≡ d → Tells (counted s) (UnlessRefused s x (by_refusal s x d)) (by_unless (counted s) x (by_refusal (counted s) x d))
   by_done (Some t) done = (refl, refl)
-  by_done None none = by_possible none (allows s.history (completed_label s.network x)) refl (has_place (left_now s).base && has_place (lowered (left_now s))) refl
+  by_done None none = by_possible none (allows s.history (completed_label s.network x)) refl (has_place_for_one (left_now s).base && has_place_for_one (lowered (left_now s))) refl
 
 by_tells : (s : Following) (name : List ℕ) (n : Option ℕ) → IsSound s → number_of s.names name ≡ n → Tells (counted s) (AnswersBy s name n) (by_number (counted s) name n)
 by_tells s name None sound is = (refl, refl)

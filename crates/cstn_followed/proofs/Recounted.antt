@@ -1,7 +1,7 @@
 -- What is said to a line doesn't depend on how many lines were heard, unless the line is refused.
-use Rattle.std.proofs.Common.{ℕ, ◌≡◌, Bool, true, false, List, Option, Some, None, refl, inl, inr}
+use Rattle.std.proofs.Common.{ℕ, ◌≡◌, ◌+◌, Bool, true, false, List, length, Option, Some, None, refl, inl, inr}
 use Rattle.std.specs.Prelude.{◌⊎◌, Result, Ok, Err, nat_lt, if◌then◌else◌}
-use Rattle.cstn_net.specs.Limits.{most_constraints, most_deadline}
+use Rattle.cstn_net.specs.Limits.{most_constraints, most_deadline, most_edits}
 use Rattle.cstn_text.specs.Names.{number_of}
 use Rattle.cstn_check.specs.declared.verdicts.Verdict.{Verdict}
 use Rattle.cstn_check.specs.declared.verdicts.Verdict.TheVariants.{Yes, No, Full}
@@ -9,18 +9,23 @@ use Rattle.cstn_history.specs.Histories.{History}
 use Rattle.cstn_history.specs.Facts.{FactRefusal, OutOfRange, is_beyond, now_refusal, told_refusal, expected_refusal, at_now, with_told, with_expected}
 use Rattle.cstn_lines.specs.EditLines.{Edit, added, removed, changed, asked}
 use Rattle.cstn_lines.specs.FollowLines.{Follow, done_at, came_at, now_at, awaited_at, edits, ends_by, asks_next, asks_by, asks_blame, asks_rest}
-use Rattle.cstn_change.specs.Changes.{Change, removes, revalues, Refusal, refusal, after}
-use Rattle.cstn_change.specs.ChangeLines.{addition}
+use Rattle.cstn_change.specs.Changes.{Change, removes, revalues, Refusal, EditLimit, refusal, after}
+use Rattle.cstn_change.specs.ChangeLines.{refused_text, addition}
+use Rattle.cstn_reply.specs.Texts.{line}
 use Rattle.cstn_follow.specs.Replans.{with_due}
 use Rattle.cstn_follow.specs.Following.{Following, Heard, says, saves, verdict_now, verdict_within, on_left_verdict, follows, verdict_line}
-use Rattle.cstn_follow.specs.FactLines.{on_result, records, refuses, all_done, on_known, on_did, nodes_of, unknown_of, unless_refused, on_fact}
+use Rattle.cstn_follow.specs.FactLines.{on_result, records, refuses, all_done, on_known, on_did, nodes_of, unknown_of, unless_fact_refused, on_fact}
 use Rattle.cstn_follow.specs.PlanLines.{edited_network, replanned, on_refusal, on_edit, on_deadline}
 use Rattle.cstn_follow.specs.Questions.{next_after, check_after}
 use Rattle.cstn_follow.specs.Searches.{by_number, by_unless, by_after, by_refusal, blame_after}
-use Rattle.cstn_follow.specs.Asking.{Asked, asks_verdict, asks_until, asks_each, asks_late, Spoken, of_line, of_question}
+use Rattle.cstn_follow.specs.Asking.{FurtherQuestion, asks_verdict, asks_until, asks_each, asks_late, asks_raise, asks_least, Spoken, of_line, of_question, of_amendment}
 use Rattle.cstn_follow.specs.Further.{on_asked}
-use Rattle.cstn_follow.specs.Hearing.{on_plan, on_other, on_follow, on_line}
-use Rattle.cstn_followed.specs.Journal.{is_refusal, with_count}
+use Rattle.cstn_follow.specs.Amending.{Amendment, forgives}
+use Rattle.cstn_follow.specs.Forgiving.{broken_ids, after_removals}
+use Rattle.cstn_follow.specs.ForgivingLines.{forgiven_line}
+use Rattle.cstn_follow.specs.Hearing.{on_plan, on_other, on_follow, on_amendment, on_line}
+use Rattle.cstn_followed.specs.Journal.{with_count}
+use Rattle.cstn_follow.specs.Trials.{is_refusal}
 
 -- the same is said, in a state with this count of lines
 abbrev pub recounted : ℕ → Heard → Heard
@@ -60,7 +65,7 @@ module _ (s : Following) (n : ℕ) where
       by_moment false None = result_same (all_done s.network t s.history (nodes_of s.names given))
 
   fact_same : (o : Option FactRefusal) (h : History) → on_fact Other o h ≡ recounted n (on_fact s o h)
-  fact_same o h = result_same (unless_refused o (Ok h))
+  fact_same o h = result_same (unless_fact_refused o (Ok h))
 
   change_same : (change : Change) (o : Option Refusal) → on_refusal Other change o ≡ recounted n (on_refusal s change o)
   change_same change (Some why) = refl
@@ -122,13 +127,27 @@ module _ (s : Following) (n : ℕ) where
   follow_same asks_blame = inr (blame_same (verdict_now s))
   follow_same asks_rest = inr refl
 
-  asked_same : (question : Asked) → on_asked Other question ≡ recounted n (on_asked s question)
+  asked_same : (question : FurtherQuestion) → on_asked Other question ≡ recounted n (on_asked s question)
   asked_same asks_verdict = refl
   asked_same asks_until = refl
   asked_same asks_each = refl
   asked_same (asks_late p) = refl
+  asked_same (asks_raise id) = refl
+  asked_same asks_least = refl
+
+  forgive_same : (ids : List ℕ) (b : Bool)
+      → (if b then says (line (refused_text EditLimit)) Other else says (forgiven_line ids) (replanned Other (after_removals (edited_network Other) ids)))
+      ≡ recounted n (if b then says (line (refused_text EditLimit)) s else says (forgiven_line ids) (replanned s (after_removals (edited_network s) ids)))
+  forgive_same ids true = refl
+  forgive_same ids false = refl
+
+  amended_same : (amendment : Amendment) → on_amendment Other amendment ≡ recounted n (on_amendment s amendment)
+  amended_same forgives =
+      let ids = broken_ids s.network s.history in
+      forgive_same ids (nat_lt most_edits (s.edits + length ids))
 
   pub line_same : (o : Option Spoken) → Refuses (on_line s o) ⊎ (on_line Other o ≡ recounted n (on_line s o))
   line_same None = inl refl
   line_same (Some (of_line line)) = follow_same line
   line_same (Some (of_question question)) = inr (asked_same question)
+  line_same (Some (of_amendment amendment)) = inr (amended_same amendment)

@@ -1,31 +1,34 @@
 -- A line that is refused changes nothing but the count of lines.
-use Rattle.std.proofs.Common.{ℕ, ◌≡◌, Bool, true, false, List, [], ◌∷◌, ◌++◌, Option, Some, None, take, eqb, refl, sym, subst, ap, ◌∙◌}
+use Rattle.std.proofs.Common.{ℕ, ◌≡◌, ◌+◌, Bool, true, false, List, [], ◌∷◌, ◌++◌, length, Option, Some, None, take, eqb, refl, sym, subst, ap, ◌∙◌}
 use Rattle.std.specs.Prelude.{nat_lt, Result, Ok, Err, slice_index_or, if◌then◌else◌, codes, decimal}
 use Rattle.std.proofs.lemmas.Bool.{both_ways, eq-eqb}
 use Rattle.std.proofs.lemmas.Slice.Eq.{bytes_eq-Decides}
-use Rattle.cstn_net.specs.Limits.{most_constraints, most_deadline}
+use Rattle.cstn_net.specs.Limits.{most_constraints, most_deadline, most_edits}
 use Rattle.cstn_text.specs.Names.{number_of}
 use Rattle.cstn_check.specs.declared.verdicts.Verdict.{Verdict}
 use Rattle.cstn_check.specs.declared.verdicts.Verdict.TheVariants.{Yes, No, Full}
 use Rattle.cstn_lines.specs.EditLines.{Edit, added, removed, changed, asked}
-use Rattle.cstn_lines.specs.FollowLines.{Follow, follow_read, IsFollow, done_at, came_at, now_at, awaited_at, edits, ends_by, asks_next, asks_by, asks_blame}
+use Rattle.cstn_lines.specs.FollowLines.{Follow, IsFollow, done_at, came_at, now_at, awaited_at, edits, ends_by, asks_next, asks_by, asks_blame}
 use Rattle.cstn_lines.specs.FollowLines.{asks_rest}
 use Rattle.cstn_reply.specs.Texts.{line}
 use Rattle.cstn_reply.specs.Sessions.{Turn, more, last, wrong}
-use Rattle.cstn_change.specs.Changes.{Change, adds, removes, revalues, Refusal, refusal, after}
-use Rattle.cstn_change.specs.ChangeLines.{addition, accepted_text}
+use Rattle.cstn_change.specs.Changes.{Change, adds, removes, revalues, Refusal, EditLimit, refusal, after}
+use Rattle.cstn_change.specs.ChangeLines.{addition, accepted_text, refused_text}
 use Rattle.cstn_follow.specs.Replans.{with_due}
 use Rattle.cstn_follow.specs.Following.{Following, Heard, says, saves, verdict_now, verdict_within, on_left_verdict, follows, verdict_line}
 use Rattle.cstn_follow.specs.PlanLines.{edited_network, replanned, on_refusal, on_edit, on_deadline}
 use Rattle.cstn_follow.specs.Questions.{on_next, on_check}
 use Rattle.cstn_follow.specs.Searches.{on_by, on_blame}
-use Rattle.cstn_follow.specs.Asking.{Spoken, of_line, of_question, IfLine, spoken_read}
-use Rattle.cstn_follow.specs.Hearing.{on_plan, on_other, on_follow, on_line, counted, hear}
+use Rattle.cstn_follow.specs.Asking.{Spoken, of_line, of_question, of_amendment, IfLine, spoken_read}
+use Rattle.cstn_follow.specs.Amending.{Amendment, forgives}
+use Rattle.cstn_follow.specs.Forgiving.{broken_ids, after_removals}
+use Rattle.cstn_follow.specs.ForgivingLines.{forgiven_line}
+use Rattle.cstn_follow.specs.Hearing.{on_plan, on_other, on_follow, on_amendment, on_line, counted, hear}
 use Rattle.cstn_save.specs.Canonical.{canonical}
 use Rattle.cstn_follow.specs.Recorded.{IsFact}
 use Rattle.cstn_follow.specs.Turns.{heard_by}
 use Rattle.cstn_followed.specs.Sessions.{IsReached, follow_turn}
-use Rattle.cstn_followed.specs.Journal.{is_refusal}
+use Rattle.cstn_follow.specs.Trials.{is_refusal}
 use Rattle.cstn_follow.proofs.FurtherLines.{next_of, spoken_is}
 use Rattle.cstn_follow.proofs.States.{IsSound, fact_is, next_keeps, check_keeps, blame_keeps, by_keeps, counted_sound}
 use Rattle.cstn_followed.proofs.Verdicts.{reached_sound}
@@ -110,10 +113,21 @@ module _ (s : Following) where
   follow_stays asks_blame sound is = stays s (on_blame s) (blame_keeps s (verdict_now s))
   follow_stays asks_rest sound is = refl
 
+  forgive_stays : (ids : List ℕ) (b : Bool)
+      → StaysRefused s (if b then says (line (refused_text EditLimit)) s else says (forgiven_line ids) (replanned s (after_removals (edited_network s) ids)))
+  forgive_stays ids true = λ refused. refl
+  forgive_stays ids false = λ refused. absurd (differs 114 refl (refused_third (forgiven_line ids) refused))
+
+  amendment_stays : (amendment : Amendment) → StaysRefused s (on_amendment s amendment)
+  amendment_stays forgives =
+      let ids = broken_ids s.network s.history in
+      forgive_stays ids (nat_lt most_edits (s.edits + length ids))
+
   line_stays : (o : Option Spoken) → IsSound s → IfLine o IsFollow → StaysRefused s (on_line s o)
   line_stays None sound is = λ refused. refl
   line_stays (Some (of_line line)) sound is = follow_stays line sound is
   line_stays (Some (of_question question)) sound is = λ refused. refl
+  line_stays (Some (of_amendment amendment)) sound is = amendment_stays amendment
 
 -- what is heard by a sound session
 pub heard_stays : (s : Following) (bytes : List ℕ) → IsSound s → StaysRefused (counted s) (hear s (spoken_read bytes))

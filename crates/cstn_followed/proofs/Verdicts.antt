@@ -7,12 +7,12 @@ use Rattle.cstn_lines.specs.FollowLines.{Follow, follow_read, IsFollow}
 use Rattle.cstn_lines.proofs.FollowLemmas.{follow_is}
 use Rattle.cstn_reply.specs.Sessions.{Turn, more, last, wrong}
 use Rattle.cstn_save.specs.Canonical.{canonical}
-use Rattle.cstn_follow.specs.Following.{Following, Heard, says, saves, begun, verdict_now, verdict_within, on_left_verdict, verdict_line}
+use Rattle.cstn_follow.specs.Following.{Following, Heard, says, saves, begun_following, verdict_now, verdict_within, on_left_verdict, verdict_line}
 use Rattle.cstn_follow.specs.FactLines.{records}
 use Rattle.cstn_follow.specs.Asking.{Spoken}
 use Rattle.cstn_follow.specs.Hearing.{on_follow, counted, hear}
 use Rattle.cstn_follow.specs.Recorded.{IsFact, IsRecorded}
-use Rattle.cstn_follow.specs.Turns.{IsTrueOf, heard_by}
+use Rattle.cstn_follow.specs.Turns.{IsTrueOfSession, heard_by}
 use Rattle.cstn_follow.proofs.Edited.{within_is}
 use Rattle.cstn_follow.proofs.FurtherLines.{line_spoken}
 use Rattle.cstn_follow.proofs.States.{IsSound, fact_is, counted_sound, lines_sound, begun_sound, verdict_true}
@@ -22,9 +22,9 @@ use Rattle.cstn_followed.specs.Plans.{IsRefusedBy}
 
 -- a state that lines lead to is sound
 pub reached_sound : (s : Following) → IsReached s → IsSound s
-reached_sound s r = lines_sound canonical (begun r.cap r.names r.network) s 0 r.lines (begun_sound r.cap r.names r.network r.labelled r.few r.named) r.leads
+reached_sound s r = lines_sound canonical (begun_following r.cap r.names r.network) s 0 r.lines (begun_sound r.cap r.names r.network r.labelled r.few r.named) r.leads
 
-pub states_true : (s : Following) → IsReached s → IsTrueOf s (verdict_now s)
+pub states_true : (s : Following) → IsReached s → IsTrueOfSession s (verdict_now s)
 states_true s r = verdict_true s (verdict_now s) (reached_sound s r) refl
 
 -- ---- the answers to facts

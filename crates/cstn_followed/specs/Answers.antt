@@ -23,7 +23,7 @@ use Rattle.cstn_follow.specs.Waiting.{rest_until, waits_until}
 use Rattle.cstn_check.specs.Givers.{ids_of}
 use Rattle.cstn_follow.specs.Blame.{network_alone, ids_to_blame}
 use Rattle.cstn_follow.specs.Recorded.{IsRecorded}
-use Rattle.cstn_follow.specs.Turns.{IsTrueOf}
+use Rattle.cstn_follow.specs.Turns.{IsTrueOfSession}
 
 -- ---- facts
 
@@ -34,7 +34,7 @@ pub record Accepts (s : Following) (fact : Follow) (text : List ℕ) (next : Fol
   pub recorded : IsRecorded s.names s.history fact later
   pub next_is : next ≡ record (counted s) { history = later }
   pub text_is : text ≡ verdict_line s.cap (verdict_now next)
-  pub is_true : IsTrueOf next (verdict_now next)
+  pub is_true : IsTrueOfSession next (verdict_now next)
 
 -- ---- what is next
 

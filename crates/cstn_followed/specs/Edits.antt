@@ -1,6 +1,8 @@
 -- What edits make of the plan, and facts of what has happened.
-use Rattle.std.specs.Prelude.{ℕ, ◌≡◌, ◌<◌, List, [], ◌∷◌, ◌++◌, Option, None, Some, Result, Ok, Err, codes, decimal}
+use Rattle.std.specs.Prelude.{ℕ, ◌≡◌, ◌+◌, ◌<◌, ◌≤◌, List, [], ◌∷◌, ◌++◌, length, Option, None, Some, Result, Ok, Err, codes, decimal}
 use Rattle.std.specs.List.{All}
+use Rattle.cstn_label.specs.Labels.{Label}
+use Rattle.cstn_net.specs.Limits.{most_edits}
 use Rattle.cstn_net.specs.Networks.{Network, Constraint}
 use Rattle.cstn_change.specs.Changes.{EditedNetwork, Change, removes, revalues, Refusal, after}
 use Rattle.cstn_change.specs.ChangeLines.{addition, accepted_text}
@@ -8,7 +10,11 @@ use Rattle.cstn_history.specs.Histories.{History}
 use Rattle.cstn_lines.specs.EditLines.{Edit, added, removed, changed, asked}
 use Rattle.cstn_lines.specs.FollowLines.{Follow, follow_read, done_at, came_at, now_at, awaited_at, edits, ends_by, asks_next, asks_by, asks_blame, asks_rest}
 use Rattle.cstn_reply.specs.Texts.{line}
+use Rattle.cstn_follow.specs.Amending.{forgives}
+use Rattle.cstn_follow.specs.Asking.{Spoken, of_line, of_question, of_amendment, spoken_read}
 use Rattle.cstn_follow.specs.Following.{Following}
+use Rattle.cstn_follow.specs.Forgiving.{broken_ids, after_removals}
+use Rattle.cstn_follow.specs.ForgivingLines.{forgiven_line}
 use Rattle.cstn_follow.specs.Hearing.{counted}
 use Rattle.cstn_follow.specs.PlanLines.{edited_network, replanned}
 use Rattle.cstn_follow.specs.Recorded.{IsRecorded}
@@ -44,10 +50,16 @@ plan_told names e (Some asks_blame) = e
 plan_told names e (Some asks_rest) = e
 plan_told names e None = e
 
--- what lines that are accepted make of it, one after the other
-abbrev pub plan_by_lines : List (List ℕ) → EditedNetwork → List (List ℕ) → EditedNetwork
-plan_by_lines names e [] = e
-plan_by_lines names e (first ∷ lines) = plan_by_lines names (plan_told names e (follow_read first)) lines
+-- what is broken once this has happened, by the network as edited, whose time-points have these labels
+abbrev pub broken_then : List Label → EditedNetwork → History → List ℕ
+broken_then labels e h = broken_ids (record { base = e.net; labels = labels }) h
+
+-- what a line that is accepted makes of the network where it says this: so does `forgive`, which removes what is broken then
+abbrev pub plan_spoken : List (List ℕ) → List Label → EditedNetwork → History → Option Spoken → EditedNetwork
+plan_spoken names labels e h None = e
+plan_spoken names labels e h (Some (of_line line)) = plan_told names e (Some line)
+plan_spoken names labels e h (Some (of_question question)) = e
+plan_spoken names labels e h (Some (of_amendment forgives)) = after_removals e (broken_then labels e h)
 
 -- what a line that is accepted makes of what has happened: facts are recorded
 abbrev pub IsHistoryTold : List (List ℕ) → History → Option Follow → History → Type 0
@@ -63,7 +75,14 @@ IsHistoryTold names h (Some asks_blame) later = later ≡ h
 IsHistoryTold names h (Some asks_rest) later = later ≡ h
 IsHistoryTold names h None later = later ≡ h
 
--- what lines that are accepted make of it, one after the other
+-- what lines that are accepted make of the network, one after the other, as what has happened goes on by them
+abbrev pub IsPlanByLines : List (List ℕ) → List Label → EditedNetwork → History → List (List ℕ) → EditedNetwork → Type 0
+IsPlanByLines names labels e h [] last = last ≡ e
+IsPlanByLines names labels e h (first ∷ lines) last =
+    (next : History) × IsHistoryTold names h (follow_read first) next
+    × IsPlanByLines names labels (plan_spoken names labels e h (spoken_read first)) next lines last
+
+-- what lines that are accepted make of what has happened, one after the other
 abbrev pub IsHistoryByLines : List (List ℕ) → History → List (List ℕ) → History → Type 0
 IsHistoryByLines names h [] later = later ≡ h
 IsHistoryByLines names h (first ∷ lines) later = (next : History) × IsHistoryTold names h (follow_read first) next × IsHistoryByLines names next lines later
@@ -101,6 +120,12 @@ IsAcceptedText names fresh asks_rest text = ⊥
 pub record Edits (s : Following) (edit : Follow) (text : List ℕ) (next : Following) : Type 0 where
   pub next_is : next ≡ replanned (counted s) (plan_told s.names (edited_network s) (Some edit))
   pub text_is : IsAcceptedText s.names s.fresh edit text
+
+-- what is broken is removed, and nothing else changes but the count of lines; the text says which constraints these were
+pub record Forgives (s : Following) (text : List ℕ) (next : Following) : Type 0 where
+  pub few : s.edits + length (broken_ids s.network s.history) ≤ most_edits
+  pub next_is : next ≡ replanned (counted s) (after_removals (edited_network s) (broken_ids s.network s.history))
+  pub text_is : text ≡ forgiven_line (broken_ids s.network s.history)
 
 -- no constraint of the network has this id or a later one
 abbrev pub IsNew : Network → ℕ → Type 0

@@ -1,14 +1,11 @@
 -- The journal of a session that follows: the lines that were accepted.
-use Rattle.std.specs.Prelude.{ℕ, ◌≡◌, ◌⊎◌, Bool, true, false, List, [], ◌∷◌, take, codes, bytes_eq}
+use Rattle.std.specs.Prelude.{ℕ, ◌≡◌, ◌⊎◌, Bool, true, false, List, [], ◌∷◌}
 use Rattle.std.specs.List.{All}
 use Rattle.cstn_reply.specs.Sessions.{on_turn}
 use Rattle.cstn_reply.specs.Texts.{full_line}
 use Rattle.cstn_follow.specs.Following.{Following}
+use Rattle.cstn_follow.specs.Trials.{is_refusal}
 use Rattle.cstn_followed.specs.Sessions.{follow_turn}
-
--- the text refuses a line
-abbrev pub is_refusal : List ℕ → Bool
-is_refusal text = bytes_eq (take 8 text) (codes "refused ")
 
 -- what is answered to each of the lines
 abbrev pub texts_of : Following → List (List ℕ) → List (List ℕ)

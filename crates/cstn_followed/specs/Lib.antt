@@ -9,5 +9,7 @@ pub mod End
 -- Its journal, and the order of its lines.
 pub mod Journal
 pub mod Order
+-- Sessions with marks.
+pub mod Marked
 -- What edits make of the plan.
 pub mod Edits

@@ -8,7 +8,7 @@ use Rattle.cstn_lift.specs.WellFormed.{IsLabelled}
 use Rattle.cstn_save.specs.Canonical.{canonical}
 use Rattle.cstn_reply.specs.Sessions.{Turn}
 use Rattle.cstn_reply.specs.Reached.{state_after}
-use Rattle.cstn_follow.specs.Following.{Following, begun}
+use Rattle.cstn_follow.specs.Following.{Following, begun_following}
 use Rattle.cstn_follow.specs.Turns.{turn_by}
 
 -- the answer to a line, which may be none of the session; what is left is written as its canonical document
@@ -24,4 +24,4 @@ pub record IsReached (s : Following) : Type 0 where
   pub labelled : IsLabelled network
   pub few : length (lowered network).constraints ≤ most_constraints
   pub named : length names ≡ count network.base
-  pub leads : state_after follow_turn (begun cap names network) 0 lines ≡ Some s
+  pub leads : state_after follow_turn (begun_following cap names network) 0 lines ≡ Some s

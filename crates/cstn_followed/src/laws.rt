@@ -1,9 +1,9 @@
 // What is true in each state of a session that follows. The calls do nothing: their contracts are the laws.
-ghost use Rattle.std.specs.Prelude.{ℕ, ◌≡◌, ◌≤◌, ◌↔◌, ◌⊎◌, ◌+◌, ◌++◌, List, length, Some, codes, false, not};
-ghost use Rattle.std.specs.List.{filter};
+ghost use Rattle.std.specs.Prelude.{ℕ, ◌≡◌, ◌≤◌, ◌↔◌, ◌⊎◌, ◌+◌, ◌++◌, [], List, length, Some, IsTrue, codes, false, not};
+ghost use Rattle.std.specs.List.{Contains, filter};
 ghost use Rattle.cstn_label.specs.Labels.{Scenario};
 ghost use Rattle.cstn_net.specs.Limits.{most_constraints};
-ghost use Rattle.cstn_net.specs.Networks.{count};
+ghost use Rattle.cstn_net.specs.Networks.{Constraint, count};
 ghost use Rattle.cstn_text.specs.Names.{number_of};
 ghost use Rattle.cstn_lift.specs.Labelled.{Labelled};
 ghost use Rattle.cstn_lift.specs.Lowered.{lowered};
@@ -17,20 +17,23 @@ ghost use Rattle.cstn_reply.specs.Texts.{line, say};
 ghost use Rattle.cstn_reply.specs.declared.output.Outcome.TheVariants.{Good, Bad};
 ghost use Rattle.cstn_reply.specs.Sessions.{more};
 ghost use Rattle.cstn_reply.specs.Reached.{state_after};
-ghost use Rattle.cstn_follow.specs.Asking.{Asked, of_question, spoken_read};
-ghost use Rattle.cstn_follow.specs.Following.{Following, begun, verdict_now, is_any_open, following_ending};
+ghost use Rattle.cstn_follow.specs.Amending.{forgives};
+ghost use Rattle.cstn_follow.specs.Asking.{FurtherQuestion, of_question, of_amendment, spoken_read};
+ghost use Rattle.cstn_follow.specs.Following.{Following, begun_following, verdict_now, is_any_open, following_ending};
+ghost use Rattle.cstn_follow.specs.Forgiving.{IsBrokenBy, is_broken_by, broken_ids};
 ghost use Rattle.cstn_follow.specs.Hearing.{counted};
 ghost use Rattle.cstn_follow.specs.PlanLines.{edited_network};
 ghost use Rattle.cstn_follow.specs.Recorded.{IsFact};
-ghost use Rattle.cstn_follow.specs.Turns.{IsTrueOf};
+ghost use Rattle.cstn_follow.specs.Turns.{IsTrueOfSession};
 ghost use Rattle.cstn_followed.specs.Sessions.{IsReached, follow_turn};
 ghost use Rattle.cstn_followed.specs.Answers.{Accepts, AnswersNext, AnswersBy, AnswersBlame};
 ghost use Rattle.cstn_followed.specs.FurtherAnswers.{AnswersAsked};
 ghost use Rattle.cstn_followed.specs.Plans.{IsRefusedBy, KeepToNext, KeepGoing};
 ghost use Rattle.cstn_followed.specs.Finished.{IsCarriedOut, HaveTheSame};
-ghost use Rattle.cstn_followed.specs.Journal.{is_refusal, texts_of, accepted_of, with_cap, AreAccepted, AreSameButCount, AreSameUnlessFull};
+ghost use Rattle.cstn_followed.specs.Journal.{texts_of, accepted_of, with_cap, AreAccepted, AreSameButCount, AreSameUnlessFull};
+ghost use Rattle.cstn_follow.specs.Trials.{is_refusal};
 ghost use Rattle.cstn_followed.specs.Order.{AllTellPast, IsHistoryOf, TellTheSame};
-ghost use Rattle.cstn_followed.specs.Edits.{plan_by_lines, IsHistoryByLines, IsEditLine, Edits, IsNew};
+ghost use Rattle.cstn_followed.specs.Edits.{IsPlanByLines, IsHistoryByLines, IsEditLine, Edits, Forgives, IsNew};
 ghost use Rattle.cstn_followed.specs.End.{count_left, AreTurns};
 ghost use Rattle.cstn_check.specs.declared.verdicts.Verdict.TheVariants.{Full};
 
@@ -39,7 +42,7 @@ ghost use Rattle.cstn_check.specs.declared.verdicts.Verdict.TheVariants.{Full};
 /// is refused, with nothing changed but the count of lines; or it is in the history then, nothing else is changed, and the answer is the
 /// line of the verdict on what is left then, which is true.
 pub fn followed_verdicts_are_true()
-    ensures states { (s : Following) → IsReached s → IsTrueOf s (verdict_now s) }
+    ensures states { (s : Following) → IsReached s → IsTrueOfSession s (verdict_now s) }
     ensures facts { (s next : Following) (bytes text : List ℕ) (fact : Follow) → IsReached s → follow_read bytes ≡ Some fact → IsFact fact
         → follow_turn s bytes ≡ more text next → IsRefusedBy s text next ⊎ Accepts s fact text next }
 {}
@@ -69,7 +72,7 @@ pub fn followed_answers_are_true()
 /// which each time-point can wait that is left to be done. `late` is answered by the last moment at which the outcome can be expected, or
 /// that there is none, also after no.
 pub fn followed_questions_are_answered()
-    ensures { (s t : Following) (bytes text : List ℕ) (question : Asked) → IsReached s → spoken_read bytes ≡ Some (of_question question)
+    ensures { (s t : Following) (bytes text : List ℕ) (question : FurtherQuestion) → IsReached s → spoken_read bytes ≡ Some (of_question question)
         → follow_turn s bytes ≡ more text t → (t ≡ counted s) × AnswersAsked s question text }
 {}
 
@@ -80,7 +83,7 @@ pub fn followed_questions_are_answered()
 pub fn followed_plans_go_on()
     ensures { (cap : ℕ) (names : List (List ℕ)) (m : Labelled) (before lines : List (List ℕ)) (s : Following) → IsLabelled m
         → length (lowered m).constraints ≤ most_constraints → length names ≡ count m.base
-        → state_after follow_turn (begun cap names m) 0 before ≡ Some s → Can s.network s.history → KeepToNext s lines → KeepGoing s lines }
+        → state_after follow_turn (begun_following cap names m) 0 before ≡ Some s → Can s.network s.history → KeepToNext s lines → KeepGoing s lines }
 {}
 
 /// Where nothing is left, some table continues what has happened exactly where the plan was carried out: in each case that agrees with
@@ -99,13 +102,15 @@ pub fn finished_plans_are_carried_out()
 /// answered as it was, also the questions. So they are a journal, which brings the session back.
 pub fn journals_lead_back()
     ensures state { (cap : ℕ) (names : List (List ℕ)) (m : Labelled) (lines : List (List ℕ)) (s : Following) → IsLabelled m
-        → length (lowered m).constraints ≤ most_constraints → length names ≡ count m.base → state_after follow_turn (begun cap names m) 0 lines ≡ Some s
-        → (again : Following) × (state_after follow_turn (begun cap names m) 0 (accepted_of (begun cap names m) lines) ≡ Some again)
+        → length (lowered m).constraints ≤ most_constraints → length names ≡ count m.base
+        → state_after follow_turn (begun_following cap names m) 0 lines ≡ Some s
+        → (again : Following) × (state_after follow_turn (begun_following cap names m) 0 (accepted_of (begun_following cap names m) lines) ≡ Some again)
         × AreSameButCount s again }
     ensures texts { (cap : ℕ) (names : List (List ℕ)) (m : Labelled) (lines : List (List ℕ)) (s : Following) → IsLabelled m
-        → length (lowered m).constraints ≤ most_constraints → length names ≡ count m.base → state_after follow_turn (begun cap names m) 0 lines ≡ Some s
-        → texts_of (begun cap names m) (accepted_of (begun cap names m) lines)
-        ≡ filter (λ text. not (is_refusal text)) (texts_of (begun cap names m) lines) }
+        → length (lowered m).constraints ≤ most_constraints → length names ≡ count m.base
+        → state_after follow_turn (begun_following cap names m) 0 lines ≡ Some s
+        → texts_of (begun_following cap names m) (accepted_of (begun_following cap names m) lines)
+        ≡ filter (λ text. not (is_refusal text)) (texts_of (begun_following cap names m) lines) }
 {}
 
 /// With a larger cap lines lead to the same state but for the cap, and each is answered as with the smaller one, unless that answered
@@ -113,11 +118,12 @@ pub fn journals_lead_back()
 pub fn larger_caps_say_more()
     ensures state { (cap larger : ℕ) (names : List (List ℕ)) (m : Labelled) (lines : List (List ℕ)) (s : Following) → IsLabelled m
         → length (lowered m).constraints ≤ most_constraints → length names ≡ count m.base → cap ≤ larger
-        → state_after follow_turn (begun cap names m) 0 lines ≡ Some s → state_after follow_turn (begun larger names m) 0 lines ≡ Some (with_cap s larger) }
+        → state_after follow_turn (begun_following cap names m) 0 lines ≡ Some s
+        → state_after follow_turn (begun_following larger names m) 0 lines ≡ Some (with_cap s larger) }
     ensures texts { (cap larger : ℕ) (names : List (List ℕ)) (m : Labelled) (lines : List (List ℕ)) (s : Following) → IsLabelled m
         → length (lowered m).constraints ≤ most_constraints → length names ≡ count m.base → cap ≤ larger
-        → state_after follow_turn (begun cap names m) 0 lines ≡ Some s
-        → AreSameUnlessFull cap (texts_of (begun cap names m) lines) (texts_of (begun larger names m) lines) }
+        → state_after follow_turn (begun_following cap names m) 0 lines ≡ Some s
+        → AreSameUnlessFull cap (texts_of (begun_following cap names m) lines) (texts_of (begun_following larger names m) lines) }
 {}
 
 /// Two lists of lines, each of which tells what has happened (`did`, `saw` or `now`) and is accepted, lead to the same history where they
@@ -145,7 +151,8 @@ pub fn followed_plans_end()
 
 /// An edit or a deadline is refused, with nothing changed but the count of lines, or the network is the one edited by it, and nothing
 /// else changes but the count of lines; an edit is counted, and a deadline isn't. So over all lines the network is the one at the start
-/// as edited by the accepted edits, in their order, with their count, and what has happened is what the accepted facts say. The id of a
+/// as edited by the accepted edits, in their order, with their count, where `forgive` removes what is broken by what had happened then;
+/// and what has happened is what the accepted facts say. The id of a
 /// constraint that is added was never used before: it is above all ids of each network that the session had.
 pub fn edits_change_the_plan_alone()
     ensures answers { (s next : Following) (bytes text : List ℕ) (edit : Follow) → IsReached s → follow_read bytes ≡ Some edit → IsEditLine edit
@@ -153,12 +160,28 @@ pub fn edits_change_the_plan_alone()
     ensures new { (earlier s : Following) (k : ℕ) (lines : List (List ℕ)) → IsReached earlier → state_after follow_turn earlier k lines ≡ Some s
         → IsNew earlier.network.base s.fresh }
     ensures plan { (cap : ℕ) (names : List (List ℕ)) (m : Labelled) (lines : List (List ℕ)) (s : Following) → IsLabelled m
-        → length (lowered m).constraints ≤ most_constraints → length names ≡ count m.base → state_after follow_turn (begun cap names m) 0 lines ≡ Some s
-        → edited_network s ≡ plan_by_lines names (unedited m.base) (accepted_of (begun cap names m) lines) }
+        → length (lowered m).constraints ≤ most_constraints → length names ≡ count m.base
+        → state_after follow_turn (begun_following cap names m) 0 lines ≡ Some s
+        → IsPlanByLines names m.labels (unedited m.base) nothing_yet (accepted_of (begun_following cap names m) lines) (edited_network s) }
     ensures labels { (cap : ℕ) (names : List (List ℕ)) (m : Labelled) (lines : List (List ℕ)) (s : Following) → IsLabelled m
-        → length (lowered m).constraints ≤ most_constraints → length names ≡ count m.base → state_after follow_turn (begun cap names m) 0 lines ≡ Some s
+        → length (lowered m).constraints ≤ most_constraints → length names ≡ count m.base
+        → state_after follow_turn (begun_following cap names m) 0 lines ≡ Some s
         → s.network.labels ≡ m.labels }
     ensures history { (cap : ℕ) (names : List (List ℕ)) (m : Labelled) (lines : List (List ℕ)) (s : Following) → IsLabelled m
-        → length (lowered m).constraints ≤ most_constraints → length names ≡ count m.base → state_after follow_turn (begun cap names m) 0 lines ≡ Some s
-        → IsHistoryByLines names nothing_yet (accepted_of (begun cap names m) lines) s.history }
+        → length (lowered m).constraints ≤ most_constraints → length names ≡ count m.base
+        → state_after follow_turn (begun_following cap names m) 0 lines ≡ Some s
+        → IsHistoryByLines names nothing_yet (accepted_of (begun_following cap names m) lines) s.history }
+{}
+
+/// `forgive` is refused, by S6, with nothing changed but the count of lines, or each constraint that what was done has broken is removed,
+/// which counts as an edit each, and nothing else changes but the count of lines; the answer tells their ids. Broken is a constraint whose
+/// ends are done at moments that don't meet it and which is in force in some case that is left. Where what has happened can go on, none
+/// is; and none is once what was broken is forgiven.
+pub fn forgiving_gives_up_what_is_broken()
+    ensures answers { (s next : Following) (bytes text : List ℕ) → IsReached s → spoken_read bytes ≡ Some (of_amendment forgives)
+        → follow_turn s bytes ≡ more text next → IsRefusedBy s text next ⊎ Forgives s text next }
+    ensures broken { (s : Following) (c : Constraint) → IsReached s → Contains s.network.base.constraints c
+        → (IsTrue (is_broken_by s.network s.history c) ↔ IsBrokenBy s.network s.history c) }
+    ensures kept { (s : Following) → IsReached s → Can s.network s.history → broken_ids s.network s.history ≡ [] }
+    ensures none { (s next : Following) (text : List ℕ) → Forgives s text next → broken_ids next.network next.history ≡ [] }
 {}

@@ -1,22 +1,19 @@
 -- What the outcome of a check tells, without what is written.
-use Rattle.std.proofs.Common.{ℕ, ◌<◌, List, ap, sym, subst}
+use Rattle.std.proofs.Common.{◌≡◌, ℕ, ◌<◌, List, ap, sym, subst}
 use Rattle.cstn_net.specs.Networks.{Network, IsWellFormed}
 use Rattle.cstn_check.specs.Growth.{load_of}
 use Rattle.cstn_check.specs.declared.verdicts.Verdict.{Verdict}
 use Rattle.cstn_check.specs.declared.verdicts.Verdict.TheVariants.{Yes, No, Full as IsFullVerdict}
 use Rattle.cstn_reply.specs.Texts.{Said, yes_line}
-use Rattle.cstn_top.specs.Plans.{says, IsOutput}
-use Rattle.cstn_top.specs.Answers.{on_verdict}
 use Rattle.cstn_top.specs.Verdicts.{IsLabelledYes}
 use Rattle.cstn_lift.specs.Labelled.{Labelled}
 use Rattle.cstn_lift.specs.Lowered.{lowered}
 use Rattle.cstn_lift.specs.Strategies.{IsEquivalent}
-use Rattle.cstn_check.specs.Decisions.{verdict, IsYes, IsNo}
+use Rattle.cstn_check.specs.Decisions.{verdict, unless_yes, or_else, checked, IsYes, IsNo}
 use Rattle.cstn_reply.specs.declared.output.Outcome.{Outcome}
 use Rattle.cstn_reply.specs.declared.output.Outcome.TheVariants.{Good, Bad, Words, Document, Full, Unfinished, Script, Wide}
 use Rattle.cstn_check.proofs.Deciding.{Tells, verdict_tells}
 use Rattle.cstn_headline.specs.Verdicts.{IsLabelledNo}
-use Rattle.cstn_top.specs.commands.Check.{checked}
 use Rattle.cstn_top.proofs.Labels.{IsOfLabelled}
 
 -- what the outcome of a check tells of a network
@@ -30,13 +27,14 @@ Verdicts cap net Unfinished = ⊥
 Verdicts cap net Script = ⊥
 Verdicts cap net Wide = ⊥
 
-pub verdict_says : (cap : ℕ) (names : List (List ℕ)) (net : Network) (text live : List ℕ) (said : Said) → IsWellFormed net → IsOutput (on_verdict cap names net (says (record { outcome = Good; text = text })) (verdict cap net)) live said → Verdicts cap net said.outcome
-verdict_says cap names net text live said good output = by_verdict (verdict cap net) (verdict_tells cap net good) output
+verdict_says : (cap : ℕ) (names : List (List ℕ)) (net : Network) (said : Said) → IsWellFormed net → said ≡ checked cap names net → Verdicts cap net said.outcome
+verdict_says cap names net said good is =
+    subst (Verdicts cap net) (sym (ap (λ (s : Said). s.outcome) is)) (by_verdict (verdict cap net) (verdict_tells cap net good))
   where
-    by_verdict : (v : Verdict) → Tells cap net v → IsOutput (on_verdict cap names net (says (record { outcome = Good; text = text })) v) live said → Verdicts cap net said.outcome
-    by_verdict (Yes load) tells' is = subst (λ (o : Outcome). Verdicts cap net o) (sym (ap (λ (s : Said). s.outcome) is)) tells'
-    by_verdict (No load) tells' is = subst (λ (o : Outcome). Verdicts cap net o) (sym (ap (λ (s : Said). s.outcome) is)) tells'
-    by_verdict IsFullVerdict tells' is = subst (λ (o : Outcome). Verdicts cap net o) (sym (ap (λ (s : Said). s.outcome) is)) tells'
+    by_verdict : (v : Verdict) → Tells cap net v → Verdicts cap net (or_else (unless_yes cap names net v) (record { outcome = Good; text = yes_line (load_of net) })).outcome
+    by_verdict (Yes load) tells' = tells'
+    by_verdict (No load) tells' = tells'
+    by_verdict IsFullVerdict tells' = tells'
 
 -- what the outcome of a check tells of a labelled network, where the network that it is lowered to is checked
 abbrev pub VerdictsLabelled : ℕ → Labelled → Outcome → Type 0
@@ -59,5 +57,5 @@ verdicts_labelled cap m Unfinished same is = is
 verdicts_labelled cap m Script same is = is
 verdicts_labelled cap m Wide same is = is
 
-pub check_verdicts : (cap : ℕ) (live : List ℕ) (said : Said) (names : List (List ℕ)) (m : Labelled) → IsOfLabelled names m → IsOutput (checked cap names (lowered m)) live said → VerdictsLabelled cap m said.outcome
-check_verdicts cap live said names m of is = verdicts_labelled cap m said.outcome of.same (verdict_says cap names (lowered m) (yes_line (load_of (lowered m))) live said of.plain.good is)
+pub check_verdicts : (cap : ℕ) (said : Said) (names : List (List ℕ)) (m : Labelled) → IsOfLabelled names m → said ≡ checked cap names (lowered m) → VerdictsLabelled cap m said.outcome
+check_verdicts cap said names m of is = verdicts_labelled cap m said.outcome of.same (verdict_says cap names (lowered m) said of.plain.good is)

@@ -22,14 +22,14 @@ use Rattle.cstn_text.specs.Names.{AreNames}
 use Rattle.cstn_refute.specs.Texts.{Told, tells, told, shown}
 use Rattle.cstn_refute.specs.Written.{ArePlaces, IsPrintableStep, AreWritten}
 use Rattle.cstn_lines.specs.EditLines.{Edit, added, removed, changed, asked, edit_read}
-use Rattle.cstn_top.specs.commands.Replay.{replayed_steps, replayed}
-use Rattle.cstn_headline.specs.Accepted.{IsAccepted, IsNoText, HasIds}
+use Rattle.cstn_replay.specs.Texts.{IsReplayOfSteps, IsReplayOf}
+use Rattle.cstn_headline.specs.Accepted.{IsAcceptance, IsNoText, HasIds}
 use Rattle.cstn_change.specs.Changes.{EditedNetwork, Change, adds, removes, revalues, Refusal, EditLimit, unedited, refusal, after, if_accepted}
 use Rattle.cstn_change.specs.ChangeLines.{addition, after_change, after_edit, after_lines}
 use Rattle.cstn_change.proofs.IdLemmas.{above_small, one_id}
 use Rattle.cstn_net.proofs.Kept.{limit_in_time}
 use Rattle.cstn_headline.proofs.Lengths.{steps_text_short}
-use Rattle.cstn_headline.proofs.ReadBack.{letters_alone, short_text, replay_accepted, StepsBack}
+use Rattle.cstn_headline.proofs.ReadBack.{letters_alone, short_accepted, replay_accepted, StepsBack}
 
 -- ---- ids stay numbers of 32 bits
 
@@ -141,5 +141,5 @@ module _ (names : List (List ℕ)) (net : Network) (good : IsWellFormed net) (na
   kept_text back are =
       let text = shown names (length list) (part list) in
       let says : told names text ≡ tells (length list) (part list) = back names (length list) (part list) are steps_written in
-      subst IsAccepted (sym (short_text replayed text names net (steps_text_short names (length list) (part list) are steps_written)))
-      (subst (λ (t : Told). IsAccepted (replayed_steps t net)) (sym says) (replay_accepted net (part list) (part_refutation net list refutation)))
+      short_accepted (IsReplayOf names text net) text (steps_text_short names (length list) (part list) are steps_written)
+      (subst (λ (t : Told). IsAcceptance (IsReplayOfSteps t net)) (sym says) (replay_accepted net (part list) (part_refutation net list refutation)))

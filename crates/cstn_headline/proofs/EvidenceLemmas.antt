@@ -11,12 +11,12 @@ use Rattle.cstn_conflict.specs.Conflicts.{conflict_set}
 use Rattle.cstn_conflict.proofs.ConflictLemmas.{inconsistent, needed}
 use Rattle.cstn_tight.specs.Deadlines.{at_deadline, least_deadline}
 use Rattle.cstn_tight.proofs.LeastLemmas.{good_at_deadline, IsRefuted, IsFound, found}
-use Rattle.cstn_headline.specs.Verdicts.{IsListed, IsRefutedByLog}
+use Rattle.cstn_headline.specs.Verdicts.{HasListedBounds, IsRefutedByLog}
 use Rattle.cstn_headline.specs.commands.Tight.{IsTight}
 use Rattle.cstn_headline.specs.commands.Conflict.{IsConflict}
 
 -- the bounds of a yes have no fault
-pub listed_well : (net : Network) → IsWellFormed net → IsConsistent net → IsListed net
+pub listed_well : (net : Network) → IsWellFormed net → IsConsistent net → HasListedBounds net
 listed_well = listed_faultless
 
 -- the log of a network that isn't consistent has a refutation

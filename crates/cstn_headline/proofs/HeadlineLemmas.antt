@@ -19,23 +19,23 @@ use Rattle.cstn_request.specs.Requests.{Request, check, run, edit, replay}
 use Rattle.cstn_reply.specs.Texts.{Said, yes_line}
 use Rattle.cstn_top.proofs.Labels.{of_parts, labelled_then}
 use Rattle.cstn_top.proofs.Endings.{status_alone, EndsAs, end_status}
-use Rattle.cstn_headline.specs.Headline.{CallTells, Document, network, printed_names, HasStrategy, load, edited, Call, Checked, Ran, Replayed, Edited, Decides, IsEditedVerdict, WasWritten, IsExecutedOver}
-use Rattle.cstn_headline.specs.Telling.{Telling, Tells, OfLabelled}
+use Rattle.cstn_headline.specs.Headline.{CallTells, Document, network, printed_names, DocumentHasStrategy, load, network_edited, RequestCall, Checked, Ran, Replayed, Edited, StatusDecides, IsEditedVerdict, WasWritten, IsExecutedOver}
+use Rattle.cstn_headline.specs.Telling.{Telling, OutcomeTells, OfLabelled}
 use Rattle.cstn_headline.specs.commands.Check.{check_telling}
 use Rattle.cstn_headline.specs.commands.Run.{AnswersLeast, WroteRun, run_telling}
 use Rattle.cstn_headline.specs.commands.Edit.{AtLastCheck, WroteEdits, edit_telling}
 use Rattle.cstn_headline.specs.commands.Replay.{replay_telling}
 use Rattle.cstn_headline.proofs.Checks.{VerdictsLabelled, check_verdicts}
 use Rattle.cstn_headline.proofs.records.Run.{yes_planned, answers_least}
-use Rattle.cstn_top.specs.Plans.{IsOutput}
-use Rattle.cstn_top.specs.Answers.{LabelledAnswer, of_lowered, on_labelled, by_text}
-use Rattle.cstn_top.specs.commands.Check.{checked}
+use Rattle.cstn_top.specs.Answers.{LabelledAnswer, of_lowered, on_labelled}
+use Rattle.cstn_check.specs.Decisions.{checked}
+use Rattle.cstn_request.specs.declared.words.NetworkVerb.TheVariants.{Check}
+use Rattle.cstn_request.specs.declared.words.TextVerb.TheVariants.{Replay}
 use Rattle.cstn_top.specs.Verdicts.{IsLabelledYes}
-use Rattle.cstn_top.specs.commands.Replay.{replayed}
-use Rattle.cstn_top.specs.Dispatch.{plan_at}
+use Rattle.cstn_top.specs.Dispatch.{network_answer, text_answer, plan_at}
 use Rattle.cstn_top.specs.Meanings.{IsStopped}
 use Rattle.cstn_top.specs.commands.Run.{run_bounds}
-use Rattle.cstn_request.specs.Documents.{AreEmpty, AreUnlabelled, parts_of, HasLabelled, HasNetwork, IsNoDocument, IsRefused}
+use Rattle.cstn_request.specs.Documents.{AreEmpty, AreUnlabelled, parts_read, HasLabelled, HasNetwork, IsNoDocument, IsRefused}
 use Rattle.cstn_reply.specs.Statuses.{status_of}
 use Rattle.cstn_reply.specs.Written.{LiveState}
 use Rattle.cstn_reply.specs.declared.status.Status.{Status}
@@ -54,36 +54,36 @@ use Rattle.cstn_headline.proofs.Told.{call_tells}
 
 -- what holds of the labelled network that a document has holds of this one
 of_document : (d : Document) (holds : List (List ℕ) → Labelled → Type 0) → HasLabelled d.bytes d.asked.deadline holds → holds d.parts.names (network d)
-of_document d holds has = (subst (λ (r : Result Parts DocumentRefusal). IsSomeAnd (parts_of r) (λ parts. IsFit parts × holds parts.names (labelled_of parts))) d.reads has).1
+of_document d holds has = (subst (λ (r : Result Parts DocumentRefusal). IsSomeAnd (parts_read r) (λ parts. IsFit parts × holds parts.names (labelled_of parts))) d.reads has).1
 
 -- and likewise where no time-point has a label
 of_plain_document : (d : Document) (holds : List (List ℕ) → Network → Type 0) → HasNetwork d.bytes d.asked.deadline holds → holds d.parts.names (network d).base
-of_plain_document d holds has = (subst (λ (r : Result Parts DocumentRefusal). IsSomeAnd (parts_of r) (λ parts. AreUnlabelled parts × holds parts.names (network_of parts))) d.reads has).1
+of_plain_document d holds has = (subst (λ (r : Result Parts DocumentRefusal). IsSomeAnd (parts_read r) (λ parts. AreUnlabelled parts × holds parts.names (network_of parts))) d.reads has).1
 
 -- a document isn't refused
 is_document : (d : Document) → IsNoDocument d.bytes d.asked.deadline → ⊥
 is_document d (inl long) = let short = d.short in omega (arith, short, long)
-is_document d (inr none) = none (subst (λ (r : Result Parts DocumentRefusal). IsSomeAnd (parts_of r) (λ parts. IsFit parts × Unit {0})) (sym d.reads) (d.fit, tt))
+is_document d (inr none) = none (subst (λ (r : Result Parts DocumentRefusal). IsSomeAnd (parts_read r) (λ parts. IsFit parts × Unit {0})) (sym d.reads) (d.fit, tt))
 
 -- nor is one whose time-points have no labels
 is_plain_document : (d : Document) → AreEmpty d.parts.labels → IsRefused d.bytes d.asked.deadline → ⊥
 is_plain_document d plain (inl long) = let short = d.short in omega (arith, short, long)
-is_plain_document d plain (inr none) = none (subst (λ (r : Result Parts DocumentRefusal). IsSomeAnd (parts_of r) (λ parts. AreUnlabelled parts × Unit {0})) (sym d.reads) ((d.fit, plain), tt))
+is_plain_document d plain (inr none) = none (subst (λ (r : Result Parts DocumentRefusal). IsSomeAnd (parts_read r) (λ parts. AreUnlabelled parts × Unit {0})) (sym d.reads) ((d.fit, plain), tt))
 
 -- an answer over a document is an output for its labelled network
-answers : (answer : LabelledAnswer) (d : Document) (live : List ℕ) (said : Said) → IsOutput (on_labelled answer d.bytes d.asked.deadline) live said → IsOutput (answer d.parts.names (network d)) live said
+answers : (answer : LabelledAnswer) (d : Document) (live : List ℕ) (said : Said) → (on_labelled answer d.bytes d.asked.deadline).output live said → (answer d.parts.names (network d)).output live said
 answers answer d live said output = by_said (labelled_says answer d.bytes d.asked.deadline live said output)
   where
-    by_said : ((said.outcome ≡ IsRefusedOutcome) × IsNoDocument d.bytes d.asked.deadline) ⊎ HasLabelled d.bytes d.asked.deadline (λ names m. IsOutput (answer names m) live said) → IsOutput (answer d.parts.names (network d)) live said
+    by_said : ((said.outcome ≡ IsRefusedOutcome) × IsNoDocument d.bytes d.asked.deadline) ⊎ HasLabelled d.bytes d.asked.deadline (λ names m. (answer names m).output live said) → (answer d.parts.names (network d)).output live said
     by_said (inl refused) = absurd (is_document d refused.1)
-    by_said (inr has) = of_document d (λ names m. IsOutput (answer names m) live said) has
+    by_said (inr has) = of_document d (λ names m. (answer names m).output live said) has
 
 -- a call that isn't stopped ends with the status of an output
-ends : (request : Request) (contents : List (List ℕ)) (c : Call request contents) → (live : List ℕ) × IsAllOf c.before.left live × ((said : Said) × IsOutput (plan_at request contents) live said × (c.status ≡ status_of said.outcome))
+ends : (request : Request) (contents : List (List ℕ)) (c : RequestCall request contents) → (live : List ℕ) × IsAllOf c.before.left live × ((said : Said) × (plan_at request contents).output live said × (c.status ≡ status_of said.outcome))
 ends request contents c = by_end (end_status (plan_at request contents) c.before c.after (Some c.old) (Some (c.old ++ c.text)) c.status c.output)
   where
     Ended : Type 0
-    Ended = (live : List ℕ) × IsAllOf c.before.left live × ((said : Said) × IsOutput (plan_at request contents) live said × (c.status ≡ status_of said.outcome))
+    Ended = (live : List ℕ) × IsAllOf c.before.left live × ((said : Said) × (plan_at request contents).output live said × (c.status ≡ status_of said.outcome))
 
     by_end : Ended ⊎ IsStopped c.status → Ended
     by_end (inl ended) = ended
@@ -92,20 +92,20 @@ ends request contents c = by_end (end_status (plan_at request contents) c.before
 -- ---- `check`
 
 -- a status that decides whether this holds
-yes_decides : (status : Status) (holds : Type 0) → status ≡ IsYesStatus → holds → Decides status holds
+yes_decides : (status : Status) (holds : Type 0) → status ≡ IsYesStatus → holds → StatusDecides status holds
 yes_decides status holds is has = ((λ at. has, λ h. is), (λ at. absurd (differ (sym is ∙ at)), λ never. absurd (never has)))
   where
     differ : IsYesStatus ≡ IsNoStatus → ⊥
     differ same = let f : ⊥ = cc in f
 
-no_decides : (status : Status) (holds : Type 0) → status ≡ IsNoStatus → (holds → ⊥) → Decides status holds
+no_decides : (status : Status) (holds : Type 0) → status ≡ IsNoStatus → (holds → ⊥) → StatusDecides status holds
 no_decides status holds is never = ((λ at. absurd (differ (sym at ∙ is)), λ h. absurd (never h)), (λ at. never, λ n. is))
   where
     differ : IsYesStatus ≡ IsNoStatus → ⊥
     differ same = let f : ⊥ = cc in f
 
 check_decides : (cap : ℕ) (m : Labelled) (status : Status) (o : Outcome) → status ≡ status_of o → VerdictsLabelled cap m o →
-    ((status ≡ IsFullStatus) × (cap < load_of (lowered m))) ⊎ (Decides status (IsLabelledConsistent m) × (load_of (lowered m) ≤ cap))
+    ((status ≡ IsFullStatus) × (cap < load_of (lowered m))) ⊎ (StatusDecides status (IsLabelledConsistent m) × (load_of (lowered m) ≤ cap))
 check_decides cap m status Good at yes' = inr (yes_decides status (IsLabelledConsistent m) at yes'.0, yes'.1)
 check_decides cap m status Bad at no' = inr (no_decides status (IsLabelledConsistent m) at no'.0, no'.1)
 check_decides cap m status Full at above = inl (at, above)
@@ -120,23 +120,23 @@ pub check_said : (d : Document) (cap : ℕ) (before : LiveState) (status : Statu
     (o : Outcome) × (status ≡ status_of o) × VerdictsLabelled cap (network d) o
 check_said d cap before status ended = (ended.2.0.outcome, ended.2.2, tells ended.0 ended.2.0 ended.2.1)
   where
-    tells : (live : List ℕ) (said : Said) → IsOutput (plan_at (check d.asked cap) (d.bytes ∷ [])) live said → VerdictsLabelled cap (network d) said.outcome
-    tells live said output = by_said (labelled_says (of_lowered (checked cap)) d.bytes d.asked.deadline live said output)
+    tells : (live : List ℕ) (said : Said) → (plan_at (check d.asked cap) (d.bytes ∷ [])).output live said → VerdictsLabelled cap (network d) said.outcome
+    tells live said output = by_said (labelled_says (of_lowered (network_answer Check cap)) d.bytes d.asked.deadline live said output)
       where
-        by_said : ((said.outcome ≡ IsRefusedOutcome) × IsNoDocument d.bytes d.asked.deadline) ⊎ HasLabelled d.bytes d.asked.deadline (λ names m. IsOutput (checked cap names (lowered m)) live said) → VerdictsLabelled cap (network d) said.outcome
+        by_said : ((said.outcome ≡ IsRefusedOutcome) × IsNoDocument d.bytes d.asked.deadline) ⊎ HasLabelled d.bytes d.asked.deadline (λ names m. said ≡ checked cap names (lowered m)) → VerdictsLabelled cap (network d) said.outcome
         by_said (inl refused) = absurd (is_document d refused.1)
         by_said (inr has) =
             of_document d (λ names m. VerdictsLabelled cap m said.outcome)
-            (labelled_then d.bytes d.asked.deadline (λ names m. IsOutput (checked cap names (lowered m)) live said) (λ names m. VerdictsLabelled cap m said.outcome) has (check_verdicts cap live said))
+            (labelled_then d.bytes d.asked.deadline (λ names m. said ≡ checked cap names (lowered m)) (λ names m. VerdictsLabelled cap m said.outcome) has (check_verdicts cap said))
 
-pub check_is_decided : (d : Document) (cap : ℕ) (c : Checked d cap) → ((c.status ≡ IsFullStatus) × (cap < load d)) ⊎ (Decides c.status (HasStrategy d) × (load d ≤ cap))
+pub check_is_decided : (d : Document) (cap : ℕ) (c : Checked d cap) → ((c.status ≡ IsFullStatus) × (cap < load d)) ⊎ (StatusDecides c.status (DocumentHasStrategy d) × (load d ≤ cap))
 check_is_decided d cap c =
     let said = check_said d cap c.before c.status (ends (check d.asked cap) (d.bytes ∷ []) c) in
     check_decides cap (network d) c.status said.0 said.1 said.2
 
 -- ---- `run`
 
-pub run_is_least : (d : Document) → HasStrategy d → AnswersLeast (printed_names d) (network d) (run_bounds (network d))
+pub run_is_least : (d : Document) → DocumentHasStrategy d → AnswersLeast (printed_names d) (network d) (run_bounds (network d))
 run_is_least d has =
     let within : load d ≤ load d = omega arith in
     answers_least (printed_names d) (network d) (run_bounds (network d)) (yes_planned (load d) d.parts.names (network d) (of_parts d.bytes d.asked.deadline d.parts d.reads d.fit) (has, within))
@@ -159,9 +159,9 @@ executed_over names m lines text least text_is through = record {
 }
 
 -- what an outcome tells of a document tells it of its network
-tells_of : (d : Document) (o other : Outcome) (telling : List (List ℕ) → Labelled → Telling) → OfLabelled d.bytes d.asked.deadline o telling → o ≡ other → Tells (telling d.parts.names (network d)) other
+tells_of : (d : Document) (o other : Outcome) (telling : List (List ℕ) → Labelled → Telling) → OfLabelled d.bytes d.asked.deadline o telling → o ≡ other → OutcomeTells (telling d.parts.names (network d)) other
 tells_of d o other telling (inl refused) is = absurd (is_document d refused.1)
-tells_of d o other telling (inr has) is = subst (Tells (telling d.parts.names (network d))) is (of_document d (λ names m. Tells (telling names m) o) has)
+tells_of d o other telling (inr has) is = subst (OutcomeTells (telling d.parts.names (network d))) is (of_document d (λ names m. OutcomeTells (telling names m) o) has)
 
 pub run_is_executed : YesAccepted → NoAccepted → (d : Document) (cap : ℕ) (c : Ran d cap) → c.status ≡ IsYesStatus → IsExecutedOver (printed_names d) (network d) (lines_of c.live) c.text
 run_is_executed yes_text no_text d cap c good =
@@ -186,9 +186,9 @@ derivation_passes yes_text no_text d cap c no' file r =
     let tells = call_tells yes_text no_text (check d.asked cap) (d.bytes ∷ []) c in
     let is = tells_of d tells.0 Bad (check_telling cap c.text) tells.2 (status_alone tells.0 Bad (sym tells.1 ∙ no')) in
     let ended = ends (replay d.asked file) (d.bytes ∷ c.text ∷ []) r in
-    ended.2.2 ∙ ap (λ (s : Said). status_of s.outcome) ((is.1 ended.0 ended.2.0).0 (answers (of_lowered (by_text replayed c.text)) d ended.0 ended.2.0 ended.2.1))
+    ended.2.2 ∙ ap (λ (s : Said). status_of s.outcome) ((is.1 ended.2.0).0 (answers (of_lowered (text_answer Replay c.text)) d ended.0 ended.2.0 ended.2.1))
 
-pub replay_is_sound : YesAccepted → NoAccepted → (d : Document) (file text : List ℕ) (r : Replayed d file text) → r.status ≡ IsYesStatus → HasStrategy d → ⊥
+pub replay_is_sound : YesAccepted → NoAccepted → (d : Document) (file text : List ℕ) (r : Replayed d file text) → r.status ≡ IsYesStatus → DocumentHasStrategy d → ⊥
 replay_is_sound yes_text no_text d file text r good =
     let tells = call_tells yes_text no_text (replay d.asked file) (d.bytes ∷ text ∷ []) r in
     (tells_of d tells.0 Good (replay_telling text) tells.2 (status_alone tells.0 Good (sym tells.1 ∙ good))).2
@@ -214,7 +214,7 @@ same_front P x never (z ∷ xs) (y ∷ ys) us vs one two same =
     let later = same_front P x never xs ys us vs one two rest in
     cc
 
-pub edits_are_decided : YesAccepted → NoAccepted → (d : Document) (cap : ℕ) (edits : List (List ℕ)) (e : Edited d cap edits) → IsEditedVerdict cap (edited d edits) e.call.status
+pub edits_are_decided : YesAccepted → NoAccepted → (d : Document) (cap : ℕ) (edits : List (List ℕ)) (e : Edited d cap edits) → IsEditedVerdict cap (network_edited d edits) e.call.status
 edits_are_decided yes_text no_text d cap edits e = by_tells (call_tells yes_text no_text (edit d.asked cap) (d.bytes ∷ []) e.call)
   where
     names : List (List ℕ)
@@ -223,21 +223,21 @@ edits_are_decided yes_text no_text d cap edits e = by_tells (call_tells yes_text
     base : Network
     base = (network d).base
 
-    by_last : (holds : Option Network → Type 0) (last : Option Network) → IsAtLastCheck names base (lines_of e.call.live) last → holds last → holds (Some (edited d edits))
+    by_last : (holds : Option Network → Type 0) (last : Option Network) → IsAtLastCheck names base (lines_of e.call.live) last → holds last → holds (Some (network_edited d edits))
     by_last holds None all has = absurd (none_in IsNoCheck edits (codes "check") e.later (subst (All IsNoCheck) e.lines_are all) refl)
     by_last holds (Some net) (front, back, is, no_check, same) has =
         let fronts : front ≡ edits = same_front IsNoCheck (codes "check") (λ never. never refl) front edits back e.later no_check e.last (sym is ∙ e.lines_are) in
-        subst (λ (n : Network). holds (Some n)) (same ∙ ap (edited d) fronts) has
+        subst (λ (n : Network). holds (Some n)) (same ∙ ap (network_edited d) fronts) has
 
     -- what holds of the network at the last check holds of the one that is edited by the lines before it
-    last_holds : (holds : Option Network → Type 0) → WroteEdits cap (Some e.call.live) e.call.text names base (AtLastCheck cap names base holds) → holds (Some (edited d edits))
+    last_holds : (holds : Option Network → Type 0) → WroteEdits cap (Some e.call.live) e.call.text names base (AtLastCheck cap names base holds) → holds (Some (network_edited d edits))
     last_holds holds w =
         let at = subst (λ (xs : List ℕ). AtLastCheck cap names base holds (lines_of xs)) (w.all e.call.live refl) w.of_lines in
         by_last holds (last_checked (begun_editing cap names base) None (lines_of e.call.live)) (last_is cap names base (lines_of e.call.live) at.0) at.1
 
-    by_outcome : (o : Outcome) → e.call.status ≡ status_of o → Tells (edit_telling cap (Some e.call.live) e.call.text names base) o → IsEditedVerdict cap (edited d edits) e.call.status
-    by_outcome Good at w = inr (yes_decides e.call.status (IsConsistent (edited d edits)) at (last_holds (λ last. IfSome last IsConsistent) w))
-    by_outcome Bad at w = inr (no_decides e.call.status (IsConsistent (edited d edits)) at (last_holds (λ last. IsSomeAnd last (λ net. IsConsistent net → ⊥)) w))
+    by_outcome : (o : Outcome) → e.call.status ≡ status_of o → OutcomeTells (edit_telling cap (Some e.call.live) e.call.text names base) o → IsEditedVerdict cap (network_edited d edits) e.call.status
+    by_outcome Good at w = inr (yes_decides e.call.status (IsConsistent (network_edited d edits)) at (last_holds (λ last. IfSome last IsConsistent) w))
+    by_outcome Bad at w = inr (no_decides e.call.status (IsConsistent (network_edited d edits)) at (last_holds (λ last. IsSomeAnd last (λ net. IsConsistent net → ⊥)) w))
     by_outcome Full at w = inl (at, last_holds (λ last. IsSomeAnd last (λ net. cap < load_of net)) w)
     by_outcome Script at w = absurd (e.read at)
     by_outcome Words at never = absurd never
@@ -245,6 +245,6 @@ edits_are_decided yes_text no_text d cap edits e = by_tells (call_tells yes_text
     by_outcome Unfinished at never = absurd never
     by_outcome Wide at never = absurd never
 
-    by_tells : CallTells (edit d.asked cap) (d.bytes ∷ []) e.call → IsEditedVerdict cap (edited d edits) e.call.status
+    by_tells : CallTells (edit d.asked cap) (d.bytes ∷ []) e.call → IsEditedVerdict cap (network_edited d edits) e.call.status
     by_tells (o, at, inl refused) = absurd (is_plain_document d e.plain refused.1)
-    by_tells (o, at, inr has) = by_outcome o at (of_plain_document d (λ ns net. Tells (edit_telling cap (Some e.call.live) e.call.text ns net) o) has)
+    by_tells (o, at, inr has) = by_outcome o at (of_plain_document d (λ ns net. OutcomeTells (edit_telling cap (Some e.call.live) e.call.text ns net) o) has)

@@ -6,7 +6,7 @@ use Rattle.std.proofs.lemmas.Option.{same_Some}
 use Rattle.std.specs.Option.{option_map}
 use Rattle.cstn_run.specs.hosted.Sessions.{HostSession, case_of, due_in, or_later, due_from, unfinished}
 use Rattle.cstn_run.proofs.hosts.Endings.{begins}
-use Rattle.cstn_headline.specs.commands.Host.{IsAllDone, IsLeftOver}
+use Rattle.cstn_headline.specs.commands.Host.{ArePlansDone, IsLeftOver}
 
 -- what is due in the plan that an id is open over
 abbrev due_at : HostSession → ℕ → Option ℕ
@@ -63,7 +63,7 @@ first_from session (suc n) from id due found = by_due (due_at session from) refl
         }
 
 -- a session of which none is unfinished, and one in which an id is
-pub all_done : (session : HostSession) → unfinished session ≡ None → IsAllDone session
+pub all_done : (session : HostSession) → unfinished session ≡ None → ArePlansDone session
 all_done session none = λ id inside. none_from session 64 0 (sym (begins session) ∙ none) id (omega arith) (omega (arith, inside))
 
 pub left_over : (session : HostSession) (id due : ℕ) → unfinished session ≡ Some (id, due) → IsLeftOver session id due

@@ -26,7 +26,7 @@ use Rattle.cstn_save.proofs.SameLemmas.{labelled_back}
 use Rattle.cstn_history.specs.Histories.{History, IsHistory, is_told, edited}
 use Rattle.cstn_history.specs.Rest.{is_left, sight_left, left, rest, number_of, reaction_after, reaction_by}
 use Rattle.cstn_history.proofs.Places.{observes_left}
-use Rattle.cstn_follow.specs.Following.{name_at}
+use Rattle.cstn_follow.specs.Following.{name_of_point}
 
 -- ---- without its ids
 
@@ -104,31 +104,31 @@ module _ (m : Labelled) (h : History) (fresh : ℕ) where
 
   -- the names of what is left
   module _ (names : List (List ℕ)) (are : AreNamesOf m.base names) where
-    named_at : (x : ℕ) → x < count m.base → IsName (name_at names x)
+    named_at : (x : ℕ) → x < count m.base → IsName (name_of_point names x)
     named_at x below = are.named.each x [] (omega (arith, below, are.each))
 
-    apart : (x y : ℕ) → x < y → y < count m.base → name_at names x ≢ name_at names y
+    apart : (x y : ℕ) → x < y → y < count m.base → name_of_point names x ≢ name_of_point names y
     apart x y before below same =
         are.named.different x y [] before (omega (arith, below, are.each)) same
 
-    first : (n : ℕ) → count m.base ≡ n → 0 < n → slice_get (map (name_at names) (filter (is_left m h) (range_with_len 0 n))) 0 ≡ Some (codes "Z")
+    first : (n : ℕ) → count m.base ≡ n → 0 < n → slice_get (map (name_of_point names) (filter (is_left m h) (range_with_len 0 n))) 0 ≡ Some (codes "Z")
     first zero is some = absurd (omega arith)
     first (suc n) is some = sym (slice_get-get_or names 0 [] (omega (arith, some, is, are.each))) ∙ are.origin
 
-    pub names_of_left : 0 < count m.base → AreNamesOf (rest m h fresh).base (map (name_at names) (left m h))
+    pub names_of_left : 0 < count m.base → AreNamesOf (rest m h fresh).base (map (name_of_point names) (left m h))
     names_of_left some = record {
       named = record {
-        each = All-map IsName (name_at names) (left m h) (All-weaker (λ x. x < count m.base) (λ x. IsName (name_at names x)) named_at (left m h) inside);
-        different = pairs_map (λ a b. a ≢ b) (name_at names) (left m h) (λ i j d before within.
+        each = All-map IsName (name_of_point names) (left m h) (All-weaker (λ x. x < count m.base) (λ x. IsName (name_of_point names x)) named_at (left m h) inside);
+        different = pairs_map (λ a b. a ≢ b) (name_of_point names) (left m h) (λ i j d before within.
             apart (get_or (left m h) i d) (get_or (left m h) j d) (ascending i j d before within) (inside j d within));
         few =
-            let long = length-map (left m h) (name_at names) in
+            let long = length-map (left m h) (name_of_point names) in
             let both = length-filter_both (is_left m h) (λ x. not (is_left m h x)) (λ x. refl) (range_with_len 0 (count m.base)) in
             let range = length-range_with_len 0 (count m.base) in
             let few = are.named.few in
             let each = are.each in
             omega arith;
       };
-      each = length-map (left m h) (name_at names) ∙ sym (length-map (left m h) (sight_left m h));
+      each = length-map (left m h) (name_of_point names) ∙ sym (length-map (left m h) (sight_left m h));
       origin = first (count m.base) refl some;
     }

@@ -1,5 +1,5 @@
 -- The refutation of what is left is accepted by a replay on the document of what is left.
-use Rattle.std.proofs.Common.{ℕ, ◌≡◌, ◌+◌, ◌<◌, ◌≤◌, ◌^◌, Bool, true, false, List, [], ◌∷◌, ◌++◌, length, Option, None, Some, arith, sym, subst, ap, ◌∙◌}
+use Rattle.std.proofs.Common.{ℕ, ◌≡◌, ◌+◌, ◌<◌, ◌≤◌, ◌^◌, false, List, [], ◌∷◌, ◌++◌, length, Option, None, Some, arith, sym, subst, ap, ◌∙◌}
 use Rattle.std.specs.Prelude.{Result, Ok, IsSomeAnd, nat_lt, slice_get, slice_index_or, codes}
 use Rattle.std.proofs.lemmas.List.{append_cancel_right}
 use Rattle.std.proofs.lemmas.List.Elements.{All-weaker}
@@ -17,31 +17,31 @@ use Rattle.cstn_save.specs.Canonical.{canonical}
 use Rattle.cstn_save.specs.ReadBack.{parts}
 use Rattle.cstn_save.specs.Names.{AreNamesOf}
 use Rattle.cstn_log.specs.Cuts.{part}
-use Rattle.cstn_check.specs.Growth.{log_of, load_of}
-use Rattle.cstn_check.specs.Decisions.{verdict}
+use Rattle.cstn_check.specs.Growth.{log_of}
 use Rattle.cstn_check.specs.declared.verdicts.Verdict.{Verdict}
 use Rattle.cstn_check.specs.declared.verdicts.Verdict.TheVariants.{No}
 use Rattle.cstn_check.proofs.Deciding.{Tells, verdict_tells}
 use Rattle.cstn_refute.specs.Texts.{shown}
-use Rattle.cstn_request.specs.Requests.{Asked, replay}
+use Rattle.cstn_request.specs.Requests.{AskedFile, replay}
 use Rattle.cstn_reply.specs.Texts.{line}
 use Rattle.cstn_reply.specs.Sessions.{Turn, more, last, wrong}
 use Rattle.cstn_reply.specs.Reached.{state_after}
 use Rattle.cstn_request.specs.Limits.{most_document}
-use Rattle.cstn_request.specs.Documents.{parts_of, HasLabelled}
-use Rattle.cstn_follow.specs.Following.{Following, begun, left_now, names_left, verdict_now}
+use Rattle.cstn_request.specs.Documents.{parts_read, HasLabelled}
+use Rattle.cstn_follow.specs.Following.{Following, begun_following, left_now, names_left, verdict_now}
 use Rattle.cstn_follow.specs.Hearing.{counted}
+use Rattle.cstn_follow.specs.Marks.{Marked, begun_marked, marked_by}
 use Rattle.cstn_follow.specs.Questions.{check_after}
 use Rattle.cstn_follow.proofs.Asked.{no_load}
 use Rattle.cstn_follow.proofs.GoesOn.{left_says, left_labelled}
 use Rattle.cstn_headline.specs.Accepted.{IsAccepted, IsNoText}
-use Rattle.cstn_top.specs.Answers.{of_lowered, by_text}
-use Rattle.cstn_top.specs.Dispatch.{plan_at}
-use Rattle.cstn_top.specs.commands.Replay.{replayed}
-use Rattle.cstn_top.specs.commands.Follow.{heard_turn, follow_turn}
+use Rattle.cstn_request.specs.declared.words.TextVerb.TheVariants.{Replay}
+use Rattle.cstn_top.specs.Answers.{of_lowered}
+use Rattle.cstn_top.specs.Dispatch.{text_answer, plan_at}
+use Rattle.cstn_top.specs.commands.Follow.{marked_turn}
 use Rattle.cstn_top.proofs.FollowedDocuments.{small_numbers}
-use Rattle.cstn_follow.proofs.Points.{KeepsPoints, lines_keep}
-use Rattle.cstn_follow.proofs.States.{IsSound, begun_sound, lines_sound}
+use Rattle.cstn_follow.proofs.MarkedStates.{IsOnPoints, marked_points, marked_capped}
+use Rattle.cstn_follow.proofs.States.{IsSound}
 use Rattle.cstn_headline.proofs.LeftDocuments.{read_back, lowered_same, left_unseen, names_of_left}
 use Rattle.cstn_headline.proofs.OneOutput.{OneJudgement}
 use Rattle.cstn_headline.proofs.Replayed.{labelled_accepted}
@@ -57,7 +57,7 @@ pub record DocumentsBack : Type 0 where
   pub fit : (m : Labelled) (names : List (List ℕ)) → IsLabelled m → IsWellFormed (lowered m) → IsFit (parts m names)
 
 -- the text of an answer
-abbrev pub text_of : Turn Following → List ℕ
+abbrev pub text_of : {S : Type 0} → Turn S → List ℕ
 text_of (more text next) = text
 text_of (last said) = said.text
 text_of wrong = []
@@ -65,8 +65,17 @@ text_of wrong = []
 not_longer : (n most : ℕ) → n ≤ most → nat_lt most n ≡ false
 not_longer n most few = grind arith
 
+-- a session on the same time-points, with their names
+pub record HasSamePoints (start s : Following) : Type 0 where
+  pub names : s.names ≡ start.names
+  pub observes : s.network.base.observes ≡ start.network.base.observes
+  pub reaction : s.network.base.reaction ≡ start.network.base.reaction
+
+pub points_kept : (start s : Following) → IsOnPoints start s → HasSamePoints start s
+points_kept start s on = record { names = on.names; observes = on.observes; reaction = on.reaction }
+
 -- the state that lines lead to has names and what is unseen as at the start
-module _ (start s : Following) (keeps : KeepsPoints start s) where
+module _ (start s : Following) (keeps : HasSamePoints start s) where
   pub named_still : AreNamesOf start.network.base start.names → AreNamesOf s.network.base s.names
   named_still named = record {
     named = subst AreNames (sym keeps.names) named.named;
@@ -83,18 +92,18 @@ module _ (one : OneJudgement) (no_text : NoAccepted) (backs : DocumentsBack) whe
   -- a labelled network whose lowered network has none but small ids, after a no
   document_passes : (m : Labelled) (names : List (List ℕ)) (file text : List ℕ) → IsLabelled m → length (lowered m).constraints ≤ most_constraints → AreNamesOf m.base names → AreUnseen m.base
       → length (canonical m names) ≤ most_document → IsNoText names (lowered m) text
-      → (asked : Asked) → asked.deadline ≡ None → IsAccepted (plan_at (replay asked file) (canonical m names ∷ text ∷ []))
+      → (asked : AskedFile) → asked.deadline ≡ None → IsAccepted (plan_at (replay asked file) (canonical m names ∷ text ∷ []))
   document_passes m names file text good few named unseen short passes asked plain =
-      labelled_accepted one (of_lowered (by_text replayed text)) (canonical m names) asked.deadline (not_longer (length (canonical m names)) most_document short)
-      (subst (λ (d : Option ℕ). HasLabelled (canonical m names) d (λ ns l. IsNoText ns (lowered l) text)) (sym plain)
-      (subst (λ (told : Result Parts DocumentRefusal). IsSomeAnd (parts_of told) (λ ps. IsFit ps × IsNoText ps.names (lowered (labelled_of ps)) text)) (sym (backs.back m names good named)) (
+      labelled_accepted one (of_lowered (text_answer Replay text)) (canonical m names) asked.deadline (not_longer (length (canonical m names)) most_document short)
+      (subst (λ (d : Option ℕ). HasLabelled (canonical m names) d (λ ns l. IsAccepted (text_answer Replay text ns (lowered l)))) (sym plain)
+      (subst (λ (told : Result Parts DocumentRefusal). IsSomeAnd (parts_read told) (λ ps. IsFit ps × IsAccepted (text_answer Replay text ps.names (lowered (labelled_of ps))))) (sym (backs.back m names good named)) (
         backs.fit m names good (lowered_well_formed m good few),
-        subst (λ (l : Labelled). IsNoText names (lowered l) text) (sym (read_back m names unseen)) (subst (λ (net : Network). IsNoText names net text) (sym (lowered_same m)) passes),
+        λ answered. subst (λ (l : Labelled). IsNoText names (lowered l) text) (sym (read_back m names unseen)) (subst (λ (net : Network). IsNoText names net text) (sym (lowered_same m)) passes),
       )))
 
   -- after a no the refutation is accepted on the document of what is left
   pub left_passes : (s : Following) (load : ℕ) (file : List ℕ) → IsSound s → AreNamesOf s.network.base s.names → AreUnseen s.network.base → s.cap ≤ most_load → verdict_now s ≡ No load
-      → length (canonical (left_now s) (names_left s)) ≤ most_document → (asked : Asked) → asked.deadline ≡ None
+      → length (canonical (left_now s) (names_left s)) ≤ most_document → (asked : AskedFile) → asked.deadline ≡ None
       → IsAccepted (plan_at (replay asked file) (canonical (left_now s) (names_left s) ∷ shown (names_left s) load (part (log_of (lowered (left_now s)))) ∷ []))
   left_passes s load file sound named unseen capped refuted short asked plain =
       let is = sound.verdict ∙ ap Some refuted in
@@ -112,20 +121,22 @@ module _ (one : OneJudgement) (no_text : NoAccepted) (backs : DocumentsBack) whe
       asked plain
 
   -- the answers to `check` and `rest`
-  pub refutation_passes : (cap : ℕ) (names : List (List ℕ)) (m : Labelled) (lines : List (List ℕ)) (s t u : Following) (load : ℕ) (text bytes file : List ℕ) (asked : Asked) → IsLabelled m
-      → length (lowered m).constraints ≤ most_constraints → AreNamesOf m.base names → AreUnseen m.base → cap ≤ most_load → state_after follow_turn (begun cap names m) 0 lines ≡ Some s → verdict_now s ≡ No load
-      → follow_turn s (codes "check") ≡ more (text ++ line (codes "end")) t → follow_turn s (codes "rest") ≡ more bytes u → length bytes ≤ most_document → asked.deadline ≡ None
-      → IsAccepted (plan_at (replay asked file) (bytes ∷ text ∷ []))
+  pub refutation_passes : (cap : ℕ) (names : List (List ℕ)) (m : Labelled) (lines : List (List ℕ)) (s t u : Marked) (load : ℕ) (text bytes file : List ℕ)
+      (asked : AskedFile) → IsLabelled m → length (lowered m).constraints ≤ most_constraints → AreNamesOf m.base names → AreUnseen m.base → cap ≤ most_load
+      → state_after marked_turn (begun_marked cap names m) 0 lines ≡ Some s → verdict_now s.now ≡ No load
+      → marked_turn s (codes "check") ≡ more (text ++ line (codes "end")) t → marked_turn s (codes "rest") ≡ more bytes u
+      → length bytes ≤ most_document → asked.deadline ≡ None → IsAccepted (plan_at (replay asked file) (bytes ∷ text ∷ []))
   refutation_passes cap names m lines s t u load text bytes file asked good few named unseen capped leads refuted checked left_is short plain =
-      let begins = begun_sound cap names m good few named.each in
-      let sound = lines_sound canonical (begun cap names m) s 0 lines begins leads in
-      let keeps = lines_keep canonical (begun cap names m) s 0 lines begins leads in
-      let said : text_of (follow_turn s (codes "check")) ≡ shown (names_left s) load (part (log_of (lowered (left_now s)))) ++ line (codes "end") =
-      ap (λ (v : Verdict). text_of (heard_turn (check_after (counted s) v))) refuted in
-      let text_is : shown (names_left s) load (part (log_of (lowered (left_now s)))) ≡ text =
+      let on = (marked_points canonical cap names m s lines good few named.each leads).now in
+      let fits = (marked_capped canonical cap names m s lines good few named.each capped leads).now.capped in
+      let start = begun_following cap names m in
+      let keeps = points_kept start s.now on in
+      let said : text_of (marked_turn s (codes "check")) ≡ shown (names_left s.now) load (part (log_of (lowered (left_now s.now)))) ++ line (codes "end") =
+      ap (λ (v : Verdict). text_of (marked_by canonical (check_after (counted s.now) v) s.marks)) refuted in
+      let text_is : shown (names_left s.now) load (part (log_of (lowered (left_now s.now)))) ≡ text =
       append_cancel_right _ text (line (codes "end")) (sym said ∙ ap text_of checked) in
-      let bytes_are : canonical (left_now s) (names_left s) ≡ bytes = ap text_of left_is in
+      let bytes_are : canonical (left_now s.now) (names_left s.now) ≡ bytes = ap text_of left_is in
       subst (λ (b : List ℕ). IsAccepted (plan_at (replay asked file) (b ∷ text ∷ []))) bytes_are
-      (subst (λ (x : List ℕ). IsAccepted (plan_at (replay asked file) (canonical (left_now s) (names_left s) ∷ x ∷ []))) text_is
-      (left_passes s load file sound (named_still (begun cap names m) s keeps named) (unseen_still (begun cap names m) s keeps unseen) (subst (λ (c : ℕ). c ≤ most_load) (sym keeps.cap) capped) refuted
+      (subst (λ (x : List ℕ). IsAccepted (plan_at (replay asked file) (canonical (left_now s.now) (names_left s.now) ∷ x ∷ []))) text_is
+      (left_passes s.now load file on.sound (named_still start s.now keeps named) (unseen_still start s.now keeps unseen) fits refuted
       (subst (λ (b : List ℕ). length b ≤ most_document) (sym bytes_are) short) asked plain))

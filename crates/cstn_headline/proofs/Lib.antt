@@ -9,16 +9,17 @@ pub mod Trees
 pub mod Checks
 pub mod Edited
 pub mod Drills
--- Each request has an output.
-pub mod SomeFault
-pub mod SomeOutput
-pub mod Dispatch
--- What the output of each request tells.
+-- What the output of each request tells, that there is one, and no other.
 pub mod Telling
 pub mod Sessions
 pub mod Hosting
 pub mod records
+pub mod SomeFault
+pub mod SomeOutput
+pub mod OneOutput
+pub mod Verbs
 pub mod Proved
+pub mod Dispatch
 -- What a call tells.
 pub mod Calls
 pub mod Told
@@ -32,7 +33,6 @@ pub mod HeadlineLemmas
 pub mod SameStrategies
 pub mod NetworkChecks
 -- What is written is accepted when it is handed in again.
-pub mod OneOutput
 pub mod Replayed
 pub mod LeftDocuments
 pub mod LeftReplayed

@@ -8,7 +8,7 @@ use Rattle.cstn_net.specs.Networks.{Network, IsWellFormed, count}
 use Rattle.cstn_lift.specs.Labelled.{Labelled}
 use Rattle.cstn_lift.specs.Lowered.{lowered}
 use Rattle.cstn_lift.specs.WellFormed.{IsLabelled}
-use Rattle.cstn_text.specs.Numbers.{number_read, printed_number}
+use Rattle.cstn_text.specs.Numbers.{number_read, number_within, printed_number}
 use Rattle.cstn_check.specs.Growth.{observed, load_of, most_entries}
 use Rattle.cstn_save.specs.Canonical.{canonical}
 use Rattle.cstn_save.specs.ReadBack.{parts, AreSameButIds}
@@ -16,7 +16,7 @@ use Rattle.cstn_save.specs.Names.{AreNamesOf}
 use Rattle.cstn_graphml.specs.Document.{document}
 use Rattle.cstn_graphml.specs.Networks.{labelled_of, network_of, IsFit}
 use Rattle.cstn_request.specs.Limits.{usual_cap, most_document}
-use Rattle.cstn_request.specs.Requests.{Asked, Request, check, request_of, names_of, number_within, capped_at, last_value}
+use Rattle.cstn_request.specs.Requests.{AskedFile, Request, check, request_of, names_of, capped_at, last_value}
 use Rattle.cstn_request.specs.Files.{bytes_or_none}
 use Rattle.cstn_request.specs.declared.words.Release.{Release}
 use Rattle.cstn_reply.specs.Statuses.{status_of}
@@ -25,15 +25,15 @@ use Rattle.cstn_reply.specs.declared.status.Status.{Status}
 use Rattle.cstn_reply.specs.declared.status.Status.TheVariants.{Good, Bad, Full}
 use Rattle.cstn_reply.specs.declared.output.Outcome.{Outcome}
 use Rattle.cstn_reply.specs.declared.output.Outcome.TheVariants.{Good as IsGoodOutcome, Bad as IsBadOutcome, Full as IsFullOutcome, Words, Document as IsRefused, Unfinished, Script, Wide}
-use Rattle.cstn_top.specs.Plans.{Ends}
+use Rattle.cstn_top.specs.Plans.{PlanEnds}
 use Rattle.cstn_top.specs.Dispatch.{plan_at}
 use Rattle.cstn_top.specs.Meanings.{IsStopped}
-use Rattle.cstn_top.specs.Told.{IsTold}
+use Rattle.cstn_top.specs.Told.{IsToldOfCall}
 use Rattle.cstn_top.proofs.Endings.{EndsAs, end_status}
 use Rattle.cstn_top.proofs.Labels.{of_parts}
 use Rattle.cstn_headline.proofs.Checks.{VerdictsLabelled}
 use Rattle.cstn_headline.specs.Headline.{Document}
-use Rattle.cstn_headline.specs.Networks.{AskCheck, IsNamedNetwork, HasDocument, most_bounds, IsDecided}
+use Rattle.cstn_headline.specs.Networks.{AskCheck, IsNamedNetwork, HasDocument, most_bounds, IsNetworkDecided}
 use Rattle.cstn_headline.proofs.HeadlineLemmas.{check_said}
 use Rattle.cstn_headline.proofs.SameStrategies.{consistent_back, consistent_on}
 
@@ -44,7 +44,7 @@ abbrev pub NumbersBack : Type 0
 NumbersBack = (n : ℕ) → n < 2 ^ 64 → number_read (printed_number n) ≡ Some n
 
 -- a file, without a deadline of its own
-abbrev file_asked : List ℕ → Asked
+abbrev file_asked : List ℕ → AskedFile
 file_asked file = record { file = file; deadline = None }
 
 -- the request of `check FILE` and an option's number
@@ -101,7 +101,7 @@ bad_full : Bad ≡ Full → ⊥
 bad_full same = let f : ⊥ = cc in f
 
 -- a check that was stopped decides nothing
-stopped_decides : (m : Labelled) (cap : ℕ) (status : Status) → IsStopped status → IsDecided m cap status
+stopped_decides : (m : Labelled) (cap : ℕ) (status : Status) → IsStopped status → IsNetworkDecided m cap status
 stopped_decides m cap status (inl is) = record {
   yes = λ at. let f : ⊥ = cc in absurd f;
   no = λ at. let f : ⊥ = cc in absurd f;
@@ -159,7 +159,7 @@ module _ (numbers : NumbersBack) (entries : EntriesBounded) (backs : DocumentsBa
         (entries (lowered (labelled_of (parts m names)))
         (of_parts (canonical m names) None (parts m names) (backs m names is.labelled is.named) (fits m names is.labelled (well m is.labelled is.few))).plain.good)
 
-    by_outcome : (cap : ℕ) (status : Status) (o : Outcome) → status ≡ status_of o → VerdictsLabelled cap (labelled_of (parts m names)) o → IsDecided m cap status
+    by_outcome : (cap : ℕ) (status : Status) (o : Outcome) → status ≡ status_of o → VerdictsLabelled cap (labelled_of (parts m names)) o → IsNetworkDecided m cap status
     by_outcome cap status IsGoodOutcome at verdict = record {
       yes = λ good. consistent_back m names (same m names) verdict.0;
       no = λ bad. absurd (good_bad (sym at ∙ bad));
@@ -185,23 +185,23 @@ module _ (numbers : NumbersBack) (entries : EntriesBounded) (backs : DocumentsBa
     by_outcome cap status Wide at never = absurd never
 
     ends_decided : (cap : ℕ) (before after : LiveState) (old new : Option (List ℕ)) (status : Status) →
-        Ends (plan_at (check (file_asked file) cap) (canonical m names ∷ [])) before after old new status → IsDecided m cap status
+        PlanEnds (plan_at (check (file_asked file) cap) (canonical m names ∷ [])) before after old new status → IsNetworkDecided m cap status
     ends_decided cap before after old new status ends =
         by_end (end_status (plan_at (check (file_asked file) cap) (canonical m names ∷ [])) before after old new status ends)
       where
-        by_end : EndsAs (plan_at (check (file_asked file) cap) (canonical m names ∷ [])) before status ⊎ IsStopped status → IsDecided m cap status
+        by_end : EndsAs (plan_at (check (file_asked file) cap) (canonical m names ∷ [])) before status ⊎ IsStopped status → IsNetworkDecided m cap status
         by_end (inl ended) = let said = check_said of_network cap before status ended in by_outcome cap status said.0 said.1 said.2
         by_end (inr stopped) = stopped_decides m cap status stopped
 
   -- a call of `run` with words that ask for a check of the network's document decides it
   pub told_decided : {S : Type 0} (release : Release) (words : List (List ℕ)) (told : Option (List ℕ → Option (List ℕ))) (seen : S → LiveState) (source now : S) (old new : Option (List ℕ)) (status : Status) →
-      IsTold (request_of release words) told seen source now old new status →
-      (m : Labelled) (names : List (List ℕ)) (file : List ℕ) (cap : ℕ) → IsNamedNetwork m names → AskCheck words file cap → HasDocument told file m names → IsDecided m cap status
+      IsToldOfCall (request_of release words) told seen source now old new status →
+      (m : Labelled) (names : List (List ℕ)) (file : List ℕ) (cap : ℕ) → IsNamedNetwork m names → AskCheck words file cap → HasDocument told file m names → IsNetworkDecided m cap status
   told_decided release words told seen source now old new status all m names file cap is asks has =
-      by_request (subst (λ (w : Option Request). IsTold w told seen source now old new status) (asks_check numbers release words file cap asks) all)
+      by_request (subst (λ (w : Option Request). IsToldOfCall w told seen source now old new status) (asks_check numbers release words file cap asks) all)
     where
-      by_request : IsTold (Some (check (file_asked file) cap)) told seen source now old new status → IsDecided m cap status
+      by_request : IsToldOfCall (Some (check (file_asked file) cap)) told seen source now old new status → IsNetworkDecided m cap status
       by_request of_check =
           ends_decided m names is file has.short cap (seen source) (seen now) old new status
-          (subst (λ (contents : List (List ℕ)). Ends (plan_at (check (file_asked file) cap) contents) (seen source) (seen now) old new status)
+          (subst (λ (contents : List (List ℕ)). PlanEnds (plan_at (check (file_asked file) cap) contents) (seen source) (seen now) old new status)
           (of_check.are has.files has.told_is ∙ ap (λ (bytes : Option (List ℕ)). bytes_or_none bytes ∷ []) has.content) of_check.output)

@@ -1,24 +1,41 @@
--- The outputs of a plan are one.
-use Rattle.std.proofs.Common.{◌≡◌, ℕ, ◌<◌, List, ◌++◌, sym, ap, ◌∙◌, inl, inr, arith}
-use Rattle.std.specs.Prelude.{codes, decimal}
+-- The outputs of a request are one.
+use Rattle.std.proofs.Common.{◌≡◌, ℕ, ◌<◌, Bool, true, false, List, [], ◌∷◌, ◌++◌, length, map, sym, ap, ◌∙◌, inl, inr, arith}
+use Rattle.std.specs.Prelude.{nat_lt, Option, None, Some, Result, Ok, Err, codes, decimal}
 use Rattle.cstn_label.specs.Bounds.{Bound}
 use Rattle.cstn_net.specs.Networks.{Network}
 use Rattle.cstn_net.specs.declared.errors.NetError.{NetError}
+use Rattle.cstn_lift.specs.Labelled.{Labelled}
+use Rattle.cstn_lift.specs.Lowered.{lowered}
 use Rattle.cstn_lift.specs.declared.errors.LiftError.{LiftError}
 use Rattle.cstn_rules.specs.Derivations.{Entry}
+use Rattle.cstn_refute.specs.Texts.{Told as ToldSteps, tells as tells_steps, wrong as wrong_step}
+use Rattle.cstn_replay.specs.Texts.{IsReplay, IsReplayOfSteps}
 use Rattle.cstn_closed.specs.Faults.{Fault, IsFirstFault}
-use Rattle.cstn_tree.specs.Trees.{Tree, lines_of as tree_lines}
+use Rattle.cstn_closed.specs.Texts.{Told as ToldBounds, tells as tells_bounds, wrong as wrong_bound}
+use Rattle.cstn_closed.specs.Certificates.{fault_words, IsCertificate, IsCertificateOfBounds}
+use Rattle.cstn_outline.specs.Trees.{Tree, lines_of as tree_lines}
 use Rattle.cstn_tree.specs.Made.{IsTreeOf}
-use Rattle.cstn_tree.specs.Texts.{shown}
-use Rattle.cstn_graphml.specs.Document.{Parts}
-use Rattle.cstn_graphml.specs.Networks.{IsFit, IsUnfit, IsMislabelled}
-use Rattle.cstn_closed.specs.Certificates.{fault_words}
+use Rattle.cstn_outline.specs.Texts.{shown}
+use Rattle.cstn_tree.specs.Unfolded.{IsTreeText, IsTreeUnless, IsUnfolded}
+use Rattle.cstn_check.specs.Growth.{log_of, load_of, live_bounds}
+use Rattle.cstn_check.specs.Decisions.{verdict, unless_yes}
+use Rattle.cstn_check.specs.declared.verdicts.Verdict.{Verdict}
+use Rattle.cstn_element.specs.Results.{Refusal as DocumentRefusal}
+use Rattle.cstn_graphml.specs.Document.{Parts, document}
+use Rattle.cstn_graphml.specs.Networks.{labelled_of, IsFit, IsUnfit, IsMislabelled}
+use Rattle.cstn_sentences.specs.Refusals.{PlanRefusal}
+use Rattle.cstn_run.specs.hosted.Files.{Named, the_file, yes_lines}
+use Rattle.cstn_run.specs.hosted.Sessions.{begun as begun_host, host_turn, host_wants, host_ending}
+use Rattle.cstn_request.specs.Limits.{most_document}
+use Rattle.cstn_request.specs.Refusals.{refusal_text}
 use Rattle.cstn_reply.specs.Texts.{Said, say}
-use Rattle.cstn_top.specs.Plans.{Plan, says, replays, certifies, branches, talks, judges, unlabelled, Form, fault_line, label_fault_line, IsOutput}
-use Rattle.cstn_replay.specs.Texts.{IsReplay}
-use Rattle.cstn_closed.specs.Certificates.{IsCertificate}
-use Rattle.cstn_tree.specs.Unfolded.{IsTreeText}
+use Rattle.cstn_reply.specs.Sessions.{Turn}
 use Rattle.cstn_reply.specs.declared.output.Outcome.TheVariants.{Good, Bad, Document}
+use Rattle.cstn_top.specs.Plans.{Plan, says, says_such, talks_by, wanting_session, either_plan, unless_said}
+use Rattle.cstn_top.specs.Answers.{NetworkAnswer, LabelledAnswer, Form, a_document, a_plan, fault_line, label_fault_line, judges, of_plain, of_lowered, by_labels, judged, on_labelled, plan_on_verdict, IsByText}
+use Rattle.cstn_top.specs.commands.Host.{on_documents, on_verdicts, attended}
+use Rattle.cstn_top.specs.commands.Plan.{planned_of}
+use Rattle.cstn_top.specs.commands.Save.{saved}
 use Rattle.cstn_headline.proofs.LogTexts.{no_refutation}
 
 same_number : (k j : ℕ) → (k < j → ⊥) → (j < k → ⊥) → k ≡ j
@@ -80,7 +97,7 @@ pub record OneJudgement : Type 0 where
   pub unfit : (parts : Parts) (error other : NetError) → IsUnfit parts error → IsUnfit parts other → error ≡ other
   pub mislabelled : (parts : Parts) (error other : LiftError) → IsMislabelled parts error → IsMislabelled parts other → error ≡ other
 
-one_judged : OneJudgement → (form : Form) (parts : Parts) (plan : Plan) (live : List ℕ) (a b : Said) → (IsOutput plan live a → IsOutput plan live b → a ≡ b) → IsOutput (judges form parts plan) live a → IsOutput (judges form parts plan) live b → a ≡ b
+one_judged : OneJudgement → (form : Form) (parts : Parts) (plan : Plan) (live : List ℕ) (a b : Said) → (plan.output live a → plan.output live b → a ≡ b) → (judges form parts plan).output live a → (judges form parts plan).output live b → a ≡ b
 one_judged one form parts plan live a b same (inl x) (inl y) = same x.1 y.1
 one_judged one form parts plan live a b same (inl x) (inr (inl y)) = absurd (one.fit parts y.0 x.0 y.1)
 one_judged one form parts plan live a b same (inl x) (inr (inr y)) = absurd (one.labelled parts y.0 x.0 y.1)
@@ -93,17 +110,90 @@ one_judged one form parts plan live a b same (inr (inr x)) (inr (inl y)) = absur
 one_judged one form parts plan live a b same (inr (inr x)) (inr (inr y)) =
     x.2 ∙ ap (λ (e : LiftError). say Document (label_fault_line form parts.names e)) (one.mislabelled parts x.0 y.0 x.1 y.1) ∙ sym y.2
 
--- ---- a plan
+-- ---- plans
 
-module _ (judgement : OneJudgement) (fault : OneFault) (tree : OneTree) where
-  pub one_output : (plan : Plan) (live : List ℕ) (a b : Said) → IsOutput plan live a → IsOutput plan live b → a ≡ b
-  one_output (says said) live a b x y = x ∙ sym y
-  one_output (replays steps net) live a b x y = one_replay net steps a b x y
-  one_output (certifies printed bounds net) live a b x y = one_certificate fault printed bounds net a b x y
-  one_output (branches printed load bounds net) live a b x y = one_text tree printed load bounds net a b x y
-  one_output (talks ends opening whole heard wants) live a b x y = x ∙ sym y
-  one_output (judges form parts plan) live a b x y = one_judged judgement form parts plan live a b (one_output plan live a b) x y
-  one_output (unlabelled labels plan) live a b (inl x) (inl y) = one_output plan live a b x.1 y.1
-  one_output (unlabelled labels plan) live a b (inl x) (inr y) = absurd (y.0 x.0)
-  one_output (unlabelled labels plan) live a b (inr x) (inl y) = absurd (x.0 y.0)
-  one_output (unlabelled labels plan) live a b (inr x) (inr y) = x.1 ∙ sym y.1
+-- the outputs of a plan are one
+abbrev pub IsOne : Plan → Type 0
+IsOne plan = (live : List ℕ) (a b : Said) → plan.output live a → plan.output live b → a ≡ b
+
+pub one_said : (said : Said) → IsOne (says said)
+one_said said live a b x y = x ∙ sym y
+
+pub one_session : {S : Type 0} (ends : Bool) (wants : List ℕ → Bool) (turn : S → List ℕ → Turn S) (ending : S → Said) (opening : List ℕ) (state : S) → IsOne (talks_by ends wants turn ending opening state)
+one_session ends wants turn ending opening state live a b x y = x ∙ sym y
+
+one_unless : (o : Option Said) (plan : Plan) → IsOne plan → IsOne (unless_said o plan)
+one_unless None plan one = one
+one_unless (Some said) plan one = one_said said
+
+pub one_verdict : (cap : ℕ) (names : List (List ℕ)) (net : Network) (after_yes : Plan) (v : Verdict) → IsOne after_yes → IsOne (plan_on_verdict cap names net after_yes v)
+one_verdict cap names net after_yes v one = one_unless (unless_yes cap names net v) after_yes one
+
+-- a text is told to be too long, or is answered by one text
+pub one_by_text : (speaks : Said → Type 0) (text : List ℕ) → ((a b : Said) → speaks a → speaks b → a ≡ b) → IsOne (says_such (IsByText speaks text))
+one_by_text speaks text one live a b (inl x) (inl y) = x.1 ∙ sym y.1
+one_by_text speaks text one live a b (inl x) (inr y) = absurd (let long = x.0 in let short = y.0 in omega (arith, long, short))
+one_by_text speaks text one live a b (inr x) (inl y) = absurd (let short = x.0 in let long = y.0 in omega (arith, short, long))
+one_by_text speaks text one live a b (inr x) (inr y) = one a b x.1 y.1
+
+pub one_steps : (told : ToldSteps) (net : Network) (a b : Said) → IsReplayOfSteps told net a → IsReplayOfSteps told net b → a ≡ b
+one_steps (tells_steps load steps) net a b x y = one_replay net steps a b x y
+one_steps (wrong_step at) net a b x y = x ∙ sym y
+
+pub one_bounds : OneFault → (names : List (List ℕ)) (told : ToldBounds) (net : Network) (a b : Said) → IsCertificateOfBounds names told net a → IsCertificateOfBounds names told net b → a ≡ b
+one_bounds one names (tells_bounds load bounds) net a b x y = one_certificate one names bounds net a b x y
+one_bounds one names (wrong_bound at) net a b x y = x ∙ sym y
+
+one_tree : OneTree → (names : List (List ℕ)) (net : Network) (o : Option Said) (a b : Said) → IsTreeUnless names net o a → IsTreeUnless names net o b → a ≡ b
+one_tree one names net None a b x y = one_text one names (load_of net) (live_bounds (log_of net)) net a b x y
+one_tree one names net (Some said) a b x y = x ∙ sym y
+
+pub one_unfolded : OneTree → (cap : ℕ) (names : List (List ℕ)) (net : Network) → IsOne (says_such (IsUnfolded cap names net))
+one_unfolded one cap names net live a b (inl x) (inl y) = x.1 ∙ sym y.1
+one_unfolded one cap names net live a b (inl x) (inr y) = absurd (let many = x.0 in let few = y.0 in omega (arith, many, few))
+one_unfolded one cap names net live a b (inr x) (inl y) = absurd (let few = x.0 in let many = y.0 in omega (arith, few, many))
+one_unfolded one cap names net live a b (inr x) (inr y) = one_tree one names net (unless_yes cap names net (verdict cap net)) a b x.1 y.1
+
+module _ (judgement : OneJudgement) where
+  one_told : (answer : LabelledAnswer) → ((names : List (List ℕ)) (m : Labelled) → IsOne (answer names m)) → (told : Result Parts DocumentRefusal) → IsOne (judged answer told)
+  one_told answer each (Err refusal) = one_said (say Document (refusal_text refusal))
+  one_told answer each (Ok parts) = λ live a b x y.
+      one_judged judgement a_document parts (answer parts.names (labelled_of parts)) live a b (each parts.names (labelled_of parts) live a b) x y
+
+  one_either : (long : Bool) (plan other : Plan) → IsOne plan → IsOne other → IsOne (either_plan long plan other)
+  one_either true plan other one two = one
+  one_either false plan other one two = two
+
+  pub one_labelled : (answer : LabelledAnswer) → ((names : List (List ℕ)) (m : Labelled) → IsOne (answer names m)) → (bytes : List ℕ) (deadline : Option ℕ) → IsOne (on_labelled answer bytes deadline)
+  one_labelled answer each bytes deadline =
+      one_either (nat_lt most_document (length bytes)) (says (say Document (codes "document long"))) (judged answer (document bytes deadline))
+      (one_said (say Document (codes "document long"))) (one_told answer each (document bytes deadline))
+
+  one_plain : (answer : NetworkAnswer) → ((names : List (List ℕ)) (net : Network) → IsOne (answer names net)) → (names : List (List ℕ)) (m : Labelled) → IsOne (of_plain answer names m)
+  one_plain answer each names m live a b (inl x) (inl y) = each names m.base live a b x.1 y.1
+  one_plain answer each names m live a b (inl x) (inr y) = absurd (y.0 x.0)
+  one_plain answer each names m live a b (inr x) (inl y) = absurd (x.0 y.0)
+  one_plain answer each names m live a b (inr x) (inr y) = x.1 ∙ sym y.1
+
+  pub one_network : (takes : Bool) (answer : NetworkAnswer) → ((names : List (List ℕ)) (net : Network) → IsOne (answer names net)) → (bytes : List ℕ) (deadline : Option ℕ) → IsOne (on_labelled (by_labels takes answer) bytes deadline)
+  one_network true answer each bytes deadline = one_labelled (of_lowered answer) (λ names m. each names (lowered m)) bytes deadline
+  one_network false answer each bytes deadline = one_labelled (of_plain answer) (one_plain answer each) bytes deadline
+
+  pub one_planned : (told : Result Parts PlanRefusal) → IsOne (planned_of told)
+  one_planned (Err refusal) live a b x y = x ∙ sym y
+  one_planned (Ok parts) live a b x y = one_judged judgement a_plan parts (says (saved parts.names (labelled_of parts))) live a b (λ one other. one ∙ sym other) x y
+
+  one_verdicts : (cap : ℕ) (after_yes : Plan) (all : List Named) → IsOne after_yes → IsOne (on_verdicts cap after_yes all)
+  one_verdicts cap after_yes [] one = one
+  one_verdicts cap after_yes (named ∷ rest) one = one_verdict cap named.names named.net (on_verdicts cap after_yes rest) (verdict cap named.net) (one_verdicts cap after_yes rest one)
+
+  one_attended : (cap : ℕ) (all : List Named) → IsOne (attended cap all)
+  one_attended cap all =
+      one_verdicts cap (wanting_session host_wants host_turn host_ending (yes_lines all) (begun_host (map the_file all))) all
+      (one_session false host_wants host_turn host_ending (yes_lines all) (begun_host (map the_file all)))
+
+  pub one_hosted : (cap : ℕ) (deadline : Option ℕ) (before : List Named) (contents : List (List ℕ)) → IsOne (on_documents (attended cap) deadline before contents)
+  one_hosted cap deadline before [] = one_attended cap before
+  one_hosted cap deadline before (bytes ∷ rest) =
+      one_network false (λ names net. on_documents (attended cap) deadline (before ++ record { names = names; net = net } ∷ []) rest)
+      (λ names net. one_hosted cap deadline (before ++ record { names = names; net = net } ∷ []) rest) bytes deadline

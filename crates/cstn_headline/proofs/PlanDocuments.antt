@@ -20,16 +20,15 @@ use Rattle.cstn_save.specs.Canonical.{canonical}
 use Rattle.cstn_save.specs.Names.{AreNamesOf}
 use Rattle.cstn_save.specs.ReadBack.{parts, AreNumbered}
 use Rattle.cstn_sentences.specs.Plans.{plan}
-use Rattle.cstn_sentences.specs.Refusals.{Refusal}
+use Rattle.cstn_sentences.specs.Refusals.{PlanRefusal}
 use Rattle.cstn_sentences.proofs.DrawnPlans.{plan_drawn}
 use Rattle.cstn_sentences.proofs.PlanNames.{plan_names}
 use Rattle.cstn_reply.specs.Texts.{Said}
 use Rattle.cstn_reply.specs.declared.output.Outcome.{Outcome}
 use Rattle.cstn_reply.specs.declared.output.Outcome.TheVariants.{Good, Document}
-use Rattle.cstn_request.specs.Documents.{parts_of, HasLabelled}
-use Rattle.cstn_top.specs.Plans.{IsOutput}
+use Rattle.cstn_request.specs.Documents.{parts_read, HasLabelled}
 use Rattle.cstn_top.specs.commands.Plan.{planned_of}
-use Rattle.cstn_headline.specs.commands.Plan.{HasNetworkOf, IsReadAs}
+use Rattle.cstn_headline.specs.commands.Plan.{HasNetworkOf, IsDocumentReadAs}
 use Rattle.cstn_headline.proofs.LeftReplayed.{DocumentsBack}
 
 -- ---- ids and reactions of what is drawn
@@ -73,7 +72,7 @@ module _ (back : DocumentsBack) (same : SameBack) (bytes : List ℕ) (deadline :
       let m : Labelled = labelled_of p in
       let good : IsLabelled m = fit.labelled in
       let few : length (lowered m).constraints ≤ most_constraints = within (length (lowered m).constraints) (fit.faultless TooManyConstraints) in
-      subst (λ (r : Result Parts DocumentRefusal). IsSomeAnd (parts_of r) (λ read. IsFit read × ((read.names ≡ p.names) × (labelled_of read ≡ m)))) (sym (back.back m p.names good named)) (
+      subst (λ (r : Result Parts DocumentRefusal). IsSomeAnd (parts_read r) (λ read. IsFit read × ((read.names ≡ p.names) × (labelled_of read ≡ m)))) (sym (back.back m p.names good named)) (
         back.fit m p.names good (lowered_well_formed m good few),
         (refl, same m p.names (λ q never. unobserved p.observes q (λ x at. never x (seen x q at))) (λ i d inside. let at = numbered_at 0 p.constraints i d inside in omega (arith, at))),
       )
@@ -85,15 +84,15 @@ module _ (back : DocumentsBack) (same : SameBack) (bytes : List ℕ) (deadline :
       seen x q at = record { what = at }
 
 -- what `plan` says well is a document that is read as the network of the plan
-pub documents_are_plans : DocumentsBack → SameBack → (bytes : List ℕ) (deadline : Option ℕ) (live : List ℕ) (said : Said) → IsOutput (planned_of (plan bytes deadline)) live said → said.outcome ≡ Good →
-    HasNetworkOf (plan bytes deadline) (IsReadAs said.text)
+pub documents_are_plans : DocumentsBack → SameBack → (bytes : List ℕ) (deadline : Option ℕ) (live : List ℕ) (said : Said) → (planned_of (plan bytes deadline)).output live said → said.outcome ≡ Good →
+    HasNetworkOf (plan bytes deadline) (IsDocumentReadAs said.text)
 documents_are_plans back same bytes deadline live said output good = by_told (plan bytes deadline) refl output
   where
     not_refused : (o : Outcome) → o ≡ Document → o ≡ Good → ⊥
     not_refused o one other = grind arith
 
-    by_told : (told : Result Parts Refusal) → plan bytes deadline ≡ told → IsOutput (planned_of told) live said → HasNetworkOf told (IsReadAs said.text)
+    by_told : (told : Result Parts PlanRefusal) → plan bytes deadline ≡ told → (planned_of told).output live said → HasNetworkOf told (IsDocumentReadAs said.text)
     by_told (Err refusal) is told = absurd (not_refused said.outcome (ap (λ (s : Said). s.outcome) told) good)
-    by_told (Ok p) is (inl fit) = (fit.0, subst (λ (text : List ℕ). IsReadAs text p.names (labelled_of p)) (sym (ap (λ (s : Said). s.text) fit.1)) (read_back back same bytes deadline p is fit.0))
+    by_told (Ok p) is (inl fit) = (fit.0, subst (λ (text : List ℕ). IsDocumentReadAs text p.names (labelled_of p)) (sym (ap (λ (s : Said). s.text) fit.1)) (read_back back same bytes deadline p is fit.0))
     by_told (Ok p) is (inr (inl unfit)) = absurd (not_refused said.outcome (ap (λ (s : Said). s.outcome) unfit.2) good)
     by_told (Ok p) is (inr (inr wrong_labels)) = absurd (not_refused said.outcome (ap (λ (s : Said). s.outcome) wrong_labels.2) good)

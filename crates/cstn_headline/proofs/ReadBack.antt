@@ -1,6 +1,6 @@
 -- What is written of a network is accepted when it is handed in again.
 use Rattle.std.proofs.Common.{◌≡◌, ◌≢◌, ℕ, ◌+◌, ◌-◌, ◌≤◌, ◌<◌, ◌^◌, List, Some, length, get_or, refl, sym, ap, subst, inl, inr, arith}
-use Rattle.std.specs.Prelude.{nat_lt, if◌then◌else◌, codes, pos, ◌≤ℤ◌, slice_get}
+use Rattle.std.specs.Prelude.{codes, pos, ◌≤ℤ◌, slice_get}
 use Rattle.std.specs.List.{Contains}
 use Rattle.std.proofs.lemmas.Int.{ints}
 use Rattle.std.proofs.lemmas.List.Elements.{All-contains, Contains-get_or}
@@ -32,13 +32,12 @@ use Rattle.cstn_refute.specs.Written.{ArePlaces, IsPrintableStep as IsWrittenSte
 use Rattle.cstn_closed.specs.Faults.{IsFaultless}
 use Rattle.cstn_closed.specs.Texts.{Told as ToldBounds, tells as tells_bounds, told as told_bounds, shown as shown_bounds}
 use Rattle.cstn_closed.specs.Written.{IsPrintableBound as IsWrittenBound, AreWritten as AreWrittenBounds}
-use Rattle.cstn_reply.specs.Texts.{say}
-use Rattle.cstn_top.specs.Plans.{Plan, says, replays, certifies, IsOutput}
-use Rattle.cstn_top.specs.Answers.{Answer, by_text}
-use Rattle.cstn_top.specs.commands.Replay.{replayed_steps, replayed}
-use Rattle.cstn_top.specs.commands.Closedcheck.{certified_bounds, certified}
-use Rattle.cstn_headline.specs.Accepted.{IsAccepted, IsYesText, IsNoText, HasIds}
-use Rattle.cstn_reply.specs.declared.output.Outcome.TheVariants.{Good, Script}
+use Rattle.cstn_replay.specs.Texts.{IsReplay, IsReplayOfSteps, IsReplayOf}
+use Rattle.cstn_closed.specs.Certificates.{IsCertificate, IsCertificateOfBounds, IsCertificateOf}
+use Rattle.cstn_reply.specs.Texts.{Said, say}
+use Rattle.cstn_top.specs.Answers.{IsByText}
+use Rattle.cstn_headline.specs.Accepted.{IsAcceptance, IsYesText, IsNoText, HasIds}
+use Rattle.cstn_reply.specs.declared.output.Outcome.TheVariants.{Good}
 use Rattle.cstn_tight.proofs.ClosedLemmas.{live_short, some_live}
 use Rattle.cstn_net.proofs.Kept.{limit_in_time}
 use Rattle.cstn_headline.proofs.Lengths.{bounds_text_short, steps_text_short}
@@ -126,24 +125,25 @@ module _ (names : List (List ℕ)) (net : Network) (good : IsWellFormed net) (na
         each = λ k d within. step_written ids refutation k (get_or steps k d) (slice_get-get_or steps k d within);
       }
 
--- a text that is short enough isn't refused for its length
-pub short_text : (speaks : List ℕ → Answer) (text : List ℕ) (names : List (List ℕ)) (net : Network) → length text ≤ most_text → by_text speaks text names net ≡ speaks text names net
-short_text speaks text names net short = within most_text (length text) (says (say Script (codes "script long"))) (speaks text names net) short
+-- what is accepted of a text that is short enough is accepted by it
+pub short_accepted : (speaks : Said → Type 0) (text : List ℕ) → length text ≤ most_text → IsAcceptance speaks → IsAcceptance (IsByText speaks text)
+short_accepted speaks text short accepted said = (only, λ same. inr (short, (accepted said).1 same))
   where
-    within : (n m : ℕ) (one other : Plan) → m ≤ n → (if nat_lt n m then one else other) ≡ other
-    within n m one other le = grind arith
+    only : IsByText speaks text said → said ≡ say Good (codes "accepted")
+    only (inl long) = absurd (let above = long.0 in omega (arith, above, short))
+    only (inr is) = (accepted said).0 is.1
 
-certificate_accepted : (names : List (List ℕ)) (net : Network) (bounds : List Bound) → IsFaultless net bounds → IsClosed net bounds → IsAccepted (certifies names bounds net)
-certificate_accepted names net bounds faultless closed live said = (only, λ same. inl (faultless, closed, same))
+certificate_accepted : (names : List (List ℕ)) (net : Network) (bounds : List Bound) → IsFaultless net bounds → IsClosed net bounds → IsAcceptance (IsCertificate names bounds net)
+certificate_accepted names net bounds faultless closed said = (only, λ same. inl (faultless, closed, same))
   where
-    only : IsOutput (certifies names bounds net) live said → said ≡ say Good (codes "accepted")
+    only : IsCertificate names bounds net said → said ≡ say Good (codes "accepted")
     only (inl found) = found.2
     only (inr found) = absurd (faultless found.0 found.1.fault)
 
-pub replay_accepted : (net : Network) (steps : List Entry) → IsRefutation net steps → IsAccepted (replays steps net)
-replay_accepted net steps refutation live said = (only, λ same. inl (refutation, same))
+pub replay_accepted : (net : Network) (steps : List Entry) → IsRefutation net steps → IsAcceptance (IsReplay steps net)
+replay_accepted net steps refutation said = (only, λ same. inl (refutation, same))
   where
-    only : IsOutput (replays steps net) live said → said ≡ say Good (codes "accepted")
+    only : IsReplay steps net said → said ≡ say Good (codes "accepted")
     only (inl found) = found.1
     only (inr found) = absurd (no_refutation net steps found.0 found.1 refutation)
 
@@ -162,8 +162,8 @@ yes_text back names net good are named few consistent =
     let closed : IsClosed net bounds = log_closed net good.network good.letters ((log_decides net good.network good.letters).0 consistent) in
     let written : AreWrittenBounds names (load_of net) bounds = bounds_written names net good named few closed in
     let told : told_bounds names text ≡ tells_bounds (load_of net) bounds = back names (load_of net) bounds are written in
-    subst IsAccepted (sym (short_text certified text names net (bounds_text_short names (load_of net) bounds are written)))
-    (subst (λ (t : ToldBounds). IsAccepted (certified_bounds names t net)) (sym told) (certificate_accepted names net bounds (listed_faultless net good consistent) closed))
+    short_accepted (IsCertificateOf names text net) text (bounds_text_short names (load_of net) bounds are written)
+    (subst (λ (t : ToldBounds). IsAcceptance (IsCertificateOfBounds names t net)) (sym told) (certificate_accepted names net bounds (listed_faultless net good consistent) closed))
 
 -- and so is the text of a no
 pub no_text : StepsBack → (names : List (List ℕ)) (net : Network) → IsWellFormed net → AreNames names → length names ≡ count net → HasIds net → load_of net ≤ most_load → (IsConsistent net → ⊥) → IsNoText names net (shown_steps names (load_of net) (part (log_of net)))
@@ -173,5 +173,5 @@ no_text back names net good are named ids few never =
     let refutation : IsRefutation net steps = refuted_by_log net good never in
     let written : AreWrittenSteps names (load_of net) steps = steps_written names net good named few ids refutation in
     let told : told_steps names text ≡ tells_steps (load_of net) steps = back names (load_of net) steps are written in
-    subst IsAccepted (sym (short_text replayed text names net (steps_text_short names (load_of net) steps are written)))
-    (subst (λ (t : ToldSteps). IsAccepted (replayed_steps t net)) (sym told) (replay_accepted net steps refutation))
+    short_accepted (IsReplayOf names text net) text (steps_text_short names (load_of net) steps are written)
+    (subst (λ (t : ToldSteps). IsAcceptance (IsReplayOfSteps t net)) (sym told) (replay_accepted net steps refutation))

@@ -1,6 +1,6 @@
 -- It can't be that a request has no output.
 use Rattle.std.proofs.Common.{◌≡◌, ℕ, zero, suc, ◌+◌, ◌<◌, ◌≤◌, Bool, true, false, List, ◌∷◌, ◌++◌, length, map, refl, subst, inl, inr, arith, zero-add, []}
-use Rattle.std.specs.Prelude.{slice_get, nat_lt, if◌then◌else◌, Option, Some, Result, Ok, Err, ◌-◌, codes, decimal}
+use Rattle.std.specs.Prelude.{slice_get, nat_lt, Option, Some, Result, Ok, Err, ◌-◌, codes}
 use Rattle.std.specs.List.{All}
 use Rattle.std.proofs.lemmas.List.Elements.{All-head, All-tail, All-contains}
 use Rattle.std.proofs.lemmas.Bool.{cases_lt}
@@ -24,6 +24,8 @@ use Rattle.cstn_refute.specs.Texts.{Told as ToldSteps, tells as tells_steps, wro
 use Rattle.cstn_refute.specs.Written.{AreWritten as AreWrittenSteps}
 use Rattle.cstn_closed.specs.Texts.{Told as ToldBounds, tells as tells_bounds, wrong as wrong_bound, told as told_bounds}
 use Rattle.cstn_closed.specs.Written.{IsPrintableBound, AreWritten as AreWrittenBounds}
+use Rattle.cstn_replay.specs.Texts.{IsReplay, IsReplayOfSteps, IsReplayOf}
+use Rattle.cstn_closed.specs.Certificates.{IsCertificateOfBounds, IsCertificateOf}
 use Rattle.cstn_plan.specs.Plans.{IsEarliest}
 use Rattle.cstn_plan.proofs.PlanLemmas.{asked_earliest}
 use Rattle.cstn_check.specs.Growth.{log_of, load_of, live_bounds}
@@ -34,31 +36,27 @@ use Rattle.cstn_check.proofs.Ends.{load_above}
 use Rattle.cstn_text.specs.Names.{AreNames}
 use Rattle.cstn_text.specs.PrintedNames.{printed_name}
 use Rattle.cstn_tree.specs.Limits.{most_observed}
-use Rattle.cstn_tree.specs.Trees.{Tree, lines_of as tree_lines, table_of}
+use Rattle.cstn_outline.specs.Trees.{Tree, lines_of as tree_lines, table_of}
 use Rattle.cstn_tree.specs.Made.{IsTreeOf}
 use Rattle.cstn_tree.specs.Good.{IsUnbroken}
-use Rattle.cstn_tree.specs.Texts.{Told as ToldTree, tells as tells_tree, wrong as wrong_tree, told as told_tree, shown as shown_tree}
-use Rattle.cstn_tree.specs.Written.{AreWritten as IsWrittenTree}
+use Rattle.cstn_outline.specs.Texts.{tells as tells_tree, told as told_tree, shown as shown_tree}
+use Rattle.cstn_outline.specs.Written.{AreWritten as IsWrittenTree}
 use Rattle.cstn_request.specs.Requests.{tree}
 use Rattle.cstn_reply.specs.Texts.{Said, say, yes_line}
 use Rattle.cstn_request.specs.Limits.{most_document}
-use Rattle.cstn_top.specs.Plans.{Plan, says, replays, branches, IsOutput, session, wanting_session}
-use Rattle.cstn_top.specs.Answers.{Answer, LabelledAnswer, of_plain, judged, on_labelled, on_document, on_verdict, by_text}
-use Rattle.cstn_top.specs.commands.Replay.{replayed, replayed_steps}
-use Rattle.cstn_top.specs.commands.Closedcheck.{certified, certified_bounds}
-use Rattle.cstn_top.specs.commands.Tree.{unfolded}
-use Rattle.cstn_top.specs.commands.Treecheck.{checked_lines}
-use Rattle.cstn_top.specs.commands.Run.{carried_out}
+use Rattle.cstn_top.specs.Plans.{Plan, says, says_such, either_plan, session, wanting_session}
+use Rattle.cstn_top.specs.Answers.{NetworkAnswer, LabelledAnswer, of_plain, judged, on_labelled, on_document, plan_on_verdict, IsByText}
+use Rattle.cstn_top.specs.commands.Run.{run_answer}
 use Rattle.cstn_top.specs.commands.Plan.{planned_of, planned}
-use Rattle.cstn_sentences.specs.Held.{CanBeHeld as PlanCanBeHeld}
+use Rattle.cstn_sentences.specs.Held.{PlanCanBeHeld}
 use Rattle.cstn_sentences.specs.Plans.{plan}
-use Rattle.cstn_sentences.specs.Refusals.{Refusal as PlanRefusal}
+use Rattle.cstn_sentences.specs.Refusals.{PlanRefusal}
 use Rattle.cstn_top.specs.commands.Host.{on_documents, on_verdicts, attended}
-use Rattle.cstn_reply.specs.declared.output.Outcome.TheVariants.{Document, Script, Wide}
-use Rattle.cstn_check.specs.Decisions.{verdict, IsYes}
+use Rattle.cstn_reply.specs.declared.output.Outcome.TheVariants.{Document}
+use Rattle.cstn_check.specs.Decisions.{verdict, unless_yes, IsYes}
 use Rattle.cstn_check.proofs.Deciding.{Tells, verdict_tells}
 use Rattle.cstn_top.proofs.Documents.{IsOfDocument}
-use Rattle.cstn_tree.specs.Unfolded.{observed}
+use Rattle.cstn_tree.specs.Unfolded.{observed, IsTreeText, IsTreeUnless, IsUnfolded}
 use Rattle.cstn_exec.specs.Guides.{begun}
 use Rattle.cstn_run.specs.Sessions.{guide_turn, guide_ending}
 use Rattle.cstn_run.specs.hosted.Sessions.{begun as begun_host, host_turn, host_wants, host_ending}
@@ -69,7 +67,7 @@ use Rattle.cstn_plan.specs.Asked.{asked}
 
 -- it can't be that the plan has no output
 abbrev pub HasSome : Plan → List ℕ → Type 0
-HasSome plan live = ((said : Said) → IsOutput plan live said → ⊥) → ⊥
+HasSome plan live = ((said : Said) → plan.output live said → ⊥) → ⊥
 
 pub said_some : (said : Said) (live : List ℕ) → HasSome (says said) live
 said_some said live none = none said refl
@@ -79,7 +77,7 @@ abbrev pub IsRightStep : Network → List Entry → ℕ → Type 0
 IsRightStep net steps k = (e : Entry) → slice_get steps k ≡ Some e → Follows net steps k e.why e.bound
 
 -- steps that are right before the place k, after which n are left
-pub steps_some : (net : Network) (steps : List Entry) (live : List ℕ) (n k : ℕ) → k + n ≡ length steps → 1 ≤ length steps → ((i : ℕ) → i < k → IsRightStep net steps i) → HasSome (replays steps net) live
+pub steps_some : (net : Network) (steps : List Entry) (live : List ℕ) (n k : ℕ) → k + n ≡ length steps → 1 ≤ length steps → ((i : ℕ) → i < k → IsRightStep net steps i) → HasSome (says_such (IsReplay steps net)) live
 steps_some net steps live zero k whole some right none =
     let derivation : IsDerivation net steps = λ i e there. let inside = slice_get_within steps i e there in right i (omega (arith, whole, inside)) e there in
     none _ (inr (
@@ -108,26 +106,23 @@ steps_some net steps live (suc n) k whole some right none =
       | inr past ↦ let same : k ≡ i = omega (arith, past, upto) in subst (IsRightStep net steps) same here
     ]
 
-pub verdict_some : (cap : ℕ) (names : List (List ℕ)) (net : Network) (after_yes : Plan) (v : Verdict) (live : List ℕ) → Tells cap net v → (IsYes cap net → HasSome after_yes live) → HasSome (on_verdict cap names net after_yes v) live
-verdict_some cap names net after_yes (Yes load) live tells later = later tells
-verdict_some cap names net after_yes (No load) live tells later = said_some _ live
-verdict_some cap names net after_yes IsFullVerdict live tells later = said_some _ live
-
-pub verdict_any : (cap : ℕ) (names : List (List ℕ)) (net : Network) (after_yes : Plan) (v : Verdict) (live : List ℕ) → HasSome after_yes live → HasSome (on_verdict cap names net after_yes v) live
+pub verdict_any : (cap : ℕ) (names : List (List ℕ)) (net : Network) (after_yes : Plan) (v : Verdict) (live : List ℕ) → HasSome after_yes live → HasSome (plan_on_verdict cap names net after_yes v) live
 verdict_any cap names net after_yes (Yes load) live later = later
 verdict_any cap names net after_yes (No load) live later = said_some _ live
 verdict_any cap names net after_yes IsFullVerdict live later = said_some _ live
 
-pub text_some : (speaks : List ℕ → Answer) (text : List ℕ) (names : List (List ℕ)) (net : Network) (live : List ℕ) → HasSome (speaks text names net) live → HasSome (by_text speaks text names net) live
-text_some speaks text names net live some = by_length (nat_lt most_text (length text))
+pub text_some : (speaks : Said → Type 0) (text live : List ℕ) → HasSome (says_such speaks) live → HasSome (says_such (IsByText speaks text)) live
+text_some speaks text live some = by_length (nat_lt most_text (length text)) refl
   where
-    by_length : (long : Bool) → HasSome (if long then says (say Script (codes "script long")) else speaks text names net) live
-    by_length true = said_some _ live
-    by_length false = some
+    above : (n m : ℕ) → nat_lt n m ≡ true → n < m
+    above n m is = grind arith
 
-pub lines_some : (told : ToldTree) (net : Network) (live : List ℕ) → HasSome (checked_lines told net) live
-lines_some (tells_tree lines) net live = said_some _ live
-lines_some (wrong_tree at) net live = said_some _ live
+    below : (n m : ℕ) → nat_lt n m ≡ false → m ≤ n
+    below n m is = grind arith
+
+    by_length : (long : Bool) → nat_lt most_text (length text) ≡ long → HasSome (says_such (IsByText speaks text)) live
+    by_length true over none = none _ (inl (above most_text (length text) over, refl))
+    by_length false under none = some (λ said spoken. none said (inr (below most_text (length text) under, spoken)))
 
 -- parts of a document that can be held make a labelled network where they have no fault
 abbrev pub PartsMade : Type 0
@@ -145,12 +140,12 @@ module _ (made : PartsMade) where
           (λ error unfit. none _ (inr (inl (error, unfit, refl)))) (λ error wrong. none _ (inr (inr (error, wrong, refl)))) in
           each parts is fit (λ said output. none said (inl (fit, output)))
 
-      by_length : (long : Bool) → HasSome (if long then says (say Document (codes "document long")) else judged answer (document bytes deadline)) live
+      by_length : (long : Bool) → HasSome (either_plan long (says (say Document (codes "document long"))) (judged answer (document bytes deadline))) live
       by_length true = said_some _ live
       by_length false = by_told (document bytes deadline) refl
 
   -- likewise where no labels are taken
-  pub plain_some : (answer : Answer) (bytes : List ℕ) (deadline : Option ℕ) (live : List ℕ) → CanBeHeld bytes deadline →
+  pub plain_some : (answer : NetworkAnswer) (bytes : List ℕ) (deadline : Option ℕ) (live : List ℕ) → CanBeHeld bytes deadline →
       ((names : List (List ℕ)) (net : Network) → IsOfDocument names net → HasSome (answer names net) live) → HasSome (on_document answer bytes deadline) live
   plain_some answer bytes deadline live held each = document_some (of_plain answer) bytes deadline live held (λ parts is fit none.
       none _ (inr ((λ empty. each parts.names (network_of parts) (of_network bytes deadline parts is fit) (λ said output. none said (inl (empty, output)))), refl)))
@@ -179,7 +174,7 @@ pub record TreesMade : Type 0 where
       length names ≡ count net → 1 ≤ load → load ≤ most_load → (tree : Tree) → IsTreeOf net bounds tree → IsWrittenTree names load tree
   pub back : (names : List (List ℕ)) (load : ℕ) (tree : Tree) → AreNames names → IsWrittenTree names load tree → told_tree names (shown_tree names load (tree_lines tree)) ≡ tells_tree (tree_lines tree)
 
-pub tree_some : TreesMade → (cap : ℕ) (names : List (List ℕ)) (net : Network) (live : List ℕ) → IsOfDocument names net → cap ≤ most_load → IsYes cap net → HasSome (branches names (load_of net) (live_bounds (log_of net)) net) live
+pub tree_some : TreesMade → (cap : ℕ) (names : List (List ℕ)) (net : Network) (live : List ℕ) → IsOfDocument names net → cap ≤ most_load → IsYes cap net → HasSome (says_such (IsTreeText names (load_of net) (live_bounds (log_of net)) net)) live
 tree_some trees cap names net live of capped yes' none =
     let bounds : List Bound = live_bounds (log_of net) in
     let table : Table = asked net bounds in
@@ -198,12 +193,23 @@ tree_some trees cap names net live of capped yes' none =
       said_is = refl;
     })
 
-pub unfolded_some : TreesMade → (cap : ℕ) (names : List (List ℕ)) (net : Network) (live : List ℕ) → IsOfDocument names net → cap ≤ most_load → HasSome (unfolded cap names net) live
-unfolded_some trees cap names net live of capped = by_width (nat_lt most_observed (observed net))
+pub unfolded_some : TreesMade → (cap : ℕ) (names : List (List ℕ)) (net : Network) (live : List ℕ) → IsOfDocument names net → cap ≤ most_load → HasSome (says_such (IsUnfolded cap names net)) live
+unfolded_some trees cap names net live of capped = by_width (nat_lt most_observed (observed net)) refl
   where
-    by_width : (wide : Bool) → HasSome (if wide then says (say Wide (codes "wide " ++ decimal (observed net))) else on_verdict cap names net (branches names (load_of net) (live_bounds (log_of net)) net) (verdict cap net)) live
-    by_width true = said_some _ live
-    by_width false = verdict_some cap names net (branches names (load_of net) (live_bounds (log_of net)) net) (verdict cap net) live (verdict_tells cap net of.good) (tree_some trees cap names net live of capped)
+    above : (n m : ℕ) → nat_lt n m ≡ true → n < m
+    above n m is = grind arith
+
+    below : (n m : ℕ) → nat_lt n m ≡ false → m ≤ n
+    below n m is = grind arith
+
+    by_verdict : (v : Verdict) → Tells cap net v → HasSome (says_such (IsTreeUnless names net (unless_yes cap names net v))) live
+    by_verdict (Yes load) told = tree_some trees cap names net live of capped told
+    by_verdict (No load) told = λ none. none _ refl
+    by_verdict IsFullVerdict told = λ none. none _ refl
+
+    by_width : (many : Bool) → nat_lt most_observed (observed net) ≡ many → HasSome (says_such (IsUnfolded cap names net)) live
+    by_width true over none = none _ (inl (above most_observed (observed net) over, refl))
+    by_width false under none = by_verdict (verdict cap net) (verdict_tells cap net of.good) (λ said is. none said (inr (below most_observed (observed net) under, is)))
 
 -- steps and bounds that a text tells are such as can be written
 abbrev pub StepsWritten : Type 0
@@ -212,24 +218,24 @@ StepsWritten = (names : List (List ℕ)) (bytes : List ℕ) (load : ℕ) (steps 
 abbrev pub BoundsWritten : Type 0
 BoundsWritten = (names : List (List ℕ)) (bytes : List ℕ) (load : ℕ) (bounds : List Bound) → told_bounds names bytes ≡ tells_bounds load bounds → AreWrittenBounds names load bounds
 
-pub replayed_some : StepsWritten → (text : List ℕ) (names : List (List ℕ)) (net : Network) (live : List ℕ) → HasSome (replayed text names net) live
+pub replayed_some : StepsWritten → (text : List ℕ) (names : List (List ℕ)) (net : Network) (live : List ℕ) → HasSome (says_such (IsReplayOf names text net)) live
 replayed_some written text names net live = by_told (told_steps names text) refl
   where
-    by_told : (told : ToldSteps) → told_steps names text ≡ told → HasSome (replayed_steps told net) live
+    by_told : (told : ToldSteps) → told_steps names text ≡ told → HasSome (says_such (IsReplayOfSteps told net)) live
     by_told (tells_steps load steps) is =
         let can = written names text load steps is in
         steps_some net steps live (length steps) 0 (zero-add (length steps)) can.some (λ i before. absurd (omega (arith, before)))
-    by_told (wrong_step at) is = said_some _ live
+    by_told (wrong_step at) is = λ none. none _ refl
 
-pub certified_some : BoundsWritten → (text : List ℕ) (names : List (List ℕ)) (net : Network) (live : List ℕ) → HasSome (certified text names net) live
+pub certified_some : BoundsWritten → (text : List ℕ) (names : List (List ℕ)) (net : Network) (live : List ℕ) → HasSome (says_such (IsCertificateOf names text net)) live
 certified_some written text names net live = by_told (told_bounds names text) refl
   where
-    by_told : (told : ToldBounds) → told_bounds names text ≡ told → HasSome (certified_bounds names told net) live
+    by_told : (told : ToldBounds) → told_bounds names text ≡ told → HasSome (says_such (IsCertificateOfBounds names told net)) live
     by_told (tells_bounds load bounds) is = λ none.
         let can = written names text load bounds is in
         let whole = faultless net bounds (λ f first. none _ (inr (f, first, refl))) in
         none _ (inl (whole, faultless_is_closed net bounds (λ b has. (All-contains (IsPrintableBound names) bounds b can.each has).marks) whole, refl))
-    by_told (wrong_bound at) is = said_some _ live
+    by_told (wrong_bound at) is = λ none. none _ refl
 
 pub verdicts_some : (cap : ℕ) (after_yes : Plan) (live : List ℕ) (all : List Named) → HasSome after_yes live → HasSome (on_verdicts cap after_yes all) live
 verdicts_some cap after_yes live [] some = some
@@ -245,10 +251,7 @@ documents_some made answer deadline live each before (bytes ∷ rest) held =
     plain_some made (λ names net. on_documents answer deadline (before ++ record { names = names; net = net } ∷ []) rest) bytes deadline live (All-head (λ bytes. CanBeHeld bytes deadline) bytes rest held)
     (λ names net of. documents_some made answer deadline live each (before ++ record { names = names; net = net } ∷ []) rest (All-tail (λ bytes. CanBeHeld bytes deadline) bytes rest held))
 
-pub checked_some : (cap : ℕ) (names : List (List ℕ)) (net : Network) (said : Said) (live : List ℕ) → HasSome (on_verdict cap names net (says said) (verdict cap net)) live
-checked_some cap names net said live = verdict_any cap names net (says said) (verdict cap net) live (said_some said live)
-
-pub guided_some : (cap : ℕ) (names : List (List ℕ)) (m : Labelled) (live : List ℕ) → HasSome (carried_out cap names m) live
+pub guided_some : (cap : ℕ) (names : List (List ℕ)) (m : Labelled) (live : List ℕ) → HasSome (run_answer cap names m) live
 guided_some cap names m live =
     let bounds : List Bound = live_bounds (log_of (lowered m)) in
     verdict_any cap names (lowered m) (session (guide_turn (map printed_name names) m bounds) (guide_ending m bounds) (yes_line (load_of (lowered m))) (begun (count m.base))) (verdict cap (lowered m)) live (λ none. none _ refl)

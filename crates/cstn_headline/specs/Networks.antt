@@ -39,7 +39,7 @@ abbrev pub most_bounds : Network → ℕ
 most_bounds net = count net * (net.deadline + 2) * 4 ^ length (filter is_some net.observes)
 
 -- what the status of a check of the network tells
-pub record IsDecided (m : Labelled) (cap : ℕ) (status : Status) : Type 0 where
+pub record IsNetworkDecided (m : Labelled) (cap : ℕ) (status : Status) : Type 0 where
   -- after yes there is a dynamic strategy
   pub yes : status ≡ Good → IsLabelledConsistent m
   -- after no there is none

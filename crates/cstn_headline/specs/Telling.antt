@@ -16,15 +16,15 @@ pub record Telling : Type 1 where
   pub wide : Type 0
 
 -- what this outcome tells; there is no other
-abbrev pub Tells : Telling → Outcome → Type 0
-Tells telling Good = telling.good
-Tells telling Bad = telling.bad
-Tells telling Words = ⊥
-Tells telling Document = ⊥
-Tells telling Full = telling.full
-Tells telling Unfinished = telling.unfinished
-Tells telling Script = telling.script
-Tells telling Wide = telling.wide
+abbrev pub OutcomeTells : Telling → Outcome → Type 0
+OutcomeTells telling Good = telling.good
+OutcomeTells telling Bad = telling.bad
+OutcomeTells telling Words = ⊥
+OutcomeTells telling Document = ⊥
+OutcomeTells telling Full = telling.full
+OutcomeTells telling Unfinished = telling.unfinished
+OutcomeTells telling Script = telling.script
+OutcomeTells telling Wide = telling.wide
 
 -- a verdict: yes, no, or that a log is too long
 abbrev pub by_verdict : Type 0 → Type 0 → Type 0 → Telling
@@ -35,15 +35,15 @@ abbrev pub by_check : Type 0 → Type 0 → Type 0 → Telling
 by_check right wrong off = record { good = right; bad = wrong; full = ⊥; unfinished = ⊥; script = off; wide = ⊥ }
 
 -- one answer alone
-abbrev pub only : Type 0 → Telling
-only holds = record { good = holds; bad = ⊥; full = ⊥; unfinished = ⊥; script = ⊥; wide = ⊥ }
+abbrev pub good_only : Type 0 → Telling
+good_only holds = record { good = holds; bad = ⊥; full = ⊥; unfinished = ⊥; script = ⊥; wide = ⊥ }
 
 -- the bytes are no document, or this is told of its labelled network under the names of its time-points
 abbrev pub OfLabelled : List ℕ → Option ℕ → Outcome → (List (List ℕ) → Labelled → Telling) → Type 0
 OfLabelled bytes deadline outcome telling =
-    ((outcome ≡ Document) × IsNoDocument bytes deadline) ⊎ HasLabelled bytes deadline (λ names m. Tells (telling names m) outcome)
+    ((outcome ≡ Document) × IsNoDocument bytes deadline) ⊎ HasLabelled bytes deadline (λ names m. OutcomeTells (telling names m) outcome)
 
 -- the document is refused, or this is told of its network, no time-point of which has a label
 abbrev pub OfNetwork : List ℕ → Option ℕ → Outcome → (List (List ℕ) → Network → Telling) → Type 0
 OfNetwork bytes deadline outcome telling =
-    ((outcome ≡ Document) × IsRefused bytes deadline) ⊎ HasNetwork bytes deadline (λ names net. Tells (telling names net) outcome)
+    ((outcome ≡ Document) × IsRefused bytes deadline) ⊎ HasNetwork bytes deadline (λ names net. OutcomeTells (telling names net) outcome)

@@ -3,7 +3,7 @@ use Rattle.std.specs.Prelude.{◌≡◌, ℕ, List, Option}
 use Rattle.std.specs.List.{All}
 use Rattle.cstn_io.specs.Contents.{with_bytes}
 use Rattle.cstn_graphml.specs.Answers.{CanBeHeld}
-use Rattle.cstn_sentences.specs.Held.{CanBeHeld as PlanCanBeHeld}
+use Rattle.cstn_sentences.specs.Held.{PlanCanBeHeld}
 use Rattle.cstn_request.specs.Requests.{Request, of_network, of_labelled, of_text, of_document, of_plan, drill, host, version}
 use Rattle.cstn_request.specs.declared.words.NetworkVerb.TheVariants.{Check, Closed, Tight, Conflict, Tree, Edit}
 use Rattle.cstn_request.specs.declared.words.LabelledVerb.TheVariants.{Follow, Run}
@@ -13,7 +13,7 @@ use Rattle.cstn_reply.specs.Statuses.{status_of}
 use Rattle.cstn_reply.specs.declared.status.Status.{Status}
 use Rattle.cstn_reply.specs.declared.output.Outcome.{Outcome}
 use Rattle.cstn_top.specs.Dispatch.{file_in, proof_in}
-use Rattle.cstn_headline.specs.Telling.{Tells, OfLabelled, OfNetwork}
+use Rattle.cstn_headline.specs.Telling.{OutcomeTells, OfLabelled, OfNetwork}
 use Rattle.cstn_headline.specs.commands.Check.{check_telling}
 use Rattle.cstn_headline.specs.commands.Closed.{closed_telling}
 use Rattle.cstn_headline.specs.commands.Tight.{tight_telling}
@@ -49,20 +49,20 @@ RequestTells (of_text Treecheck asked proof) outcome live text contents = OfNetw
 RequestTells (of_document Save asked) outcome live text contents = OfLabelled (file_in contents) asked.deadline outcome (save_telling text)
 RequestTells (of_document Sentences asked) outcome live text contents = OfLabelled (file_in contents) asked.deadline outcome (sentences_telling text)
 RequestTells (of_plan asked) outcome live text contents = OfPlan (file_in contents) asked.deadline outcome text
-RequestTells (drill number) outcome live text contents = Tells (drill_telling number text) outcome
+RequestTells (drill number) outcome live text contents = OutcomeTells (drill_telling number text) outcome
 RequestTells (host files deadline cap) outcome live text contents = HostTells cap deadline outcome live text contents
-RequestTells (version release) outcome live text contents = Tells (version_telling release text) outcome
+RequestTells (version release) outcome live text contents = OutcomeTells (version_telling release text) outcome
 
 -- values of the program can hold what each document of the request says, or its plan in sentences
-abbrev pub AreHeld : Request → List (List ℕ) → Type 0
-AreHeld (of_network verb asked cap) contents = CanBeHeld (file_in contents) asked.deadline
-AreHeld (of_labelled verb asked cap) contents = CanBeHeld (file_in contents) asked.deadline
-AreHeld (of_text verb asked proof) contents = CanBeHeld (file_in contents) asked.deadline
-AreHeld (of_document verb asked) contents = CanBeHeld (file_in contents) asked.deadline
-AreHeld (of_plan asked) contents = PlanCanBeHeld (file_in contents) asked.deadline
-AreHeld (drill number) contents = Unit {0}
-AreHeld (host files deadline cap) contents = All (λ bytes. CanBeHeld bytes deadline) contents
-AreHeld (version release) contents = Unit {0}
+abbrev pub AreDocumentsHeld : Request → List (List ℕ) → Type 0
+AreDocumentsHeld (of_network verb asked cap) contents = CanBeHeld (file_in contents) asked.deadline
+AreDocumentsHeld (of_labelled verb asked cap) contents = CanBeHeld (file_in contents) asked.deadline
+AreDocumentsHeld (of_text verb asked proof) contents = CanBeHeld (file_in contents) asked.deadline
+AreDocumentsHeld (of_document verb asked) contents = CanBeHeld (file_in contents) asked.deadline
+AreDocumentsHeld (of_plan asked) contents = PlanCanBeHeld (file_in contents) asked.deadline
+AreDocumentsHeld (drill number) contents = Unit {0}
+AreDocumentsHeld (host files deadline cap) contents = All (λ bytes. CanBeHeld bytes deadline) contents
+AreDocumentsHeld (version release) contents = Unit {0}
 
 -- A text was said to the request, whose files have these contents, and its outcome tells what it tells. The live source has these
 -- bytes, where they are told. The text is what was written after what the sink had before, and the status is that of the outcome.

@@ -14,8 +14,8 @@ abbrev pub IsLabelledNo : ℕ → Labelled → Type 0
 IsLabelledNo cap m = (IsLabelledConsistent m → ⊥) × (load_of (lowered m) ≤ cap)
 
 -- the bounds that a yes rests on have no fault
-abbrev pub IsListed : Network → Type 0
-IsListed net = IsFaultless net (live_bounds (log_of net))
+abbrev pub HasListedBounds : Network → Type 0
+HasListedBounds net = IsFaultless net (live_bounds (log_of net))
 
 -- the last entry of the network's log, with the entries that it follows from, is a refutation
 abbrev pub IsRefutedByLog : Network → Type 0

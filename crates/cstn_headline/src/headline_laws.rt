@@ -7,11 +7,11 @@ ghost use Rattle.cstn_reply.specs.declared.status.Status.{Status};
 ghost use Rattle.cstn_reply.specs.declared.status.Status.TheVariants.{Good, Bad, Full};
 ghost use Rattle.cstn_top.specs.commands.Run.{run_bounds};
 ghost use Rattle.cstn_headline.specs.commands.Run.{AnswersLeast};
-ghost use Rattle.cstn_headline.specs.Headline.{Document, network, printed_names, HasStrategy, load, edited, Call, CallTells, HasContents, IsCall};
-ghost use Rattle.cstn_headline.specs.Headline.{Checked, Ran, Replayed, Edited, Decides, IsEditedVerdict, IsExecutedOver};
+ghost use Rattle.cstn_headline.specs.Headline.{Document, network, printed_names, DocumentHasStrategy, load, network_edited, RequestCall, CallTells, HasContents, IsCall};
+ghost use Rattle.cstn_headline.specs.Headline.{Checked, Ran, Replayed, Edited, StatusDecides, IsEditedVerdict, IsExecutedOver};
 ghost use Rattle.cstn_top.specs.Meanings.{IsStopped};
 ghost use Rattle.cstn_reply.specs.Written.{view};
-ghost use Rattle.cstn_top.specs.Told.{IsTold};
+ghost use Rattle.cstn_top.specs.Told.{IsToldOfCall};
 ghost use Rattle.cstn_headline.specs.Told.{IsToldOf};
 
 use crate::evidence_laws::evidence_is_accepted;
@@ -26,13 +26,13 @@ use cstn_io::Source;
 /// none too long or too late, the verdict of the last check is that of the network as edited by the lines before it, or Full,
 /// where its log has more entries than the cap.
 pub fn the_headline()
-    ensures check { (d : Document) (cap : ℕ) (c : Checked d cap) → ((c.status ≡ Full) × (cap < load d)) ⊎ (Decides c.status (HasStrategy d) × (load d ≤ cap)) }
-    ensures least { (d : Document) → HasStrategy d → AnswersLeast (printed_names d) (network d) (run_bounds (network d)) }
+    ensures check { (d : Document) (cap : ℕ) (c : Checked d cap) → ((c.status ≡ Full) × (cap < load d)) ⊎ (StatusDecides c.status (DocumentHasStrategy d) × (load d ≤ cap)) }
+    ensures least { (d : Document) → DocumentHasStrategy d → AnswersLeast (printed_names d) (network d) (run_bounds (network d)) }
     ensures executed { (d : Document) (cap : ℕ) (c : Ran d cap) → c.status ≡ Good
         → IsExecutedOver (printed_names d) (network d) (lines_of c.live) c.text }
     ensures derivation { (d : Document) (cap : ℕ) (c : Checked d cap) → c.status ≡ Bad → (file : List ℕ) (r : Replayed d file c.text) → r.status ≡ Good }
-    ensures replay { (d : Document) (file text : List ℕ) (r : Replayed d file text) → r.status ≡ Good → HasStrategy d → ⊥ }
-    ensures edits { (d : Document) (cap : ℕ) (edits : List (List ℕ)) (e : Edited d cap edits) → IsEditedVerdict cap (edited d edits) e.call.status }
+    ensures replay { (d : Document) (file text : List ℕ) (r : Replayed d file text) → r.status ≡ Good → DocumentHasStrategy d → ⊥ }
+    ensures edits { (d : Document) (cap : ℕ) (edits : List (List ℕ)) (e : Edited d cap edits) → IsEditedVerdict cap (network_edited d edits) e.call.status }
 {
     evidence_is_accepted();
 }
@@ -43,9 +43,9 @@ pub fn the_headline()
 /// case, and what was written as evidence is accepted.
 pub fn calls_tell<S: Source>()
     ensures told { (words : Option Request) (files : Option (List ℕ → Option (List ℕ))) (before after : S) (old new : Option (List ℕ)) (status : Status)
-        (told : IsTold words files (view S.left S.faults S.reads) before after old new status)
+        (told : IsToldOfCall words files (view S.left S.faults S.reads) before after old new status)
         → IfSome words (IsToldOf (view S.left S.faults S.reads before) old new status told.contents) }
-    ensures call { (request : Request) (contents : List (List ℕ)) (c : Call request contents)
+    ensures call { (request : Request) (contents : List (List ℕ)) (c : RequestCall request contents)
         → CallTells request contents c }
 {
     evidence_is_accepted();
@@ -55,7 +55,7 @@ pub fn calls_tell<S: Source>()
 /// request, and neither a fault nor want of memory stopped the call, it is a call of that request over the contents of its files.
 pub fn calls_are_told<S: Source>()
     ensures call { (request : Request) (contents : List (List ℕ)) (live had : List ℕ) (words : Option Request) (files : Option (List ℕ → Option (List ℕ)))
-        (before after : S) (old new : Option (List ℕ)) (status : Status) → IsTold words files (view S.left S.faults S.reads) before after old new status
+        (before after : S) (old new : Option (List ℕ)) (status : Status) → IsToldOfCall words files (view S.left S.faults S.reads) before after old new status
         → words ≡ Some request → HasContents files request contents → S.left before ≡ Some live → old ≡ Some had → (IsStopped status → ⊥)
         → IsCall request contents live had new status }
 {}

@@ -7,19 +7,19 @@ ghost use Rattle.cstn_net.specs.Networks.{Network, Constraint, IsWellFormed, Obs
 ghost use Rattle.cstn_lines.specs.Pieces.{is_past};
 ghost use Rattle.cstn_check.specs.declared.verdicts.Verdict.TheVariants.{No};
 ghost use Rattle.cstn_save.specs.Names.{AreNamesOf};
-ghost use Rattle.cstn_follow.specs.Following.{Following, begun, verdict_now};
+ghost use Rattle.cstn_follow.specs.Following.{verdict_now};
+ghost use Rattle.cstn_follow.specs.Marks.{Marked, begun_marked};
 ghost use Rattle.cstn_edit.specs.Editing.{Editing, begun_editing, edit_turn, last_checked};
 ghost use Rattle.cstn_reply.specs.Sessions.{more};
 ghost use Rattle.cstn_reply.specs.Reached.{state_after};
 ghost use Rattle.cstn_request.specs.Limits.{most_document};
 ghost use Rattle.cstn_headline.specs.Accepted.{HasIds, IsAccepted};
-ghost use Rattle.cstn_top.specs.Plans.{Plan, IsOutput};
 ghost use Rattle.cstn_top.specs.Lines.{AreAnswered};
 ghost use Rattle.cstn_top.specs.Dispatch.{plan_at};
-ghost use Rattle.cstn_top.specs.Meanings.{IsRanged};
-ghost use Rattle.cstn_headline.specs.Tells.{AreHeld};
-ghost use Rattle.cstn_headline.specs.commands.Plan.{HasPlan, IsReadAs};
-ghost use Rattle.cstn_request.specs.Requests.{Asked, Request, of_plan, check, run, closed, replay, closedcheck};
+ghost use Rattle.cstn_top.specs.Meanings.{IsCapRanged};
+ghost use Rattle.cstn_headline.specs.Tells.{AreDocumentsHeld};
+ghost use Rattle.cstn_headline.specs.commands.Plan.{PlanHasNetwork, IsDocumentReadAs};
+ghost use Rattle.cstn_request.specs.Requests.{AskedFile, Request, of_plan, check, run, closed, replay, closedcheck};
 ghost use Rattle.cstn_reply.specs.Texts.{Said, line};
 ghost use Rattle.cstn_reply.specs.declared.output.Outcome.TheVariants.{Good, Bad};
 ghost use Rattle.cstn_lift.specs.Labelled.{Labelled};
@@ -30,15 +30,16 @@ ghost use Rattle.cstn_tight.specs.Deadlines.{at_deadline, IsLeastDeadline};
 ghost use Rattle.cstn_headline.specs.LabelledDeadlines.{labelled_at, IsLabelledLeastDeadline};
 ghost use Rattle.cstn_change.specs.ChangeLines.{network_after};
 ghost use Rattle.cstn_headline.specs.EditSessions.{AnswersCheck, IsAtLastCheck};
-ghost use Rattle.cstn_top.specs.commands.Follow.{follow_turn};
+ghost use Rattle.cstn_top.specs.commands.Follow.{marked_turn};
 
 use crate::evidence_laws::evidence_is_accepted;
 use cstn_closed::{closed_lists_are_accepted, closed_texts_are_read_back};
 use cstn_graphml::documents_have_one_answer;
+use cstn_outline::tree_texts_are_read_back;
 use cstn_refute::texts_are_read_back;
 use cstn_save::documents_are_read_back;
 use cstn_sentences::plans_have_one_answer;
-use cstn_tree::{made_trees_are_good, networks_have_one_tree, tree_texts_are_read_back};
+use cstn_tree::{made_trees_are_good, networks_have_one_tree};
 
 /// After any edit lines that are answered, the session's network is the network as edited by them, which is well-formed. The
 /// answer to `check` after them is true of that network: yes is said only where it is consistent, no only where it isn't, with
@@ -67,12 +68,13 @@ pub fn least_deadlines_are_lowered()
     ensures least { (m : Labelled) (h : ℕ) → IsLabelled m → h ≤ m.base.deadline → (IsLabelledLeastDeadline m h ↔ IsLeastDeadline (lowered m) h) }
 {}
 
-/// What a request says is determined by the contents of its files and the bytes of the live source: the outputs of a plan are one.
+/// What a request says is determined by the contents of its files and the bytes of the live source: the outputs of a request are one.
 /// And it can't be that a request has none, where values of the program can hold what its documents say, or its plan in sentences, and its cap is in range.
 pub fn outputs_are_one()
-    ensures one { (plan : Plan) (live : List ℕ) (one other : Said) → IsOutput plan live one → IsOutput plan live other → one ≡ other }
-    ensures some { (request : Request) (contents : List (List ℕ)) (live : List ℕ) → IsRanged request → AreHeld request contents
-        → ((said : Said) → IsOutput (plan_at request contents) live said → ⊥) → ⊥ }
+    ensures one { (request : Request) (contents : List (List ℕ)) (live : List ℕ) (one other : Said)
+        → (plan_at request contents).output live one → (plan_at request contents).output live other → one ≡ other }
+    ensures some { (request : Request) (contents : List (List ℕ)) (live : List ℕ) → IsCapRanged request → AreDocumentsHeld request contents
+        → ((said : Said) → (plan_at request contents).output live said → ⊥) → ⊥ }
 {
     documents_have_one_answer();
     plans_have_one_answer();
@@ -87,17 +89,17 @@ pub fn outputs_are_one()
 /// What `check`, `run` and `closed` write after no passes: `replay` of the same document with that text says `accepted`, and
 /// nothing else. So does `closedcheck` with what `closed` writes after yes.
 pub fn evidence_passes()
-    ensures no_of_check { (asked : Asked) (cap : ℕ) (file bytes live : List ℕ) (said : Said) → cap ≤ most_load
-        → IsOutput (plan_at (check asked cap) (bytes ∷ [])) live said → said.outcome ≡ Bad
+    ensures no_of_check { (asked : AskedFile) (cap : ℕ) (file bytes live : List ℕ) (said : Said) → cap ≤ most_load
+        → (plan_at (check asked cap) (bytes ∷ [])).output live said → said.outcome ≡ Bad
         → IsAccepted (plan_at (replay asked file) (bytes ∷ said.text ∷ [])) }
-    ensures no_of_run { (asked : Asked) (cap : ℕ) (file bytes live : List ℕ) (said : Said) → cap ≤ most_load
-        → IsOutput (plan_at (run asked cap) (bytes ∷ [])) live said → said.outcome ≡ Bad
+    ensures no_of_run { (asked : AskedFile) (cap : ℕ) (file bytes live : List ℕ) (said : Said) → cap ≤ most_load
+        → (plan_at (run asked cap) (bytes ∷ [])).output live said → said.outcome ≡ Bad
         → IsAccepted (plan_at (replay asked file) (bytes ∷ said.text ∷ [])) }
-    ensures no_of_closed { (asked : Asked) (cap : ℕ) (file bytes live : List ℕ) (said : Said) → cap ≤ most_load
-        → IsOutput (plan_at (closed asked cap) (bytes ∷ [])) live said → said.outcome ≡ Bad
+    ensures no_of_closed { (asked : AskedFile) (cap : ℕ) (file bytes live : List ℕ) (said : Said) → cap ≤ most_load
+        → (plan_at (closed asked cap) (bytes ∷ [])).output live said → said.outcome ≡ Bad
         → IsAccepted (plan_at (replay asked file) (bytes ∷ said.text ∷ [])) }
-    ensures yes_of_closed { (asked : Asked) (cap : ℕ) (file bytes live : List ℕ) (said : Said) → cap ≤ most_load
-        → IsOutput (plan_at (closed asked cap) (bytes ∷ [])) live said → said.outcome ≡ Good
+    ensures yes_of_closed { (asked : AskedFile) (cap : ℕ) (file bytes live : List ℕ) (said : Said) → cap ≤ most_load
+        → (plan_at (closed asked cap) (bytes ∷ [])).output live said → said.outcome ≡ Good
         → IsAccepted (plan_at (closedcheck asked file) (bytes ∷ said.text ∷ [])) }
 {
     documents_have_one_answer();
@@ -107,8 +109,8 @@ pub fn evidence_passes()
 /// The document that `plan` writes is the plan: without a deadline handed in it is read as the very network of the plan, under the same
 /// names.
 pub fn documents_of_plans_are_the_plans()
-    ensures { (asked : Asked) (bytes live : List ℕ) (said : Said) → IsOutput (plan_at (of_plan asked) (bytes ∷ [])) live said → said.outcome ≡ Good
-        → HasPlan bytes asked.deadline (IsReadAs said.text) }
+    ensures { (asked : AskedFile) (bytes live : List ℕ) (said : Said) → (plan_at (of_plan asked) (bytes ∷ [])).output live said → said.outcome ≡ Good
+        → PlanHasNetwork bytes asked.deadline (IsDocumentReadAs said.text) }
 {
     documents_are_read_back();
 }
@@ -116,11 +118,11 @@ pub fn documents_of_plans_are_the_plans()
 /// After no, the refutation that `check` answers, less its line `end`, passes: `replay` accepts it on the document that `rest` answers
 /// in the same state, where that has at most 8,388,608 bytes. What nothing observes has a reaction of 1 tick, as in each document.
 pub fn followed_refutations_pass()
-    ensures { (cap : ℕ) (names : List (List ℕ)) (m : Labelled) (lines : List (List ℕ)) (s t u : Following) (load : ℕ) (text bytes file : List ℕ) (asked : Asked)
+    ensures { (cap : ℕ) (names : List (List ℕ)) (m : Labelled) (lines : List (List ℕ)) (s t u : Marked) (load : ℕ) (text bytes file : List ℕ) (asked : AskedFile)
         → IsLabelled m → length (lowered m).constraints ≤ most_constraints → AreNamesOf m.base names
         → ((p : ℕ) → ((x : ℕ) → Observes m.base x p → ⊥) → m.base.reaction p ≡ 1) → cap ≤ most_load
-        → state_after follow_turn (begun cap names m) 0 lines ≡ Some s → verdict_now s ≡ No load
-        → follow_turn s (codes "check") ≡ more (text ++ line (codes "end")) t → follow_turn s (codes "rest") ≡ more bytes u
+        → state_after marked_turn (begun_marked cap names m) 0 lines ≡ Some s → verdict_now s.now ≡ No load
+        → marked_turn s (codes "check") ≡ more (text ++ line (codes "end")) t → marked_turn s (codes "rest") ≡ more bytes u
         → length bytes ≤ most_document → asked.deadline ≡ None → IsAccepted (plan_at (replay asked file) (bytes ∷ text ∷ [])) }
 {
     documents_have_one_answer();
@@ -131,16 +133,16 @@ pub fn followed_refutations_pass()
 /// `check` of the document that `rest` answers says yes only where some table continues what has happened, and no only where none
 /// does. What nothing observes has a reaction of 1 tick, as in each document.
 pub fn followed_rests_decide()
-    ensures yes { (cap checks : ℕ) (names : List (List ℕ)) (m : Labelled) (lines : List (List ℕ)) (s u : Following) (bytes live : List ℕ) (asked : Asked)
+    ensures yes { (cap checks : ℕ) (names : List (List ℕ)) (m : Labelled) (lines : List (List ℕ)) (s u : Marked) (bytes live : List ℕ) (asked : AskedFile)
         (said : Said) → IsLabelled m → length (lowered m).constraints ≤ most_constraints → AreNamesOf m.base names
-        → ((p : ℕ) → ((x : ℕ) → Observes m.base x p → ⊥) → m.base.reaction p ≡ 1) → state_after follow_turn (begun cap names m) 0 lines ≡ Some s
-        → follow_turn s (codes "rest") ≡ more bytes u → asked.deadline ≡ None → IsOutput (plan_at (check asked checks) (bytes ∷ [])) live said
-        → said.outcome ≡ Good → Can s.network s.history }
-    ensures no { (cap checks : ℕ) (names : List (List ℕ)) (m : Labelled) (lines : List (List ℕ)) (s u : Following) (bytes live : List ℕ) (asked : Asked)
+        → ((p : ℕ) → ((x : ℕ) → Observes m.base x p → ⊥) → m.base.reaction p ≡ 1) → state_after marked_turn (begun_marked cap names m) 0 lines ≡ Some s
+        → marked_turn s (codes "rest") ≡ more bytes u → asked.deadline ≡ None → (plan_at (check asked checks) (bytes ∷ [])).output live said
+        → said.outcome ≡ Good → Can s.now.network s.now.history }
+    ensures no { (cap checks : ℕ) (names : List (List ℕ)) (m : Labelled) (lines : List (List ℕ)) (s u : Marked) (bytes live : List ℕ) (asked : AskedFile)
         (said : Said) → IsLabelled m → length (lowered m).constraints ≤ most_constraints → AreNamesOf m.base names
-        → ((p : ℕ) → ((x : ℕ) → Observes m.base x p → ⊥) → m.base.reaction p ≡ 1) → state_after follow_turn (begun cap names m) 0 lines ≡ Some s
-        → follow_turn s (codes "rest") ≡ more bytes u → asked.deadline ≡ None → IsOutput (plan_at (check asked checks) (bytes ∷ [])) live said
-        → said.outcome ≡ Bad → Can s.network s.history → ⊥ }
+        → ((p : ℕ) → ((x : ℕ) → Observes m.base x p → ⊥) → m.base.reaction p ≡ 1) → state_after marked_turn (begun_marked cap names m) 0 lines ≡ Some s
+        → marked_turn s (codes "rest") ≡ more bytes u → asked.deadline ≡ None → (plan_at (check asked checks) (bytes ∷ [])).output live said
+        → said.outcome ≡ Bad → Can s.now.network s.now.history → ⊥ }
 {
     documents_are_read_back();
 }

@@ -1,7 +1,7 @@
 // A check of a network whose document is in memory.
 ghost use Rattle.std.specs.Prelude.{ℕ, List, IsTrue, map, string_bytes};
 ghost use Rattle.cstn_lift.specs.Labelled.{Labelled};
-ghost use Rattle.cstn_headline.specs.Networks.{AskCheck, IsNamedNetwork, HasDocument, IsDecided};
+ghost use Rattle.cstn_headline.specs.Networks.{AskCheck, IsNamedNetwork, HasDocument, IsNetworkDecided};
 
 use cstn_check::growth_is_bounded;
 use cstn_io::{Shelf, Sink, Source};
@@ -26,7 +26,7 @@ pub fn check_network<F: Shelf, S: Source, K: Sink>(
 ) -> Status
     requires asks { (file : List ℕ) × ((cap : ℕ) × AskCheck (map string_bytes words.now) file cap × IsTrue (F.may_ask shelf.old file)) }
     ensures decided { (m : Labelled) (names : List (List ℕ)) (file : List ℕ) (cap : ℕ) → IsNamedNetwork m names
-        → AskCheck (map string_bytes words.now) file cap → HasDocument (F.files shelf.old) file m names → IsDecided m cap result }
+        → AskCheck (map string_bytes words.now) file cap → HasDocument (F.files shelf.old) file m names → IsNetworkDecided m cap result }
 {
     documents_are_read_back();
     growth_is_bounded();

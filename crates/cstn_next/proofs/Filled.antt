@@ -23,7 +23,7 @@ use Rattle.cstn_history.specs.Rest.{number_of, is_left}
 use Rattle.cstn_history.specs.Handed.{AreNumbers}
 use Rattle.cstn_next.specs.Next.{latest}
 
-drop_next : (bounds : List ProgramBound) (k : ℕ) (b : ProgramBound) → slice_get bounds k ≡ Some b → drop k bounds ≡ b ∷ drop (k + 1) bounds
+pub drop_next : (bounds : List ProgramBound) (k : ℕ) (b : ProgramBound) → slice_get bounds k ≡ Some b → drop k bounds ≡ b ∷ drop (k + 1) bounds
 drop_next bounds k b at =
     let inside = slice_get_within bounds k b at in
     let here : b ≡ get_or bounds k b = let there = slice_get-get_or bounds k b inside in cc in

@@ -3,5 +3,5 @@ pub mod Lists
 pub mod Coming
 pub mod Exact
 -- How the program finds it.
-mod Filled
+pub mod Filled
 mod Told

@@ -4,15 +4,15 @@ use Rattle.std.specs.Prelude.{Option, None, Some, IsTrue, Bool, true, false, ◌
 use Rattle.std.specs.Option.{IsSomeAnd}
 use Rattle.std.proofs.lemmas.List.{length-replicate}
 use Rattle.cstn_io.specs.Contents.{IsFile, IsLongFile}
-use Rattle.cstn_request.specs.Files.{file_at, bytes_or_none, IsContent, AreContents, AreThere}
+use Rattle.cstn_request.specs.Files.{file_bytes, bytes_or_none, IsContent, AreContents, AreThere}
 
 -- the bytes that were read of a file are its content
 pub is_content : (told : Option (List ℕ → Option (List ℕ))) (name bytes : List ℕ) → IsFile told name bytes → IsContent told name bytes
 is_content None name bytes is = λ files e. absurd (cc)
 is_content (Some known) name bytes is = λ files e. told_bytes known files name bytes (cc) is
   where
-    told_bytes : (known files : List ℕ → Option (List ℕ)) (name bytes : List ℕ) → known ≡ files → known name ≡ Some bytes → bytes ≡ file_at files name
-    told_bytes known files name bytes same is = ap (λ (o : Option (List ℕ)). bytes_or_none o) (sym is) ∙ ap (λ (f : List ℕ → Option (List ℕ)). file_at f name) same
+    told_bytes : (known files : List ℕ → Option (List ℕ)) (name bytes : List ℕ) → known ≡ files → known name ≡ Some bytes → bytes ≡ file_bytes files name
+    told_bytes known files name bytes same is = ap (λ (o : Option (List ℕ)). bytes_or_none o) (sym is) ∙ ap (λ (f : List ℕ → Option (List ℕ)). file_bytes f name) same
 
 some_long : (n : ℕ) → (bytes : List ℕ) × (n < length bytes)
 some_long n = (replicate (n + 1) 0, omega (arith, length-replicate {A = ℕ} (n + 1) 0))
@@ -20,7 +20,7 @@ some_long n = (replicate (n + 1) 0, omega (arith, length-replicate {A = ℕ} (n 
 -- a file above the limit has a content of more bytes than the limit
 pub long_content : (told : Option (List ℕ → Option (List ℕ))) (name : List ℕ) (limit : ℕ) → IsLongFile told name limit → (bytes : List ℕ) × IsContent told name bytes × (limit < length bytes)
 long_content None name limit long = let w = some_long limit in (w.0, (λ files e. absurd (cc)), w.1)
-long_content (Some known) name limit long = (file_at known name, (λ files e. let same : known ≡ files = cc in ap (λ (f : List ℕ → Option (List ℕ)). file_at f name) same), longer (known name) limit long)
+long_content (Some known) name limit long = (file_bytes known name, (λ files e. let same : known ≡ files = cc in ap (λ (f : List ℕ → Option (List ℕ)). file_bytes f name) same), longer (known name) limit long)
   where
     longer : (o : Option (List ℕ)) (limit : ℕ) → IsSomeAnd o (λ bs. limit < length bs) → limit < length (bytes_or_none o)
     longer None limit h = absurd h
@@ -29,7 +29,7 @@ long_content (Some known) name limit long = (file_at known name, (λ files e. le
 -- there are contents that agree with what is told of the files
 pub some_contents : (told : Option (List ℕ → Option (List ℕ))) (names : List (List ℕ)) → (contents : List (List ℕ)) × AreContents told names contents
 some_contents None names = ([], (λ files e. absurd (cc)))
-some_contents (Some known) names = (map (file_at known) names, (λ files e. let same : known ≡ files = cc in ap (λ (f : List ℕ → Option (List ℕ)). map (file_at f) names) same))
+some_contents (Some known) names = (map (file_bytes known) names, (λ files e. let same : known ≡ files = cc in ap (λ (f : List ℕ → Option (List ℕ)). map (file_bytes f) names) same))
 
 -- a list of one content, from the content of the file
 pub one_content : (told : Option (List ℕ → Option (List ℕ))) (name bytes : List ℕ) → IsContent told name bytes → AreContents told (name ∷ []) (bytes ∷ [])
@@ -38,7 +38,7 @@ one_content told name bytes content = λ files e. ap (λ (bs : List ℕ). bs ∷
 -- there are bytes that agree with what is told of a file
 pub some_content : (told : Option (List ℕ → Option (List ℕ))) (name : List ℕ) → (bytes : List ℕ) × IsContent told name bytes
 some_content None name = ([], (λ files e. absurd (cc)))
-some_content (Some known) name = (file_at known name, (λ files e. let same : known ≡ files = cc in ap (λ (f : List ℕ → Option (List ℕ)). file_at f name) same))
+some_content (Some known) name = (file_bytes known name, (λ files e. let same : known ≡ files = cc in ap (λ (f : List ℕ → Option (List ℕ)). file_bytes f name) same))
 
 -- a list of two contents, from the contents of the two files
 pub two_contents : (told : Option (List ℕ → Option (List ℕ))) (name other bytes text : List ℕ) → IsContent told name bytes → IsContent told other text → AreContents told (name ∷ other ∷ []) (bytes ∷ text ∷ [])

@@ -30,33 +30,33 @@ use Rattle.cstn_net.specs.declared.errors.NetError.{NetError}
 use Rattle.cstn_request.specs.Limits.{most_document}
 use Rattle.cstn_request.specs.Refusals.{refusal_text, fault_text, label_fault_text}
 use Rattle.cstn_reply.specs.Texts.{Said, say}
-use Rattle.cstn_request.specs.Documents.{AreEmpty, IsRefusalOf, IsLabelsTold}
-use Rattle.cstn_request.specs.Requests.{Asked}
+use Rattle.cstn_request.specs.Documents.{AreEmpty, IsRefusalOfParts, IsLabelsTold}
+use Rattle.cstn_request.specs.Requests.{AskedFile}
 use Rattle.cstn_request.specs.declared.reading.NamedNetwork.{NamedNetwork}
 use Rattle.cstn_request.specs.declared.reading.NamedLabelled.{NamedLabelled}
-use Rattle.cstn_request.specs.Opened.{IsToldBy, IsFile, IsAsked, IsLabelledOf, IsPlainDocument, IsPlainOf, IsRefusal, IsPlainRefusal, IsTakenOf, TellsLabels, IsLongText, IsLongPlan}
+use Rattle.cstn_request.specs.Opened.{IsToldBy, HasFile, HasAskedFile, IsLabelledOf, IsPlainDocument, IsPlainOf, IsDocumentRefusal, IsPlainRefusal, IsTakenOf, TellsLabels, IsLongText, IsLongPlan}
 use Rattle.cstn_reply.specs.Read.{the_said}
 use Rattle.cstn_reply.specs.declared.output.Said.{Said as SaidText}
 use Rattle.cstn_reply.specs.declared.output.Outcome.TheVariants.{Document, Script}
 use Rattle.cstn_request.proofs.Contents.{long_content, long_is_there, is_content, is_there}
 
 -- a refusal by the grammar
-refused_said : (told : Result Parts Refusal) (refusal : Refusal) (said : Said) → told ≡ Err refusal → said ≡ say Document (refusal_text refusal) → IsRefusalOf told said
-refused_said told refusal said is same = subst (λ (r : Result Parts Refusal). IsRefusalOf r said) (sym is) same
+refused_said : (told : Result Parts Refusal) (refusal : Refusal) (said : Said) → told ≡ Err refusal → said ≡ say Document (refusal_text refusal) → IsRefusalOfParts told said
+refused_said told refusal said is same = subst (λ (r : Result Parts Refusal). IsRefusalOfParts r said) (sym is) same
 
 -- a refusal of the network
-unfit_said : (told : Result Parts Refusal) (error : NetError) (names : List (List ℕ)) (said : Said) → IsUnfitDocument told error names → said ≡ say Document (fault_text names error) → IsRefusalOf told said
+unfit_said : (told : Result Parts Refusal) (error : NetError) (names : List (List ℕ)) (said : Said) → IsUnfitDocument told error names → said ≡ say Document (fault_text names error) → IsRefusalOfParts told said
 unfit_said told error names said unfit same =
-    subst (λ (r : Result Parts Refusal). IsRefusalOf r said) (sym unfit.told_are)
+    subst (λ (r : Result Parts Refusal). IsRefusalOfParts r said) (sym unfit.told_are)
     (inl (error, unfit.unfit, same ∙ ap (λ (ns : List (List ℕ)). say Document (fault_text ns error)) unfit.names_are))
 
 -- a refusal of its labels
-mislabelled_said : (told : Result Parts Refusal) (error : LiftError) (names : List (List ℕ)) (said : Said) → IsMislabelledDocument told error names → said ≡ say Document (label_fault_text names error) → IsRefusalOf told said
+mislabelled_said : (told : Result Parts Refusal) (error : LiftError) (names : List (List ℕ)) (said : Said) → IsMislabelledDocument told error names → said ≡ say Document (label_fault_text names error) → IsRefusalOfParts told said
 mislabelled_said told error names said is same =
-    subst (λ (r : Result Parts Refusal). IsRefusalOf r said) (sym is.told_are)
+    subst (λ (r : Result Parts Refusal). IsRefusalOfParts r said) (sym is.told_are)
     (inr (error, is.mislabelled, same ∙ ap (λ (ns : List (List ℕ)). say Document (label_fault_text ns error)) is.names_are))
 
-error_said : (told : Result Parts Refusal) (error : DocError) (said : Said) → RefusesDocument told error → IsToldBy error said → IsRefusalOf told said
+error_said : (told : Result Parts Refusal) (error : DocError) (said : Said) → RefusesDocument told error → IsToldBy error said → IsRefusalOfParts told said
 error_said told (NotUtf8 at) said is same = refused_said told (not_utf8 at) said is same
 error_said told (Shape at) said is same = refused_said told (shape at) said is same
 error_said told (NameTwice at) said is same = refused_said told (name_twice at) said is same
@@ -85,33 +85,33 @@ told_by (Lift error names) said same = ap (λ (s : Said). s.outcome) same
 told_by (Memory e) said same = absurd same
 
 -- a document that is refused
-pub refused_is : (bytes : List ℕ) (deadline : Option ℕ) (error : DocError) (said : SaidText) → length bytes ≤ most_document → RefusesDocument (document bytes deadline) error → IsToldBy error (the_said said) → IsRefusal bytes deadline said
+pub refused_is : (bytes : List ℕ) (deadline : Option ℕ) (error : DocError) (said : SaidText) → length bytes ≤ most_document → RefusesDocument (document bytes deadline) error → IsToldBy error (the_said said) → IsDocumentRefusal bytes deadline said
 refused_is bytes deadline error said short is same = (inr (short, error_said (document bytes deadline) error (the_said said) is same), told_by error (the_said said) same)
 
 -- a file that is too long for a document
-pub long_document : (told : Option (List ℕ → Option (List ℕ))) (name : List ℕ) (deadline : Option ℕ) (said : SaidText) → IsLongFile told name most_document → the_said said ≡ say Document (codes "document long") → IsFile told name (λ bytes. IsRefusal bytes deadline said)
+pub long_document : (told : Option (List ℕ → Option (List ℕ))) (name : List ℕ) (deadline : Option ℕ) (said : SaidText) → IsLongFile told name most_document → the_said said ≡ say Document (codes "document long") → HasFile told name (λ bytes. IsDocumentRefusal bytes deadline said)
 long_document told name deadline said long is =
     let found = long_content told name most_document long in
     record { bytes = found.0; content = found.1; there = long_is_there told name most_document long; is = (inl (found.2, is), ap (λ (s : Said). s.outcome) is) }
 
 -- a file that is too long for a text
-pub long_text : (told : Option (List ℕ → Option (List ℕ))) (name : List ℕ) (said : SaidText) → IsLongFile told name most_text → the_said said ≡ say Script (codes "script long") → IsFile told name (IsLongText said)
+pub long_text : (told : Option (List ℕ → Option (List ℕ))) (name : List ℕ) (said : SaidText) → IsLongFile told name most_text → the_said said ≡ say Script (codes "script long") → HasFile told name (IsLongText said)
 long_text told name said long is =
     let found = long_content told name most_text long in
     record { bytes = found.0; content = found.1; there = long_is_there told name most_text long; is = (found.2, is) }
 
 -- a file that is too long for a plan in sentences
-pub long_plan : (told : Option (List ℕ → Option (List ℕ))) (name : List ℕ) (said : SaidText) → IsLongFile told name most_document → the_said said ≡ say Document (codes "plan long") → IsFile told name (IsLongPlan said)
+pub long_plan : (told : Option (List ℕ → Option (List ℕ))) (name : List ℕ) (said : SaidText) → IsLongFile told name most_document → the_said said ≡ say Document (codes "plan long") → HasFile told name (IsLongPlan said)
 long_plan told name said long is =
     let found = long_content told name most_document long in
     record { bytes = found.0; content = found.1; there = long_is_there told name most_document long; is = (found.2, is) }
 
 -- a file that was read
-pub whole_file : (told : Option (List ℕ → Option (List ℕ))) (name bytes : List ℕ) (holds : List ℕ → Type 0) → IsRead told name bytes → holds bytes → IsFile told name holds
+pub whole_file : (told : Option (List ℕ → Option (List ℕ))) (name bytes : List ℕ) (holds : List ℕ → Type 0) → IsRead told name bytes → holds bytes → HasFile told name holds
 whole_file told name bytes holds read is = record { bytes = bytes; content = is_content told name bytes read; there = is_there told name bytes read; is = is }
 
 -- what follows of the bytes of a file
-pub file_as : (told : Option (List ℕ → Option (List ℕ))) (name : List ℕ) (one other : List ℕ → Type 0) → IsFile told name one → ((bytes : List ℕ) → one bytes → other bytes) → IsFile told name other
+pub file_as : (told : Option (List ℕ → Option (List ℕ))) (name : List ℕ) (one other : List ℕ → Type 0) → HasFile told name one → ((bytes : List ℕ) → one bytes → other bytes) → HasFile told name other
 file_as told name one other file follows = record { bytes = file.bytes; content = file.content; there = file.there; is = follows file.bytes file.is }
 
 -- the ids of a document's constraints are their places
@@ -171,7 +171,7 @@ plain_refused bytes deadline l said opens taken =
     )
 
 -- a document that was taken as a plain one
-pub plainly_asked : {E : Type 0} → IsNumbered → IsSameNumbered → (told : Option (List ℕ → Option (List ℕ))) (asked : Asked) (l : NamedLabelled) (r : Result NamedNetwork E) → IsAsked told asked (λ bytes deadline. IsLabelledOf bytes deadline l) → IfOk r (IsTakenOf l.labelled l.names) → IfOk r (λ d. IsAsked told asked (λ bytes deadline. IsPlainOf bytes deadline d))
+pub plainly_asked : {E : Type 0} → IsNumbered → IsSameNumbered → (told : Option (List ℕ → Option (List ℕ))) (asked : AskedFile) (l : NamedLabelled) (r : Result NamedNetwork E) → HasAskedFile told asked (λ bytes deadline. IsLabelledOf bytes deadline l) → IfOk r (IsTakenOf l.labelled l.names) → IfOk r (λ d. HasAskedFile told asked (λ bytes deadline. IsPlainOf bytes deadline d))
 plainly_asked is_numbered same_numbered told asked l (Err e) opened taken = tt
 plainly_asked is_numbered same_numbered told asked l (Ok d) opened taken = file_as told asked.file (λ bytes. IsLabelledOf bytes asked.deadline l) (λ bytes. IsPlainOf bytes asked.deadline d) opened (λ bytes is. plain_opens is_numbered same_numbered bytes asked.deadline l d is taken)
 

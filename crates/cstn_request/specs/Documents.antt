@@ -22,17 +22,17 @@ abbrev pub AreUnlabelled : Parts → Type 0
 AreUnlabelled parts = IsFit parts × AreEmpty parts.labels
 
 -- the parts of a document, where it isn't refused by the grammar
-abbrev pub parts_of : Result Parts Refusal → Option Parts
-parts_of (Ok parts) = Some parts
-parts_of (Err refusal) = None
+abbrev pub parts_read : Result Parts Refusal → Option Parts
+parts_read (Ok parts) = Some parts
+parts_read (Err refusal) = None
 
 -- the document of the bytes has a labelled network, of which this holds under the names of its time-points
 abbrev pub HasLabelled : List ℕ → Option ℕ → (List (List ℕ) → Labelled → Type 0) → Type 0
-HasLabelled bytes deadline holds = IsSomeAnd (parts_of (document bytes deadline)) (λ parts. IsFit parts × holds parts.names (labelled_of parts))
+HasLabelled bytes deadline holds = IsSomeAnd (parts_read (document bytes deadline)) (λ parts. IsFit parts × holds parts.names (labelled_of parts))
 
 -- the document of the bytes has a network without labels on time-points, of which this holds under the names of its time-points
 abbrev pub HasNetwork : List ℕ → Option ℕ → (List (List ℕ) → Network → Type 0) → Type 0
-HasNetwork bytes deadline holds = IsSomeAnd (parts_of (document bytes deadline)) (λ parts. AreUnlabelled parts × holds parts.names (network_of parts))
+HasNetwork bytes deadline holds = IsSomeAnd (parts_read (document bytes deadline)) (λ parts. AreUnlabelled parts × holds parts.names (network_of parts))
 
 -- the bytes are no document: they are too many, or have no labelled network
 abbrev pub IsNoDocument : List ℕ → Option ℕ → Type 0
@@ -44,9 +44,9 @@ IsRefused bytes deadline = (most_document < length bytes) ⊎ (HasNetwork bytes 
 
 -- this is said of what was read as a document, and is refused: by the grammar, or by the lowest fault of the network that the
 -- parts make, or by that of its labels
-abbrev pub IsRefusalOf : Result Parts Refusal → Said → Type 0
-IsRefusalOf (Err refusal) said = said ≡ say Document (refusal_text refusal)
-IsRefusalOf (Ok parts) said =
+abbrev pub IsRefusalOfParts : Result Parts Refusal → Said → Type 0
+IsRefusalOfParts (Err refusal) said = said ≡ say Document (refusal_text refusal)
+IsRefusalOfParts (Ok parts) said =
     ((error : NetError) × IsUnfit parts error × (said ≡ say Document (fault_text parts.names error)))
     ⊎ ((error : LiftError) × IsMislabelled parts error × (said ≡ say Document (label_fault_text parts.names error)))
 
@@ -54,7 +54,7 @@ IsRefusalOf (Ok parts) said =
 abbrev pub IsSaidOf : List ℕ → Option ℕ → Said → Type 0
 IsSaidOf bytes deadline said =
     ((most_document < length bytes) × (said ≡ say Document (codes "document long")))
-    ⊎ ((length bytes ≤ most_document) × IsRefusalOf (document bytes deadline) said)
+    ⊎ ((length bytes ≤ most_document) × IsRefusalOfParts (document bytes deadline) said)
 
 -- this is said of what was read as a document, where a time-point has a label
 abbrev pub IsLabelsTold : Result Parts Refusal → Said → Type 0

@@ -8,16 +8,16 @@ bytes_or_none None = []
 bytes_or_none (Some bytes) = bytes
 
 -- the bytes of a file: none where it isn't there
-abbrev pub file_at : (List ℕ → Option (List ℕ)) → List ℕ → List ℕ
-file_at files name = bytes_or_none (files name)
+abbrev pub file_bytes : (List ℕ → Option (List ℕ)) → List ℕ → List ℕ
+file_bytes files name = bytes_or_none (files name)
 
 -- the bytes are those of the named file, where it is told what files there are
 abbrev pub IsContent : Option (List ℕ → Option (List ℕ)) → List ℕ → List ℕ → Type 0
-IsContent told name bytes = (files : List ℕ → Option (List ℕ)) → told ≡ Some files → bytes ≡ file_at files name
+IsContent told name bytes = (files : List ℕ → Option (List ℕ)) → told ≡ Some files → bytes ≡ file_bytes files name
 
 -- the contents are those of the named files, one after another, where it is told what files there are
 abbrev pub AreContents : Option (List ℕ → Option (List ℕ)) → List (List ℕ) → List (List ℕ) → Type 0
-AreContents told names contents = (files : List ℕ → Option (List ℕ)) → told ≡ Some files → contents ≡ map (file_at files) names
+AreContents told names contents = (files : List ℕ → Option (List ℕ)) → told ≡ Some files → contents ≡ map (file_bytes files) names
 
 -- the named files are there, where it is told what files there are
 abbrev pub AreThere : Option (List ℕ → Option (List ℕ)) → List (List ℕ) → Type 0

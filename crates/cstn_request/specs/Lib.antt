@@ -10,3 +10,4 @@ pub mod Refusals
 -- Documents, and those that were opened.
 pub mod Documents
 pub mod Opened
+pub mod Several

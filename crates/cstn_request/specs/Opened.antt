@@ -20,7 +20,7 @@ use Rattle.cstn_request.specs.Limits.{most_document}
 use Rattle.cstn_request.specs.declared.reading.NamedNetwork.{NamedNetwork}
 use Rattle.cstn_request.specs.declared.reading.NamedLabelled.{NamedLabelled}
 use Rattle.cstn_reply.specs.declared.output.Said.{Said as SaidText}
-use Rattle.cstn_request.specs.Requests.{Asked}
+use Rattle.cstn_request.specs.Requests.{AskedFile}
 use Rattle.cstn_request.specs.Files.{IsContent, AreThere}
 use Rattle.cstn_request.specs.Refusals.{refusal_text, fault_text, label_fault_text}
 use Rattle.cstn_reply.specs.Texts.{Said, say}
@@ -43,18 +43,18 @@ IsToldBy (Lift error names) said = said ≡ say Document (label_fault_text names
 IsToldBy (Memory e) said = ⊥
 
 -- the named file is there, and has bytes of which this holds
-pub record IsFile (told : Option (List ℕ → Option (List ℕ))) (name : List ℕ) (holds : List ℕ → Type 0) : Type 0 where
+pub record HasFile (told : Option (List ℕ → Option (List ℕ))) (name : List ℕ) (holds : List ℕ → Type 0) : Type 0 where
   pub bytes : List ℕ
   pub content : IsContent told name bytes
   pub there : AreThere told (name ∷ [])
   pub is : holds bytes
 
 -- the file that is asked for is there, and has bytes of which this holds with the deadline that is asked for
-abbrev pub IsAsked : Option (List ℕ → Option (List ℕ)) → Asked → (List ℕ → Option ℕ → Type 0) → Type 0
-IsAsked told asked holds = IsFile told asked.file (λ bytes. holds bytes asked.deadline)
+abbrev pub HasAskedFile : Option (List ℕ → Option (List ℕ)) → AskedFile → (List ℕ → Option ℕ → Type 0) → Type 0
+HasAskedFile told asked holds = HasFile told asked.file (λ bytes. holds bytes asked.deadline)
 
 -- the names are those of the time-points of a network, and the first is the name of the origin
-pub record AreNamesOf (names : List (List ℕ)) (net : Network) : Type 0 where
+pub record AreDocumentNames (names : List (List ℕ)) (net : Network) : Type 0 where
   pub named : length names ≡ count net
   pub origin : (later : List (List ℕ)) × (names ≡ origin_name ∷ later)
 
@@ -62,7 +62,7 @@ pub record AreNamesOf (names : List (List ℕ)) (net : Network) : Type 0 where
 pub record IsLabelledOf (bytes : List ℕ) (deadline : Option ℕ) (d : NamedLabelled) : Type 0 where
   pub short : length bytes ≤ most_document
   pub is : IsDocument (document bytes deadline) (the_labelled d.labelled) d.names
-  pub names : AreNamesOf d.names (the_network d.labelled.base)
+  pub names : AreDocumentNames d.names (the_network d.labelled.base)
 
 -- the bytes are a document of a labelled network under these names, and this is the network that it is lowered to
 pub record IsLoweredOf (bytes : List ℕ) (deadline : Option ℕ) (d : NamedNetwork) : Type 0 where
@@ -71,7 +71,7 @@ pub record IsLoweredOf (bytes : List ℕ) (deadline : Option ℕ) (d : NamedNetw
   pub is : IsDocument (document bytes deadline) (the_labelled labelled) d.names
   pub network : the_network d.network ≡ lowered (the_labelled labelled)
   pub well_formed : IsWellFormed (the_network d.network)
-  pub names : AreNamesOf d.names (the_network d.network)
+  pub names : AreDocumentNames d.names (the_network d.network)
 
 -- the document has these parts, without labels: this is their network, and these are the names of its time-points
 pub record IsPlainDocument (told : Result Parts Refusal) (network : NetworkParts) (names : List (List ℕ)) : Type 0 where
@@ -87,11 +87,11 @@ pub record IsPlainOf (bytes : List ℕ) (deadline : Option ℕ) (d : NamedNetwor
   pub is : IsPlainDocument (document bytes deadline) d.network d.names
   pub well_formed : IsWellFormed (the_network d.network)
   pub ids : All (λ c. c.id < 2 ^ 31) d.network.constraints
-  pub names : AreNamesOf d.names (the_network d.network)
+  pub names : AreDocumentNames d.names (the_network d.network)
 
 -- this is said of the file with these bytes, which is refused, where labels are taken and where they aren't
-abbrev pub IsRefusal : List ℕ → Option ℕ → SaidText → Type 0
-IsRefusal bytes deadline said = IsSaidOf bytes deadline (the_said said) × (said.outcome ≡ Document)
+abbrev pub IsDocumentRefusal : List ℕ → Option ℕ → SaidText → Type 0
+IsDocumentRefusal bytes deadline said = IsSaidOf bytes deadline (the_said said) × (said.outcome ≡ Document)
 
 abbrev pub IsPlainRefusal : List ℕ → Option ℕ → SaidText → Type 0
 IsPlainRefusal bytes deadline said = IsSaidPlainly bytes deadline (the_said said) × (said.outcome ≡ Document)
@@ -102,7 +102,7 @@ IsNetworkOf true = IsLoweredOf
 IsNetworkOf false = IsPlainOf
 
 abbrev pub IsNetworkRefusal : Bool → List ℕ → Option ℕ → SaidText → Type 0
-IsNetworkRefusal true = IsRefusal
+IsNetworkRefusal true = IsDocumentRefusal
 IsNetworkRefusal false = IsPlainRefusal
 
 -- the network of a labelled one was taken, since no time-point has a label
@@ -112,15 +112,15 @@ pub record IsTakenOf (l : LabelledParts) (names : List (List ℕ)) (d : NamedNet
   pub network : the_network d.network ≡ lowered (the_labelled l)
   pub well_formed : IsWellFormed (the_network d.network)
   pub same : d.names ≡ names
-  pub named : AreNamesOf d.names (the_network d.network)
+  pub named : AreDocumentNames d.names (the_network d.network)
 
 -- it is told that a time-point has a label
 abbrev pub TellsLabels : LabelledParts → SaidText → Type 0
 TellsLabels l said = (AreEmpty (the_labelled l).labels → ⊥) × (the_said said ≡ say Document (codes "document labels"))
 
 -- the bytes are this text, which isn't too long
-abbrev pub IsTextOf : List ℕ → List ℕ → Type 0
-IsTextOf text bytes = (bytes ≡ text) × (length bytes ≤ most_text)
+abbrev pub IsProofText : List ℕ → List ℕ → Type 0
+IsProofText text bytes = (bytes ≡ text) × (length bytes ≤ most_text)
 
 -- the bytes are a text that is too long, and that is said
 abbrev pub IsLongText : SaidText → List ℕ → Type 0

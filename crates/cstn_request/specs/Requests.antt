@@ -3,7 +3,7 @@ use Rattle.std.specs.Prelude.{ℕ, Bool, true, false, nat_le, nat_eq, ◌&&◌, 
 use Rattle.std.specs.Option.{option_map, option_and_then, unwrap_or}
 use Rattle.std.specs.Cmp.Lexicographic.{pointwise}
 use Rattle.cstn_net.specs.Limits.{most_deadline, most_load}
-use Rattle.cstn_text.specs.Numbers.{number_read}
+use Rattle.cstn_text.specs.Numbers.{number_read, number_within}
 use Rattle.cstn_request.specs.Limits.{usual_cap, most_host_cap, most_files}
 use Rattle.cstn_request.specs.declared.words.Release.{Release}
 use Rattle.cstn_request.specs.declared.words.NetworkVerb.{NetworkVerb}
@@ -16,11 +16,11 @@ use Rattle.cstn_request.specs.declared.words.DocumentVerb.{DocumentVerb}
 use Rattle.cstn_request.specs.declared.words.DocumentVerb.TheVariants.{Save, Sentences}
 
 -- the two texts are the same
-abbrev pub is_same : List ℕ → List ℕ → Bool
-is_same xs ys = pointwise nat_eq xs ys
+abbrev pub same_text : List ℕ → List ℕ → Bool
+same_text xs ys = pointwise nat_eq xs ys
 
 -- `FILE [--deadline N]`: the file of a document, and the deadline that is to hold, if one is named
-pub record Asked : Type 0 where
+pub record AskedFile : Type 0 where
   pub file : List ℕ
   pub deadline : Option ℕ
 
@@ -29,54 +29,54 @@ pub record Asked : Type 0 where
 -- a plan in sentences, by its file with the deadline that is to hold; or the number of a drill; or the files of a host, with the deadline
 -- that is to hold for each and how many entries the log of each may have; or what the program is.
 pub data Request : Type 0 where
-  of_network : NetworkVerb → Asked → ℕ → Request
-  of_labelled : LabelledVerb → Asked → ℕ → Request
-  of_text : TextVerb → Asked → List ℕ → Request
-  of_document : DocumentVerb → Asked → Request
-  of_plan : Asked → Request
+  of_network : NetworkVerb → AskedFile → ℕ → Request
+  of_labelled : LabelledVerb → AskedFile → ℕ → Request
+  of_text : TextVerb → AskedFile → List ℕ → Request
+  of_document : DocumentVerb → AskedFile → Request
+  of_plan : AskedFile → Request
   drill : ℕ → Request
   host : List (List ℕ) → Option ℕ → ℕ → Request
   version : Release → Request
 
 -- each verb, as a request
-abbrev pub check : Asked → ℕ → Request
+abbrev pub check : AskedFile → ℕ → Request
 check asked cap = of_network Check asked cap
 
-abbrev pub closed : Asked → ℕ → Request
+abbrev pub closed : AskedFile → ℕ → Request
 closed asked cap = of_network Closed asked cap
 
-abbrev pub tight : Asked → ℕ → Request
+abbrev pub tight : AskedFile → ℕ → Request
 tight asked cap = of_network Tight asked cap
 
-abbrev pub conflict : Asked → ℕ → Request
+abbrev pub conflict : AskedFile → ℕ → Request
 conflict asked cap = of_network Conflict asked cap
 
-abbrev pub tree : Asked → ℕ → Request
+abbrev pub tree : AskedFile → ℕ → Request
 tree asked cap = of_network Tree asked cap
 
-abbrev pub edit : Asked → ℕ → Request
+abbrev pub edit : AskedFile → ℕ → Request
 edit asked cap = of_network Edit asked cap
 
-abbrev pub follow : Asked → ℕ → Request
+abbrev pub follow : AskedFile → ℕ → Request
 follow asked cap = of_labelled Follow asked cap
 
-abbrev pub run : Asked → ℕ → Request
+abbrev pub run : AskedFile → ℕ → Request
 run asked cap = of_labelled Run asked cap
 
-abbrev pub replay : Asked → List ℕ → Request
+abbrev pub replay : AskedFile → List ℕ → Request
 replay asked proof = of_text Replay asked proof
 
-abbrev pub closedcheck : Asked → List ℕ → Request
+abbrev pub closedcheck : AskedFile → List ℕ → Request
 closedcheck asked proof = of_text Closedcheck asked proof
 
-abbrev pub treecheck : Asked → List ℕ → Request
+abbrev pub treecheck : AskedFile → List ℕ → Request
 treecheck asked proof = of_text Treecheck asked proof
 
-abbrev pub save : Asked → Request
+abbrev pub save : AskedFile → Request
 save asked = of_document Save asked
 
-abbrev pub sentences : Asked → Request
-sentences asked = of_document Sentences asked
+abbrev pub sentences_request : AskedFile → Request
+sentences_request asked = of_document Sentences asked
 
 -- the time-points of the network may have labels: it is then lowered
 abbrev pub network_labels : NetworkVerb → Bool
@@ -92,25 +92,21 @@ text_labels Replay = true
 text_labels Closedcheck = true
 text_labels Treecheck = false
 
--- a number from least to most
-abbrev pub number_within : ℕ → ℕ → List ℕ → Option ℕ
-number_within least most text = option_and_then (λ n. if nat_le least n && nat_le n most then Some n else None) (number_read text)
-
 -- the number of an option, if it is there, and the words after it
 pub record Taken : Type 0 where
   pub value : Option ℕ
   pub rest : List (List ℕ)
 
 -- the number from least to most that the words begin with, and the words after it
-abbrev pub value_at : ℕ → ℕ → List (List ℕ) → Option Taken
-value_at least most [] = None
-value_at least most (word ∷ rest) = option_map (λ n. record { value = Some n; rest = rest }) (number_within least most word)
+abbrev pub option_value : ℕ → ℕ → List (List ℕ) → Option Taken
+option_value least most [] = None
+option_value least most (word ∷ rest) = option_map (λ n. record { value = Some n; rest = rest }) (number_within least most word)
 
 -- the number of the option of this name, if the words begin with it, and the words after it
 abbrev pub option_at : List ℕ → ℕ → ℕ → List (List ℕ) → Option Taken
 option_at name least most [] = Some (record { value = None; rest = [] })
 option_at name least most (word ∷ rest) =
-    if is_same word name then value_at least most rest else Some (record { value = None; rest = word ∷ rest })
+    if same_text word name then option_value least most rest else Some (record { value = None; rest = word ∷ rest })
 
 -- `[--deadline N]`, with N up to 1,000,000
 abbrev pub deadline_at : List (List ℕ) → Option Taken
@@ -125,28 +121,28 @@ abbrev pub last_value : Taken → Option (Option ℕ)
 last_value taken = if nat_eq (length taken.rest) 0 then Some taken.value else None
 
 -- `[--deadline N]` and no more
-abbrev pub deadline_of : List (List ℕ) → Option (Option ℕ)
-deadline_of words = option_and_then last_value (deadline_at words)
+abbrev pub deadline_alone : List (List ℕ) → Option (Option ℕ)
+deadline_alone words = option_and_then last_value (deadline_at words)
 
 -- `[--cap CAP]` and no more; 65,536 where it isn't there
 abbrev pub cap_of : List (List ℕ) → Option ℕ
 cap_of words = option_map (λ cap. unwrap_or cap usual_cap) (option_and_then last_value (cap_at words))
 
 -- a file, and its deadline
-abbrev pub asked_of : List (List ℕ) → Option Asked
+abbrev pub asked_of : List (List ℕ) → Option AskedFile
 asked_of [] = None
-asked_of (file ∷ rest) = option_map (λ deadline. record { file = file; deadline = deadline }) (deadline_of rest)
+asked_of (file ∷ rest) = option_map (λ deadline. record { file = file; deadline = deadline }) (deadline_alone rest)
 
 -- a file with its deadline, and how many entries its log may have
-abbrev pub capped_of : List (List ℕ) → Option (Asked × ℕ)
+abbrev pub capped_of : List (List ℕ) → Option (AskedFile × ℕ)
 capped_of [] = None
 capped_of (file ∷ rest) =
     option_and_then (λ (taken : Taken). option_map (λ cap. (record { file = file; deadline = taken.value }, cap)) (cap_of taken.rest)) (deadline_at rest)
 
 -- a file with its deadline, and the file of the text that is to be checked against it
-abbrev pub checked_of : List (List ℕ) → Option (Asked × List ℕ)
+abbrev pub checked_of : List (List ℕ) → Option (AskedFile × List ℕ)
 checked_of (file ∷ proof ∷ rest) =
-    option_map (λ deadline. (record { file = file; deadline = deadline }, proof)) (deadline_of rest)
+    option_map (λ deadline. (record { file = file; deadline = deadline }, proof)) (deadline_alone rest)
 checked_of words = None
 
 -- the request of a drill by its number, which is below 2 ^ 64
@@ -170,29 +166,29 @@ version_of release [] = Some (version release)
 version_of release (word ∷ rest) = None
 
 -- the request of a command with this file and this many entries that a log may have
-abbrev pub capped_at : List ℕ → Asked × ℕ → Option Request
+abbrev pub capped_at : List ℕ → AskedFile × ℕ → Option Request
 capped_at command found =
-    if is_same command (codes "check") then Some (check found.0 found.1)
-    else if is_same command (codes "run") then Some (run found.0 found.1)
-    else if is_same command (codes "edit") then Some (edit found.0 found.1)
-    else if is_same command (codes "follow") then Some (follow found.0 found.1)
-    else if is_same command (codes "closed") then Some (closed found.0 found.1)
-    else if is_same command (codes "tight") then Some (tight found.0 found.1)
-    else if is_same command (codes "conflict") then Some (conflict found.0 found.1)
-    else if is_same command (codes "tree") then Some (tree found.0 found.1) else None
+    if same_text command (codes "check") then Some (check found.0 found.1)
+    else if same_text command (codes "run") then Some (run found.0 found.1)
+    else if same_text command (codes "edit") then Some (edit found.0 found.1)
+    else if same_text command (codes "follow") then Some (follow found.0 found.1)
+    else if same_text command (codes "closed") then Some (closed found.0 found.1)
+    else if same_text command (codes "tight") then Some (tight found.0 found.1)
+    else if same_text command (codes "conflict") then Some (conflict found.0 found.1)
+    else if same_text command (codes "tree") then Some (tree found.0 found.1) else None
 
 -- the request of a command with these words after it, to a program of this release
 abbrev pub request_at : Release → List ℕ → List (List ℕ) → Option Request
 request_at release command rest =
-    if is_same command (codes "save") then option_map save (asked_of rest)
-    else if is_same command (codes "sentences") then option_map sentences (asked_of rest)
-    else if is_same command (codes "plan") then option_map of_plan (asked_of rest)
-    else if is_same command (codes "replay") then option_map (λ found. replay found.0 found.1) (checked_of rest)
-    else if is_same command (codes "closedcheck") then option_map (λ found. closedcheck found.0 found.1) (checked_of rest)
-    else if is_same command (codes "treecheck") then option_map (λ found. treecheck found.0 found.1) (checked_of rest)
-    else if is_same command (codes "drill") then drill_of rest
-    else if is_same command (codes "host") then host_of rest
-    else if is_same command (codes "--version") then version_of release rest
+    if same_text command (codes "save") then option_map save (asked_of rest)
+    else if same_text command (codes "sentences") then option_map sentences_request (asked_of rest)
+    else if same_text command (codes "plan") then option_map of_plan (asked_of rest)
+    else if same_text command (codes "replay") then option_map (λ found. replay found.0 found.1) (checked_of rest)
+    else if same_text command (codes "closedcheck") then option_map (λ found. closedcheck found.0 found.1) (checked_of rest)
+    else if same_text command (codes "treecheck") then option_map (λ found. treecheck found.0 found.1) (checked_of rest)
+    else if same_text command (codes "drill") then drill_of rest
+    else if same_text command (codes "host") then host_of rest
+    else if same_text command (codes "--version") then version_of release rest
     else option_and_then (capped_at command) (capped_of rest)
 
 -- the request that the words are to a program of this release; none where they are no request

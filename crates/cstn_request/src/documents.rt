@@ -7,9 +7,9 @@ ghost use Rattle.cstn_io.specs.Causes.{Rose};
 ghost use Rattle.cstn_reply.specs.declared.output.Said.{Said as SaidText};
 ghost use Rattle.cstn_reply.specs.Read.{the_said};
 ghost use Rattle.cstn_reply.specs.Texts.{say};
-ghost use Rattle.cstn_request.specs.Read.{the_asked};
-ghost use Rattle.cstn_request.specs.Asked.{AsksOnce};
-ghost use Rattle.cstn_request.specs.Opened.{IsAsked, IsLabelledOf, IsLoweredOf, IsPlainOf, IsNetworkOf, IsRefusal, IsPlainRefusal, IsNetworkRefusal, IsTakenOf, TellsLabels};
+ghost use Rattle.cstn_request.specs.Read.{the_asked_file};
+ghost use Rattle.cstn_request.specs.Asked.{AsksFileOnce};
+ghost use Rattle.cstn_request.specs.Opened.{HasAskedFile, IsLabelledOf, IsLoweredOf, IsPlainOf, IsNetworkOf, IsDocumentRefusal, IsPlainRefusal, IsNetworkRefusal, IsTakenOf, TellsLabels};
 
 use crate::refusals::refuse;
 use crate::{Asked, NamedLabelled, NamedNetwork, Unread};
@@ -30,10 +30,10 @@ pub fn open<F: Shelf>(
     shelf: &mut F,
 ) -> Result<NamedNetwork, Unread>
     requires may_ask { IsTrue (F.may_ask shelf.old asked.file.now) }
-    ensures opened { IfOk result (λ d. IsAsked (F.files shelf.old) (the_asked asked.entry) (λ bytes deadline. IsPlainOf bytes deadline d)) }
+    ensures opened { IfOk result (λ d. HasAskedFile (F.files shelf.old) (the_asked_file asked.entry) (λ bytes deadline. IsPlainOf bytes deadline d)) }
     ensures refused { (said : SaidText) → result ≡ Err (Unread.Told said)
-        → IsAsked (F.files shelf.old) (the_asked asked.entry) (λ bytes deadline. IsPlainRefusal bytes deadline said) }
-    ensures once { AsksOnce asked.entry.file.now (F.asked shelf.old) (F.asked shelf.new) result }
+        → HasAskedFile (F.files shelf.old) (the_asked_file asked.entry) (λ bytes deadline. IsPlainRefusal bytes deadline said) }
+    ensures once { AsksFileOnce asked.entry.file.now (F.asked shelf.old) (F.asked shelf.new) result }
     ensures names { F.may_ask shelf.new ≡ F.may_ask shelf.old }
     ensures files { F.files shelf.new ≡ F.files shelf.old }
     ensures later { F.faults shelf.old ≤ F.faults shelf.new }
@@ -51,10 +51,10 @@ pub fn open_lowered<F: Shelf>(
     shelf: &mut F,
 ) -> Result<NamedNetwork, Unread>
     requires may_ask { IsTrue (F.may_ask shelf.old asked.file.now) }
-    ensures opened { IfOk result (λ d. IsAsked (F.files shelf.old) (the_asked asked.entry) (λ bytes deadline. IsLoweredOf bytes deadline d)) }
+    ensures opened { IfOk result (λ d. HasAskedFile (F.files shelf.old) (the_asked_file asked.entry) (λ bytes deadline. IsLoweredOf bytes deadline d)) }
     ensures refused { (said : SaidText) → result ≡ Err (Unread.Told said)
-        → IsAsked (F.files shelf.old) (the_asked asked.entry) (λ bytes deadline. IsRefusal bytes deadline said) }
-    ensures once { AsksOnce asked.entry.file.now (F.asked shelf.old) (F.asked shelf.new) result }
+        → HasAskedFile (F.files shelf.old) (the_asked_file asked.entry) (λ bytes deadline. IsDocumentRefusal bytes deadline said) }
+    ensures once { AsksFileOnce asked.entry.file.now (F.asked shelf.old) (F.asked shelf.new) result }
     ensures names { F.may_ask shelf.new ≡ F.may_ask shelf.old }
     ensures files { F.files shelf.new ≡ F.files shelf.old }
     ensures later { F.faults shelf.old ≤ F.faults shelf.new }
@@ -77,10 +77,10 @@ pub fn open_network<F: Shelf>(
     shelf: &mut F,
 ) -> Result<NamedNetwork, Unread>
     requires may_ask { IsTrue (F.may_ask shelf.old asked.file.now) }
-    ensures opened { IfOk result (λ d. IsAsked (F.files shelf.old) (the_asked asked.entry) (λ bytes deadline. IsNetworkOf takes_labels bytes deadline d)) }
+    ensures opened { IfOk result (λ d. HasAskedFile (F.files shelf.old) (the_asked_file asked.entry) (λ bytes deadline. IsNetworkOf takes_labels bytes deadline d)) }
     ensures refused { (said : SaidText) → result ≡ Err (Unread.Told said)
-        → IsAsked (F.files shelf.old) (the_asked asked.entry) (λ bytes deadline. IsNetworkRefusal takes_labels bytes deadline said) }
-    ensures once { AsksOnce asked.entry.file.now (F.asked shelf.old) (F.asked shelf.new) result }
+        → HasAskedFile (F.files shelf.old) (the_asked_file asked.entry) (λ bytes deadline. IsNetworkRefusal takes_labels bytes deadline said) }
+    ensures once { AsksFileOnce asked.entry.file.now (F.asked shelf.old) (F.asked shelf.new) result }
     ensures names { F.may_ask shelf.new ≡ F.may_ask shelf.old }
     ensures files { F.files shelf.new ≡ F.files shelf.old }
     ensures later { F.faults shelf.old ≤ F.faults shelf.new }
@@ -100,10 +100,10 @@ pub fn open_labelled<F: Shelf>(
     shelf: &mut F,
 ) -> Result<NamedLabelled, Unread>
     requires may_ask { IsTrue (F.may_ask shelf.old asked.file.now) }
-    ensures opened { IfOk result (λ d. IsAsked (F.files shelf.old) (the_asked asked.entry) (λ bytes deadline. IsLabelledOf bytes deadline d)) }
+    ensures opened { IfOk result (λ d. HasAskedFile (F.files shelf.old) (the_asked_file asked.entry) (λ bytes deadline. IsLabelledOf bytes deadline d)) }
     ensures refused { (said : SaidText) → result ≡ Err (Unread.Told said)
-        → IsAsked (F.files shelf.old) (the_asked asked.entry) (λ bytes deadline. IsRefusal bytes deadline said) }
-    ensures once { AsksOnce asked.entry.file.now (F.asked shelf.old) (F.asked shelf.new) result }
+        → HasAskedFile (F.files shelf.old) (the_asked_file asked.entry) (λ bytes deadline. IsDocumentRefusal bytes deadline said) }
+    ensures once { AsksFileOnce asked.entry.file.now (F.asked shelf.old) (F.asked shelf.new) result }
     ensures names { F.may_ask shelf.new ≡ F.may_ask shelf.old }
     ensures files { F.files shelf.new ≡ F.files shelf.old }
     ensures later { F.faults shelf.old ≤ F.faults shelf.new }
@@ -124,7 +124,7 @@ pub fn open_labelled<F: Shelf>(
 fn open_bytes(alloc: Global, bytes: &[u8], deadline: Option<u32>) -> Result<NamedLabelled, Unread>
     requires few { length bytes.now ≤ MAX_DOCUMENT }
     ensures opened { IfOk result (IsLabelledOf bytes.now deadline) }
-    ensures refused { (said : SaidText) → result ≡ Err (Unread.Told said) → IsRefusal bytes.now deadline said }
+    ensures refused { (said : SaidText) → result ≡ Err (Unread.Told said) → IsDocumentRefusal bytes.now deadline said }
     ensures fault { IsErrOf result Unread.ReadFault → ⊥ }
 {
     match read(alloc, bytes, deadline) {

@@ -5,6 +5,7 @@ mod documents;
 mod files;
 mod reading;
 mod refusals;
+mod several;
 mod texts;
 mod words;
 
@@ -12,6 +13,7 @@ pub use documents::{open, open_labelled, open_lowered, open_network};
 pub use files::HostFiles;
 pub use reading::{NamedLabelled, NamedNetwork, Unread};
 pub use refusals::{label_fault, network_fault, refusal};
+pub use several::open_all;
 pub use texts::{read_sentences, read_text};
 pub use words::{
     Asked, DocumentVerb, LabelledVerb, NetworkVerb, Release, Request, TextVerb, parse,

@@ -4,8 +4,8 @@ ghost use Rattle.cstn_io.specs.Causes.{Rose};
 ghost use Rattle.cstn_reply.specs.declared.output.Said.{Said as SaidText};
 ghost use Rattle.cstn_reply.specs.Read.{the_said};
 ghost use Rattle.cstn_reply.specs.Texts.{say};
-ghost use Rattle.cstn_request.specs.Opened.{IsFile, IsTextOf, IsLongText, IsSentencesOf, IsLongPlan};
-ghost use Rattle.cstn_request.specs.Asked.{AsksOnce};
+ghost use Rattle.cstn_request.specs.Opened.{HasFile, IsProofText, IsLongText, IsSentencesOf, IsLongPlan};
+ghost use Rattle.cstn_request.specs.Asked.{AsksFileOnce};
 
 use crate::Unread;
 use crate::refusals::refusal;
@@ -21,9 +21,9 @@ const MAX_PLAN: usize = 8_388_608;
 /// memory.
 pub fn read_text<F: Shelf>(alloc: Global, file: &str, shelf: &mut F) -> Result<Vec<u8>, Unread>
     requires may_ask { IsTrue (F.may_ask shelf.old file.now) }
-    ensures text { IfOk result (λ text. IsFile (F.files shelf.old) file.now (IsTextOf text.items)) }
-    ensures refused { (said : SaidText) → result ≡ Err (Unread.Told said) → IsFile (F.files shelf.old) file.now (IsLongText said) }
-    ensures once { AsksOnce file.now (F.asked shelf.old) (F.asked shelf.new) result }
+    ensures text { IfOk result (λ text. HasFile (F.files shelf.old) file.now (IsProofText text.items)) }
+    ensures refused { (said : SaidText) → result ≡ Err (Unread.Told said) → HasFile (F.files shelf.old) file.now (IsLongText said) }
+    ensures once { AsksFileOnce file.now (F.asked shelf.old) (F.asked shelf.new) result }
     ensures names { F.may_ask shelf.new ≡ F.may_ask shelf.old }
     ensures files { F.files shelf.new ≡ F.files shelf.old }
     ensures later { F.faults shelf.old ≤ F.faults shelf.new }
@@ -55,9 +55,9 @@ fn too_long(alloc: Global) -> Result<Said, AllocError>
 /// memory.
 pub fn read_sentences<F: Shelf>(alloc: Global, file: &str, shelf: &mut F) -> Result<Vec<u8>, Unread>
     requires may_ask { IsTrue (F.may_ask shelf.old file.now) }
-    ensures text { IfOk result (λ text. IsFile (F.files shelf.old) file.now (IsSentencesOf text.items)) }
-    ensures refused { (said : SaidText) → result ≡ Err (Unread.Told said) → IsFile (F.files shelf.old) file.now (IsLongPlan said) }
-    ensures once { AsksOnce file.now (F.asked shelf.old) (F.asked shelf.new) result }
+    ensures text { IfOk result (λ text. HasFile (F.files shelf.old) file.now (IsSentencesOf text.items)) }
+    ensures refused { (said : SaidText) → result ≡ Err (Unread.Told said) → HasFile (F.files shelf.old) file.now (IsLongPlan said) }
+    ensures once { AsksFileOnce file.now (F.asked shelf.old) (F.asked shelf.new) result }
     ensures names { F.may_ask shelf.new ≡ F.may_ask shelf.old }
     ensures files { F.files shelf.new ≡ F.files shelf.old }
     ensures later { F.faults shelf.old ≤ F.faults shelf.new }

@@ -2,12 +2,13 @@
 ghost use Rattle.std.specs.Prelude.{◌≡◌, ◌≤◌, IfSome, map, string_bytes};
 ghost use Rattle.std.specs.Option.{option_map, option_and_then, unwrap_or};
 ghost use Rattle.cstn_net.specs.Limits.{most_load};
-ghost use Rattle.cstn_request.specs.Requests.{number_within, value_at, option_at, deadline_at, cap_at, deadline_of, cap_of};
+ghost use Rattle.cstn_text.specs.Numbers.{number_within};
+ghost use Rattle.cstn_request.specs.Requests.{option_value, option_at, deadline_at, cap_at, deadline_alone, cap_of};
 ghost use Rattle.cstn_request.specs.Requests.{asked_of, capped_of, capped_at, checked_of, drill_of, request_at};
 ghost use Rattle.cstn_request.specs.Requests.{of_network, of_labelled, of_text, of_document, of_plan, network_labels, text_labels};
 ghost use Rattle.cstn_request.specs.Requests.{hosted_of, host_of, version_of};
 ghost use Rattle.cstn_request.specs.Limits.{usual_cap};
-ghost use Rattle.cstn_request.specs.Read.{the_asked, the_capped, the_taken, the_request, request_in};
+ghost use Rattle.cstn_request.specs.Read.{the_asked_file, the_capped, the_taken, the_request, request_in};
 
 use crate::HostFiles;
 use cstn_log::Cap;
@@ -191,7 +192,7 @@ fn capped_request<'a>(command: &str, words: &'a [String]) -> Option<Request<'a>>
 
 // The request of a command with this file and cap; none where the command takes no cap.
 fn capped_at<'a>(command: &str, asked: Asked<'a>, cap: Cap) -> Option<Request<'a>>
-    ensures request { option_map the_request result ≡ capped_at command.now (the_asked asked.entry, cap.entries) }
+    ensures request { option_map the_request result ≡ capped_at command.now (the_asked_file asked.entry, cap.entries) }
 {
     match command {
         "check" => Some(on_network(NetworkVerb::Check, asked, cap)),
@@ -207,25 +208,25 @@ fn capped_at<'a>(command: &str, asked: Asked<'a>, cap: Cap) -> Option<Request<'a
 }
 
 fn on_network<'a>(verb: NetworkVerb, asked: Asked<'a>, cap: Cap) -> Request<'a>
-    ensures request { the_request result ≡ of_network verb (the_asked asked.entry) cap.entries }
+    ensures request { the_request result ≡ of_network verb (the_asked_file asked.entry) cap.entries }
 {
     Request::OfNetwork { verb, asked, cap }
 }
 
 fn on_labelled<'a>(verb: LabelledVerb, asked: Asked<'a>, cap: Cap) -> Request<'a>
-    ensures request { the_request result ≡ of_labelled verb (the_asked asked.entry) cap.entries }
+    ensures request { the_request result ≡ of_labelled verb (the_asked_file asked.entry) cap.entries }
 {
     Request::OfLabelled { verb, asked, cap }
 }
 
 // A file with its deadline, and the file of the text that is to be checked against it.
 fn checked_of(words: &[String]) -> Option<(Asked<'_>, &str)>
-    ensures checked { option_map (λ found. (the_asked found.0, found.1.now)) result ≡ checked_of (map string_bytes words.now) }
+    ensures checked { option_map (λ found. (the_asked_file found.0, found.1.now)) result ≡ checked_of (map string_bytes words.now) }
 {
     let [file, proof, rest @ ..] = words else {
         return None;
     };
-    let deadline = deadline_of(rest)?;
+    let deadline = deadline_alone(rest)?;
     let asked = Asked {
         file: file.as_str(),
         deadline,
@@ -279,12 +280,12 @@ fn version_of(release: Release, words: &[String]) -> Option<Request<'_>>
 }
 
 fn asked_of(words: &[String]) -> Option<Asked<'_>>
-    ensures asked { option_map the_asked result ≡ asked_of (map string_bytes words.now) }
+    ensures asked { option_map the_asked_file result ≡ asked_of (map string_bytes words.now) }
 {
     let [file, rest @ ..] = words else {
         return None;
     };
-    let deadline = deadline_of(rest)?;
+    let deadline = deadline_alone(rest)?;
     Some(Asked {
         file: file.as_str(),
         deadline,
@@ -308,8 +309,8 @@ fn capped_of(words: &[String]) -> Option<(Asked<'_>, Cap)>
 }
 
 // The deadline of words that are `[--deadline N]` and no more: `Some(None)` where it isn't there, none for other words.
-fn deadline_of(words: &[String]) -> Option<Option<u32>>
-    ensures deadline { result ≡ deadline_of (map string_bytes words.now) }
+fn deadline_alone(words: &[String]) -> Option<Option<u32>>
+    ensures deadline { result ≡ deadline_alone (map string_bytes words.now) }
 {
     let (deadline, rest) = deadline_at(words)?;
     if !rest.is_empty() {
@@ -371,12 +372,12 @@ fn option_at<'a>(words: &'a [String], name: &str, least: u64, most: u64) -> Opti
             rest: words,
         });
     }
-    value_at(rest, least, most)
+    option_value(rest, least, most)
 }
 
 // The number from `least` to `most` that the words begin with, and the words after it; none where they begin otherwise.
-fn value_at(words: &[String], least: u64, most: u64) -> Option<Taken<'_>>
-    ensures taken { option_map the_taken result ≡ value_at least most (map string_bytes words.now) }
+fn option_value(words: &[String], least: u64, most: u64) -> Option<Taken<'_>>
+    ensures taken { option_map the_taken result ≡ option_value least most (map string_bytes words.now) }
     ensures least { IfSome result (λ taken. IfSome taken.value (λ n. least ≤ n)) }
     ensures most { IfSome result (λ taken. IfSome taken.value (λ n. n ≤ most)) }
 {

@@ -13,13 +13,13 @@ use Rattle.cstn_graphml.specs.DrawnGraph.{Observation}
 use Rattle.cstn_graphml.specs.Document.{or_nothing}
 use Rattle.cstn_save.specs.Names.{AreNamesOf}
 use Rattle.cstn_save.specs.Canonical.{observed_by, timed_observations}
-use Rattle.cstn_sentences.specs.Results.{◌>>=◌, demand}
-use Rattle.cstn_sentences.specs.Refusals.{Refusal, stands_twice}
+use Rattle.cstn_sentences.specs.Results.{◌>>?◌, holds_or}
+use Rattle.cstn_sentences.specs.Refusals.{PlanRefusal, stands_twice}
 use Rattle.cstn_sentences.specs.declared.declarations.Meant.{Meant}
 use Rattle.cstn_sentences.specs.Lines.{step}
-use Rattle.cstn_sentences.specs.Declarations.{Declared, nothing_declared, is_origin, is_declared, observation_of, with_observed, are_new, with_point, with_step, words_with, declare_step}
+use Rattle.cstn_sentences.specs.Declarations.{Declared, nothing_declared, is_origin, is_declared, step_observation, with_observed, are_new_literals, with_point, with_step, words_with, declare_step}
 use Rattle.cstn_sentences.specs.Printed.{step_words}
-use Rattle.cstn_sentences.specs.Sentences.{ticks, literals, observed_of, observed_at, step_of, has_step, steps_below}
+use Rattle.cstn_sentences.specs.Sentences.{ticks, literals_of_label, observed_of, step_observed, step_of, has_step, steps_below}
 use Rattle.cstn_restated.proofs.LabelsBack.{all_new}
 use Rattle.cstn_restated.proofs.NamesBack.{take_next, origin_is, no_origin, new_name}
 use Rattle.cstn_restated.proofs.LinesBack.{texts, texts_more, Declares, declares_none, declares_line, declares_both}
@@ -33,30 +33,31 @@ with_words n reaction (Some p) words = refl
 
 words_kept : (n : ℕ) (m : Labelled) (names : List (List ℕ)) (x : ℕ) (words : List Meant) → words_with n (step_of m names x) words ≡ Ok words
 words_kept n m names x words =
-    ap (λ (r : Result (List Meant) Refusal). r >>= λ more. are_new n [] (literals (label_in m.labels x)) >>= λ same. Ok more)
+    ap (λ (r : Result (List Meant) PlanRefusal). r >>? λ more. are_new_literals n [] (literals_of_label (label_in m.labels x)) >>? λ same. Ok more)
     (with_words n m.base.reaction (slice_index_or m.base.observes x None) words)
-    ∙ ap (λ (r : Result (Unit {0}) Refusal). r >>= λ same. Ok words) (all_new n (label_in m.labels x))
+    ∙ ap (λ (r : Result (Unit {0}) PlanRefusal). r >>? λ same. Ok words) (all_new n (label_in m.labels x))
 
 step_declared : (n : ℕ) (m : Labelled) (names : List (List ℕ)) (x : ℕ) (d : Declared) → is_declared (slice_index_or names x []) d ≡ false
-    → declare_step n (step_of m names x) d ≡ Ok (with_step (slice_index_or names x []) (observation_of (observed_at m.base x)) d)
+    → declare_step n (step_of m names x) d ≡ Ok (with_step (slice_index_or names x []) (step_observation (step_observed m.base x)) d)
 step_declared n m names x d new =
     let name : List ℕ = slice_index_or names x [] in
-    let observed : Option Observation = observation_of (observed_at m.base x) in
-    ap (λ (b : Bool). demand (not b) (stands_twice n name) >>= λ once. words_with n (step_of m names x) d.words
-    >>= λ words. Ok (with_step name observed (record d { words = words }))) new
-    ∙ ap (λ (r : Result (List Meant) Refusal). r >>= λ words. Ok (with_step name observed (record d { words = words }))) (words_kept n m names x d.words)
+    let observed : Option Observation = step_observation (step_observed m.base x) in
+    ap (λ (b : Bool). holds_or (not b) (stands_twice n name) >>? λ once. words_with n (step_of m names x) d.words
+    >>? λ words. Ok (with_step name observed (record d { words = words }))) new
+    ∙ ap (λ (r : Result (List Meant) PlanRefusal). r >>? λ words. Ok (with_step name observed (record d { words = words }))) (words_kept n m names x d.words)
 
 -- ---- what is observed
 
 back_by : (net : Network) (x : ℕ) (o : Option ℕ) → IsWellFormed net → slice_index_or net.observes x None ≡ o
-    → observation_of (option_map (observed_of net.reaction) o) ≡ observed_by net.reaction o
+    → step_observation (option_map (observed_of net.reaction) o) ≡ observed_by net.reaction o
 back_by net x None well e = refl
 back_by net x (Some p) well e =
     ap (option_map (λ (q : ℕ). let o : Observation = record { prop = q; reaction = net.reaction p } in o))
     (letter_back p (well.letters x p (record { what = e })))
 
 -- what a step says of what its time-point observes
-observed_back : (net : Network) (x : ℕ) → IsWellFormed net → x < count net → observation_of (observed_at net x) ≡ slice_index_or (timed_observations net) x None
+observed_back : (net : Network) (x : ℕ) → IsWellFormed net → x < count net
+    → step_observation (step_observed net x) ≡ slice_index_or (timed_observations net) x None
 observed_back net x well inside =
     back_by net x (slice_index_or net.observes x None) well refl ∙ sym (get_or-map (observed_by net.reaction) net.observes x None None inside)
 
@@ -89,7 +90,7 @@ pub first_named : (m : Labelled) (names : List (List ℕ)) → AreNamesOf m.base
 first_named m names is = get_or_from_slice_get names 0 (codes "Z") [] is.origin
 
 first_shape : (m : Labelled) (names : List (List ℕ)) (seen : Option (Option Observation)) → IsWellFormed m.base → AreNamesOf m.base names
-    → or_nothing seen ≡ observation_of (observed_at m.base 0)
+    → or_nothing seen ≡ step_observation (step_observed m.base 0)
     → IsDeclared names (timed_observations m.base) m.base.deadline 0 (record (begun m.base.deadline) { origin = seen })
 first_shape m names seen well is same =
     let net : Network = m.base in
@@ -115,7 +116,7 @@ origin_declared m names None e well is =
     }
 origin_declared m names (Some p) e well is =
     let d : Declared = begun m.base.deadline in
-    let observed : Option Observation = observation_of (observed_at m.base 0) in
+    let observed : Option Observation = step_observation (step_observed m.base 0) in
     let name : List ℕ = slice_index_or names 0 [] in
     let origin : is_origin name ≡ true = origin_is names (first_named m names is) in
     let more : Declared = record d { origin = Some observed } in
@@ -143,7 +144,7 @@ later_declared m names n well is inside so =
     let net : Network = m.base in
     let d : Declared = so.all in
     let name : List ℕ = slice_index_or names (suc n) [] in
-    let observed : Option Observation = observation_of (observed_at net (suc n)) in
+    let observed : Option Observation = step_observation (step_observed net (suc n)) in
     let inside_both = sized m names (suc n) is inside in
     let other : is_origin name ≡ false = no_origin names n is.named (first_named m names is) inside_both.0 in
     let unknown : number_of d.names name ≡ None =

@@ -16,9 +16,9 @@ use Rattle.cstn_label.proofs.LabelLemmas.{within_same}
 use Rattle.cstn_text.proofs.PrintedLabelLemmas.{below, below_none, below_more, below_absent, below_here, below_all}
 use Rattle.cstn_sentences.specs.declared.lines.Literal.{Literal}
 use Rattle.cstn_sentences.specs.declared.declarations.Meant.{Meant}
-use Rattle.cstn_sentences.specs.Declarations.{Declared, are_new}
-use Rattle.cstn_sentences.specs.Meaning.{prop_in, label_with, label_of}
-use Rattle.cstn_sentences.specs.Sentences.{literal, literals_below, literals, is_same_label}
+use Rattle.cstn_sentences.specs.Declarations.{Declared, are_new_literals}
+use Rattle.cstn_sentences.specs.Meaning.{prop_in, label_meant_after, label_meant}
+use Rattle.cstn_sentences.specs.Sentences.{literal_of_mark, literals_below, literals_of_label, is_same_label}
 use Rattle.cstn_sentences.proofs.LabelTests.{true_within}
 use Rattle.cstn_sentences.proofs.WrittenSteps.{is_letter_of}
 
@@ -31,7 +31,7 @@ has_letter n ls = list_any (λ s. bytes_eq s.prop (letter_of n ∷ [])) ls
 other_letter : (p n : ℕ) → p < n → n < 52 → bytes_eq (letter_of p ∷ []) (letter_of n ∷ []) ≡ false
 other_letter p n before small = grind arith
 
-literal_other : (p n : ℕ) (m : Mark) → p < n → n < 52 → has_letter n (literal (letter_of p) m) ≡ false
+literal_other : (p n : ℕ) (m : Mark) → p < n → n < 52 → has_letter n (literal_of_mark (letter_of p) m) ≡ false
 literal_other p n Absent before small = refl
 literal_other p n Yes before small = rw (other_letter p n before small) refl
 literal_other p n No before small = rw (other_letter p n before small) refl
@@ -45,27 +45,28 @@ below_other : (a : Label) (k n : ℕ) → k ≤ n → n < 52 → has_letter n (l
 unfolding literals_below
 below_other a zero n before small = refl
 below_other a (suc k) n before small =
-    list_any-append (λ s. bytes_eq s.prop (letter_of n ∷ [])) (literals_below a k) (literal (letter_of k) (a k))
-    ∙ neither (has_letter n (literals_below a k)) (has_letter n (literal (letter_of k) (a k))) (below_other a k n (omega arith) small)
+    list_any-append (λ s. bytes_eq s.prop (letter_of n ∷ [])) (literals_below a k) (literal_of_mark (letter_of k) (a k))
+    ∙ neither (has_letter n (literals_below a k)) (has_letter n (literal_of_mark (letter_of k) (a k))) (below_other a k n (omega arith) small)
     (literal_other k n (a k) (omega arith) small)
 
 literal_new : (line : ℕ) (a : Label) (n : ℕ) (m : Mark) (rest : List Literal) → n < 52
-    → are_new line (literals_below a n) (literal (letter_of n) m ++ rest) ≡ are_new line (literals_below a n ++ literal (letter_of n) m) rest
-literal_new line a n Absent rest small = ap (λ (seen : List Literal). are_new line seen rest) (sym (append-nil (literals_below a n)))
+    → are_new_literals line (literals_below a n) (literal_of_mark (letter_of n) m ++ rest)
+    ≡ are_new_literals line (literals_below a n ++ literal_of_mark (letter_of n) m) rest
+literal_new line a n Absent rest small = ap (λ (seen : List Literal). are_new_literals line seen rest) (sym (append-nil (literals_below a n)))
 literal_new line a n Yes rest small = rw (below_other a n n (omega arith) small) refl
 literal_new line a n No rest small = rw (below_other a n n (omega arith) small) refl
-literal_new line a n Unknown rest small = ap (λ (seen : List Literal). are_new line seen rest) (sym (append-nil (literals_below a n)))
+literal_new line a n Unknown rest small = ap (λ (seen : List Literal). are_new_literals line seen rest) (sym (append-nil (literals_below a n)))
 
 literals_new : (line : ℕ) (a : Label) (n : ℕ) (rest : List Literal) → n ≤ 52
-    → are_new line [] (literals_below a n ++ rest) ≡ are_new line (literals_below a n) rest
+    → are_new_literals line [] (literals_below a n ++ rest) ≡ are_new_literals line (literals_below a n) rest
 unfolding literals_below
 literals_new line a zero rest few = refl
 literals_new line a (suc n) rest few =
-    rw append_assoc (literals_new line a n (literal (letter_of n) (a n) ++ rest) (omega arith) ∙ literal_new line a n (a n) rest (omega arith))
+    rw append_assoc (literals_new line a n (literal_of_mark (letter_of n) (a n) ++ rest) (omega arith) ∙ literal_new line a n (a n) rest (omega arith))
 
 -- no proposition stands twice in the literals of a label
-pub all_new : (line : ℕ) (a : Label) → are_new line [] (literals a) ≡ Ok tt
-all_new line a = ap (are_new line []) (sym (append-nil (literals a))) ∙ literals_new line a 52 [] (omega arith)
+pub all_new : (line : ℕ) (a : Label) → are_new_literals line [] (literals_of_label a) ≡ Ok tt
+all_new line a = ap (are_new_literals line []) (sym (append-nil (literals_of_label a))) ∙ literals_new line a 52 [] (omega arith)
 
 -- ---- what they mean
 
@@ -74,20 +75,20 @@ pub prop_back : (line : ℕ) (words : List Meant) (p : ℕ) → p < 52 → prop_
 prop_back line words p small = rw (is_letter_of p small, letter_back p small) refl
 
 literal_meant : (line : ℕ) (words : List Meant) (a : Label) (n : ℕ) (m : Mark) (rest : List Literal) → n < 52 → a n ≡ m → IsMarkPlain m
-    → label_with line words (below a n) (literal (letter_of n) m ++ rest) ≡ label_with line words (below a (suc n)) rest
-literal_meant line words a n Absent rest small is plain = ap (λ (b : Label). label_with line words b rest) (below_absent a n is)
+    → label_meant_after line words (below a n) (literal_of_mark (letter_of n) m ++ rest) ≡ label_meant_after line words (below a (suc n)) rest
+literal_meant line words a n Absent rest small is plain = ap (λ (b : Label). label_meant_after line words b rest) (below_absent a n is)
 literal_meant line words a n Yes rest small is plain =
-    rw (prop_back line words n small, below_here n (a n)) (ap (λ (b : Label). label_with line words b rest) ((rw is at (below_more a n))))
+    rw (prop_back line words n small, below_here n (a n)) (ap (λ (b : Label). label_meant_after line words b rest) ((rw is at (below_more a n))))
 literal_meant line words a n No rest small is plain =
-    rw (prop_back line words n small, below_here n (a n)) (ap (λ (b : Label). label_with line words b rest) ((rw is at (below_more a n))))
+    rw (prop_back line words n small, below_here n (a n)) (ap (λ (b : Label). label_meant_after line words b rest) ((rw is at (below_more a n))))
 literal_meant line words a n Unknown rest small is plain = absurd plain
 
 literals_meant : (line : ℕ) (words : List Meant) (a : Label) (n : ℕ) (rest : List Literal) → n ≤ 52 → IsPlain a
-    → label_with line words empty (literals_below a n ++ rest) ≡ label_with line words (below a n) rest
+    → label_meant_after line words empty (literals_below a n ++ rest) ≡ label_meant_after line words (below a n) rest
 unfolding literals_below
-literals_meant line words a zero rest few plain = ap (λ (b : Label). label_with line words b rest) (sym (below_none a))
+literals_meant line words a zero rest few plain = ap (λ (b : Label). label_meant_after line words b rest) (sym (below_none a))
 literals_meant line words a (suc n) rest few plain =
-    rw append_assoc (literals_meant line words a n (literal (letter_of n) (a n) ++ rest) (omega arith) plain
+    rw append_assoc (literals_meant line words a n (literal_of_mark (letter_of n) (a n) ++ rest) (omega arith) plain
     ∙ literal_meant line words a n (a n) rest (omega arith) refl (plain n))
 
 -- a plain label of the 52 letters
@@ -96,9 +97,9 @@ pub record IsWritable (a : Label) : Type 0 where
   pub letters : IsOnLetters a
 
 -- the literals of a label mean that label
-pub label_back : (line : ℕ) (d : Declared) (a : Label) → IsWritable a → label_of line d (literals a) ≡ Ok a
+pub label_back : (line : ℕ) (d : Declared) (a : Label) → IsWritable a → label_meant line d (literals_of_label a) ≡ Ok a
 label_back line d a is =
-    ap (label_with line d.words empty) (sym (append-nil (literals a)))
+    ap (label_meant_after line d.words empty) (sym (append-nil (literals_of_label a)))
     ∙ literals_meant line d.words a 52 [] (omega arith) is.plain
     ∙ ap (λ (b : Label). Ok b) (below_all a is.letters)
 

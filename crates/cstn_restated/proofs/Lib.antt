@@ -8,3 +8,5 @@ mod RuleForms
 mod RulesBack
 mod ThereAndBack
 mod PartsBack
+-- Worked rows.
+mod WorkedPlans

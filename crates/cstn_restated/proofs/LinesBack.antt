@@ -3,13 +3,13 @@ use Rattle.std.proofs.Common.{◌≡◌, ℕ, ◌+◌, List, [], ◌∷◌, ◌+
 use Rattle.std.specs.Prelude.{Result, Ok}
 use Rattle.std.proofs.lemmas.List.{map-append}
 use Rattle.std.proofs.lemmas.List.Elements.{All-nil}
-use Rattle.cstn_sentences.specs.Results.{◌>>=◌}
-use Rattle.cstn_sentences.specs.Refusals.{Refusal}
-use Rattle.cstn_sentences.specs.Lines.{Line, nothing}
+use Rattle.cstn_sentences.specs.Results.{◌>>?◌}
+use Rattle.cstn_sentences.specs.Refusals.{PlanRefusal}
+use Rattle.cstn_sentences.specs.Lines.{PlanLine, nothing}
 use Rattle.cstn_sentences.specs.Grammar.{Words}
 use Rattle.cstn_sentences.specs.Declarations.{Declared, declare, declared_after}
 use Rattle.cstn_sentences.specs.Meaning.{Meaning, mean, meant_after}
-use Rattle.cstn_sentences.specs.WrittenWords.{IsWritten, IsReadAs, line_bytes}
+use Rattle.cstn_sentences.specs.WrittenWords.{IsWrittenWord, IsReadAsLine, line_bytes}
 use Rattle.cstn_sentences.proofs.WordLemmas.{nothing as no_words_of}
 use Rattle.cstn_sentences.proofs.JudgedLines.{line_back}
 use Rattle.cstn_sentences.proofs.TellsLemmas.{declared_on, meant_on}
@@ -22,8 +22,8 @@ pub texts_more : {X : Type 0} (words : X → Words) (xs ys : List X) → texts w
 texts_more words xs ys = ap (map line_bytes) (map-append words xs ys) ∙ map-append line_bytes (map words xs) (map words ys)
 
 -- an empty line says nothing
-empty_line : IsReadAs [] nothing
-empty_line = record { written = All-nil IsWritten; short = omega arith; cut = no_words_of; read = refl; numbered = refl }
+empty_line : IsReadAsLine [] nothing
+empty_line = record { written = All-nil IsWrittenWord; short = omega arith; cut = no_words_of; read = refl; numbered = refl }
 
 -- ---- declarations
 
@@ -34,10 +34,10 @@ Declares d lines more = (n : ℕ) (rest : List (List ℕ)) → declared_after n 
 pub declares_none : (d : Declared) → Declares d [] d
 declares_none d n rest = let same : n ≡ n + 0 = omega arith in ap (λ (k : ℕ). declared_after k d rest) same
 
-pub declares_line : (d more : Declared) (words : Words) (line : Line) → IsReadAs words line → ((n : ℕ) → declare n d line ≡ Ok more)
+pub declares_line : (d more : Declared) (words : Words) (line : PlanLine) → IsReadAsLine words line → ((n : ℕ) → declare n d line ≡ Ok more)
     → Declares d (line_bytes words ∷ []) more
 declares_line d more words line is declares n rest =
-    declared_on n d more (line_bytes words) rest (ap (λ (r : Result Line Refusal). r >>= declare n d) (line_back n words line is) ∙ declares n)
+    declared_on n d more (line_bytes words) rest (ap (λ (r : Result PlanLine PlanRefusal). r >>? declare n d) (line_back n words line is) ∙ declares n)
 
 pub declares_both : (d more all : Declared) (xs ys : List (List ℕ)) → Declares d xs more → Declares more ys all → Declares d (xs ++ ys) all
 declares_both d more all xs ys first later n rest =
@@ -59,10 +59,10 @@ Means d m lines more = (n : ℕ) (rest : List (List ℕ)) → meant_after n d m 
 pub means_none : (d : Declared) (m : Meaning) → Means d m [] m
 means_none d m n rest = let same : n ≡ n + 0 = omega arith in ap (λ (k : ℕ). meant_after k d m rest) same
 
-pub means_line : (d : Declared) (m more : Meaning) (words : Words) (line : Line) → IsReadAs words line → ((n : ℕ) → mean n d m line ≡ Ok more)
+pub means_line : (d : Declared) (m more : Meaning) (words : Words) (line : PlanLine) → IsReadAsLine words line → ((n : ℕ) → mean n d m line ≡ Ok more)
     → Means d m (line_bytes words ∷ []) more
 means_line d m more words line is means n rest =
-    meant_on n d m more (line_bytes words) rest (ap (λ (r : Result Line Refusal). r >>= mean n d m) (line_back n words line is) ∙ means n)
+    meant_on n d m more (line_bytes words) rest (ap (λ (r : Result PlanLine PlanRefusal). r >>? mean n d m) (line_back n words line is) ∙ means n)
 
 pub means_both : (d : Declared) (m more all : Meaning) (xs ys : List (List ℕ)) → Means d m xs more → Means d more ys all → Means d m (xs ++ ys) all
 means_both d m more all xs ys first later n rest =

@@ -9,8 +9,8 @@ use Rattle.cstn_lift.specs.Labelled.{Labelled, label_in}
 use Rattle.cstn_lift.specs.WellFormed.{IsLabelled}
 use Rattle.cstn_text.specs.Names.{IsName}
 use Rattle.cstn_save.specs.Names.{AreNamesOf}
-use Rattle.cstn_sentences.specs.Results.{◌>>=◌}
-use Rattle.cstn_sentences.specs.Refusals.{Refusal}
+use Rattle.cstn_sentences.specs.Results.{◌>>?◌}
+use Rattle.cstn_sentences.specs.Refusals.{PlanRefusal}
 use Rattle.cstn_sentences.specs.Lines.{step}
 use Rattle.cstn_sentences.specs.Declarations.{Declared}
 use Rattle.cstn_sentences.specs.Meaning.{Meaning, nothing_meant, with_label, mean}
@@ -40,7 +40,7 @@ point_writable m x good inside = record { plain = good.plain x inside; letters =
 step_meant : (n : ℕ) (d : Declared) (m : Labelled) (names : List (List ℕ)) (x : ℕ) (before : Meaning) → IsWritable (label_in m.labels x)
     → mean n d before (step (step_of m names x)) ≡ Ok (with_label (slice_index_or names x []) (label_in m.labels x) before)
 step_meant n d m names x before is =
-    ap (λ (r : Result Label Refusal). r >>= λ label. Ok (with_label (slice_index_or names x []) label before)) (label_back n d (label_in m.labels x) is)
+    ap (λ (r : Result Label PlanRefusal). r >>? λ label. Ok (with_label (slice_index_or names x []) label before)) (label_back n d (label_in m.labels x) is)
 
 -- the labels of the first n + 1 time-points are meant
 pub record AreMeant (labels : List Label) (n : ℕ) (m : Meaning) : Type 0 where

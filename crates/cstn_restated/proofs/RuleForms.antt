@@ -8,16 +8,16 @@ use Rattle.cstn_label.specs.Labels.{Label}
 use Rattle.cstn_text.specs.Names.{AreNames, number_of}
 use Rattle.cstn_text.proofs.NameLemmas.{found_back}
 use Rattle.cstn_graphml.specs.DrawnGraph.{DrawnConstraint}
-use Rattle.cstn_sentences.specs.Results.{◌>>=◌, or_refused, demand}
-use Rattle.cstn_sentences.specs.Refusals.{Refusal, out_of_range, no_name}
+use Rattle.cstn_sentences.specs.Results.{◌>>?◌, some_or, holds_or}
+use Rattle.cstn_sentences.specs.Refusals.{PlanRefusal, out_of_range, no_name}
 use Rattle.cstn_sentences.specs.declared.bounds.Bounds.{Bounds}
 use Rattle.cstn_sentences.specs.declared.lines.Side.TheVariants.{Alone}
 use Rattle.cstn_sentences.specs.declared.lines.Says.{Says}
 use Rattle.cstn_sentences.specs.Lines.{rule}
 use Rattle.cstn_sentences.specs.Judged.{is_sized}
 use Rattle.cstn_sentences.specs.Declarations.{Declared}
-use Rattle.cstn_sentences.specs.Meaning.{Meaning, side_of, point_in, Moment_after, moments_in, label_of, bounds_of, is_of_end, since_origin, are_in_order, are_sized_from, at_least, at_most, constraints_of, with_rule, mean}
-use Rattle.cstn_sentences.specs.Sentences.{literals, since_of, rule_of}
+use Rattle.cstn_sentences.specs.Meaning.{Meaning, side_of, point_in, Moment_after, moments_in, label_meant, bounds_of, is_of_end, since_origin, are_in_order, are_sized_from, at_least, at_most, constraints_of, with_rule, mean}
+use Rattle.cstn_sentences.specs.Sentences.{literals_of_label, since_of, rule_of}
 use Rattle.cstn_restated.proofs.LabelsBack.{IsWritable, label_back}
 
 -- ---- time-points
@@ -40,9 +40,9 @@ point_back : (n : ℕ) (d : Declared) (names : List (List ℕ)) (is_end : Bool) 
 point_back n d names is_end x has inside =
     let name : List ℕ = slice_index_or names x [] in
     let number : number_of d.names name ≡ Some x = ap (λ (ns : List (List ℕ)). number_of ns name) has.names_are ∙ found_back names x has.are inside in
-    ap (λ (o : Option ℕ). or_refused o (no_name n name)
-    >>= λ k. or_refused (side_of Alone is_end k (slice_index_or d.begins_task k false)) (no_name n name)) number
-    ∙ ap (λ (b : Bool). or_refused (side_of Alone is_end x b) (no_name n name)) (no_task d.begins_task x has.no_tasks)
+    ap (λ (o : Option ℕ). some_or o (no_name n name)
+    >>? λ k. some_or (side_of Alone is_end k (slice_index_or d.begins_task k false)) (no_name n name)) number
+    ∙ ap (λ (b : Bool). some_or (side_of Alone is_end x b) (no_name n name)) (no_task d.begins_task x has.no_tasks)
 
 -- the moments of the time-points that a rule counts from
 abbrev pub after_of : Option ℕ → List Moment_after
@@ -58,7 +58,7 @@ moments_back : (n : ℕ) (d : Declared) (names : List (List ℕ)) (y : Option �
     → moments_in n d (since_of names y) ≡ Ok (after_of y)
 moments_back n d names None has inside = refl
 moments_back n d names (Some y) has inside =
-    ap (λ (r : Result ℕ Refusal). (r >>= λ x. Ok (x, pos 0)) >>= λ m. moments_in n d [] >>= λ ms. Ok (m ∷ ms)) (point_back n d names true y has inside)
+    ap (λ (r : Result ℕ PlanRefusal). (r >>? λ x. Ok (x, pos 0)) >>? λ m. moments_in n d [] >>? λ ms. Ok (m ∷ ms)) (point_back n d names true y has inside)
 
 -- ---- rules
 
@@ -69,12 +69,12 @@ pub record IsForm (x : ℕ) (says : Says) (y : Option ℕ) (label : Label) (cs :
   pub drawn : flat_map (constraints_of x (bounds_of None says) label) (since_origin says (after_of y)) ≡ cs
 
 -- the meaning with a rule of x, by its bounds, moments and label
-abbrev meant_by : ℕ → ℕ → Says → Meaning → Bounds → Result (List Moment_after) Refusal → Result Label Refusal → Result Meaning Refusal
+abbrev meant_by : ℕ → ℕ → Says → Meaning → Bounds → Result (List Moment_after) PlanRefusal → Result Label PlanRefusal → Result Meaning PlanRefusal
 meant_by n x says m b moments label =
-    demand (are_in_order b.least b.most) (out_of_range n) >>= λ ordered.
-    moments >>= λ ms.
-    label >>= λ a.
-    demand (list_all (are_sized_from b) (since_origin says ms)) (out_of_range n) >>= λ sized.
+    holds_or (are_in_order b.least b.most) (out_of_range n) >>? λ ordered.
+    moments >>? λ ms.
+    label >>? λ a.
+    holds_or (list_all (are_sized_from b) (since_origin says ms)) (out_of_range n) >>? λ sized.
     Ok (with_rule x b a (since_origin says ms) m)
 
 -- a rule of a form means its constraints
@@ -84,15 +84,16 @@ pub rule_meant : (n : ℕ) (d : Declared) (m : Meaning) (names : List (List ℕ)
 rule_meant n d m names x says y label cs has inside since writable form =
     let b : Bounds = bounds_of None says in
     let ms : List Moment_after = since_origin says (after_of y) in
-    let moments : Result (List Moment_after) Refusal = moments_in n d (since_of names y) in
-    let labelled : Result Label Refusal = label_of n d (literals label) in
-    ap (λ (r : Result ℕ Refusal). r >>= λ z. meant_by n z says m (bounds_of d.start says) moments labelled) (point_back n d names (is_of_end says) x has inside)
+    let moments : Result (List Moment_after) PlanRefusal = moments_in n d (since_of names y) in
+    let labelled : Result Label PlanRefusal = label_meant n d (literals_of_label label) in
+    ap (λ (r : Result ℕ PlanRefusal). r >>? λ z. meant_by n z says m (bounds_of d.start says) moments labelled)
+    (point_back n d names (is_of_end says) x has inside)
     ∙ ap (λ (first : Option ℤ). meant_by n x says m (bounds_of first says) moments labelled) has.start_is
-    ∙ ap (λ (r : Result (List Moment_after) Refusal). meant_by n x says m b r labelled) (moments_back n d names y has since)
-    ∙ ap (λ (r : Result Label Refusal). meant_by n x says m b (Ok (after_of y)) r) (label_back n d label writable)
-    ∙ ap (λ (t : Bool). demand t (out_of_range n) >>= λ ordered. demand (list_all (are_sized_from b) ms) (out_of_range n)
-    >>= λ sized. Ok (with_rule x b label ms m)) form.ordered
-    ∙ ap (λ (t : Bool). demand t (out_of_range n) >>= λ sized. Ok (with_rule x b label ms m)) form.sized
+    ∙ ap (λ (r : Result (List Moment_after) PlanRefusal). meant_by n x says m b r labelled) (moments_back n d names y has since)
+    ∙ ap (λ (r : Result Label PlanRefusal). meant_by n x says m b (Ok (after_of y)) r) (label_back n d label writable)
+    ∙ ap (λ (t : Bool). holds_or t (out_of_range n) >>? λ ordered. holds_or (list_all (are_sized_from b) ms) (out_of_range n)
+    >>? λ sized. Ok (with_rule x b label ms m)) form.ordered
+    ∙ ap (λ (t : Bool). holds_or t (out_of_range n) >>? λ sized. Ok (with_rule x b label ms m)) form.sized
     ∙ ap (λ (more : List DrawnConstraint). Ok (record m { constraints = m.constraints ++ more })) form.drawn
 
 -- ---- bounds

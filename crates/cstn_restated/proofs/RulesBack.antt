@@ -8,16 +8,16 @@ use Rattle.cstn_label.specs.Labels.{Label}
 use Rattle.cstn_net.specs.Networks.{Constraint, IsValue}
 use Rattle.cstn_graphml.specs.DrawnGraph.{DrawnConstraint}
 use Rattle.cstn_save.specs.ReadBack.{drawn}
-use Rattle.cstn_sentences.specs.Results.{◌>>=◌}
-use Rattle.cstn_sentences.specs.Refusals.{Refusal}
+use Rattle.cstn_sentences.specs.Results.{◌>>?◌}
+use Rattle.cstn_sentences.specs.Refusals.{PlanRefusal}
 use Rattle.cstn_sentences.specs.Judged.{is_sized}
 use Rattle.cstn_sentences.specs.declared.lines.Says.{Says}
 use Rattle.cstn_sentences.specs.declared.lines.Says.TheVariants.{At, By, Between, ByAfter, Within, NotBefore, Together}
 use Rattle.cstn_sentences.specs.Lines.{Rule, rule}
-use Rattle.cstn_sentences.specs.Declarations.{Declared, declare, are_new}
+use Rattle.cstn_sentences.specs.Declarations.{Declared, declare, are_new_literals}
 use Rattle.cstn_sentences.specs.Meaning.{Meaning, at_least, at_most, mean}
 use Rattle.cstn_sentences.specs.Printed.{rule_words}
-use Rattle.cstn_sentences.specs.Sentences.{ticks, from_to, from_on, literals, counted_from, range_says, least_says, is_same_label, is_range, are_turned, are_one_range, is_pair, is_paired, pair_rule, alone_rule, next_rule, rules_after}
+use Rattle.cstn_sentences.specs.Sentences.{ticks, from_to, from_on, literals_of_label, counted_from, range_says, least_says, is_same_label, is_range, are_turned, are_one_range, is_pair, is_paired, pair_rule, alone_rule, next_rule, rules_after}
 use Rattle.cstn_restated.proofs.LabelsBack.{IsWritable, all_new, same_labels}
 use Rattle.cstn_restated.proofs.LinesBack.{texts, Declares, declares_none, declares_line, declares_both, Means, means_none, means_line, means_both}
 use Rattle.cstn_restated.proofs.RuleForms.{HasNames, IsInside, IsForm, rule_meant, both_form, least_form, most_form}
@@ -132,26 +132,26 @@ alone_meant names d m c has known n = at (c.from == 0 && int_le (pos 0) c.most) 
 
 -- ---- all rules
 
-alone_label : (names : List (List ℕ)) (c : Constraint) → (alone_rule names c).label ≡ literals c.label
+alone_label : (names : List (List ℕ)) (c : Constraint) → (alone_rule names c).label ≡ literals_of_label c.label
 alone_label names c = at (c.from == 0 && int_le (pos 0) c.most) (int_le c.most (pos 0))
   where
-    at : (by least : Bool) → (alone_by names c by least).label ≡ literals c.label
+    at : (by least : Bool) → (alone_by names c by least).label ≡ literals_of_label c.label
     at true least = refl
     at false true = refl
     at false false = refl
 
-next_label : (names : List (List ℕ)) (c : Constraint) (cs : List Constraint) → (next_rule names c cs).label ≡ literals c.label
+next_label : (names : List (List ℕ)) (c : Constraint) (cs : List Constraint) → (next_rule names c cs).label ≡ literals_of_label c.label
 next_label names c [] = alone_label names c
 next_label names c (d ∷ cs) = at (is_pair c d)
   where
-    at : (pair : Bool) → (if pair then pair_rule names c d else alone_rule names c).label ≡ literals c.label
+    at : (pair : Bool) → (if pair then pair_rule names c d else alone_rule names c).label ≡ literals_of_label c.label
     at true = refl
     at false = alone_label names c
 
 -- a rule declares nothing
 next_declared : (n : ℕ) (d : Declared) (names : List (List ℕ)) (c : Constraint) (cs : List Constraint) → declare n d (rule (next_rule names c cs)) ≡ Ok d
 next_declared n d names c cs =
-    ap (λ (r : Result (Unit {0}) Refusal). r >>= λ new. Ok d) (ap (are_new n []) (next_label names c cs) ∙ all_new n c.label)
+    ap (λ (r : Result (Unit {0}) PlanRefusal). r >>? λ new. Ok d) (ap (are_new_literals n []) (next_label names c cs) ∙ all_new n c.label)
 
 pub rules_declared : (names : List (List ℕ)) (d : Declared) (skip : ℕ) (cs : List Constraint) → All (IsNamed names) cs
     → Declares d (texts rule_words (rules_after names skip cs)) d

@@ -12,14 +12,14 @@ use Rattle.cstn_save.specs.Names.{AreNamesOf}
 use Rattle.cstn_save.specs.Canonical.{observed_by, timed_observations}
 use Rattle.cstn_save.specs.ReadBack.{drawn, parts}
 use Rattle.cstn_sentences.specs.Limits.{most_plan}
-use Rattle.cstn_sentences.specs.Results.{◌>>=◌, or_refused, demand}
-use Rattle.cstn_sentences.specs.Refusals.{Refusal, too_long, no_deadline}
+use Rattle.cstn_sentences.specs.Results.{◌>>?◌, some_or, holds_or}
+use Rattle.cstn_sentences.specs.Refusals.{PlanRefusal, too_long, no_deadline}
 use Rattle.cstn_sentences.specs.declared.lines.Span.{Span}
 use Rattle.cstn_sentences.specs.Lines.{deadline}
-use Rattle.cstn_sentences.specs.Words.{lines_of}
+use Rattle.cstn_sentences.specs.Words.{plan_lines}
 use Rattle.cstn_sentences.specs.Declarations.{Declared, nothing_declared, declared_after}
 use Rattle.cstn_sentences.specs.Meaning.{Meaning, nothing_meant, meant_after}
-use Rattle.cstn_sentences.specs.Plans.{parts_of, deadline_in, plan}
+use Rattle.cstn_sentences.specs.Plans.{plan_parts, deadline_in, plan}
 use Rattle.cstn_sentences.specs.Printed.{deadline_words, step_words, rule_words}
 use Rattle.cstn_sentences.specs.Sentences.{ticks, steps_below, rules_after, sentences}
 use Rattle.cstn_sentences.specs.WrittenWords.{line_bytes}
@@ -45,7 +45,7 @@ deadline_line m = line_bytes (deadline_words (ticks (pos m.base.deadline))) ∷ 
 abbrev all_lines : Labelled → List (List ℕ) → List (List ℕ)
 all_lines m names = deadline_line m ++ (steps_of m names ++ rules_of m names)
 
-lines_are : (m : Labelled) (names : List (List ℕ)) → IsLabelled m → AreNamesOf m.base names → lines_of (sentences m names) ≡ all_lines m names ++ ([] ∷ [])
+lines_are : (m : Labelled) (names : List (List ℕ)) → IsLabelled m → AreNamesOf m.base names → plan_lines (sentences m names) ≡ all_lines m names ++ ([] ∷ [])
 lines_are m names good is =
     sentences_cut m names good.base is.named is.each
     ∙ ap (λ (ls : List (List ℕ)). (line_bytes (deadline_words (ticks (pos m.base.deadline))) ∷ ls) ++ ([] ∷ []))
@@ -154,12 +154,12 @@ first_deadline : (word : Option ℕ) (d : Declared) (n : ℕ) → d.deadline ≡
 first_deadline None d n e = rw e refl
 first_deadline (Some k) d n e = refl
 
-abbrev read_by : Option ℕ → List (List ℕ) → Result Parts Refusal
+abbrev read_by : Option ℕ → List (List ℕ) → Result Parts PlanRefusal
 read_by word lines =
-    declared_after 1 nothing_declared lines >>= λ d.
-    meant_after 1 d nothing_meant lines >>= λ m.
-    or_refused (first_of_two word (deadline_in d)) no_deadline >>= λ n.
-    Ok (parts_of n d m)
+    declared_after 1 nothing_declared lines >>? λ d.
+    meant_after 1 d nothing_meant lines >>? λ m.
+    some_or (first_of_two word (deadline_in d)) no_deadline >>? λ n.
+    Ok (plan_parts n d m)
 
 le_true : (n : ℕ) → n ≤ most_plan → nat_le n most_plan ≡ true
 le_true n h = grind arith
@@ -172,18 +172,18 @@ there_and_back m names word good is short =
     let all = meant m names good is so in
     let d : Declared = so.all in
     let lines : List (List ℕ) = all_lines m names ++ ([] ∷ []) in
-    let told : parts_of (handed word m.base.deadline) d all.all ≡ record (parts m names) { deadline = handed word m.base.deadline } =
+    let told : plan_parts (handed word m.base.deadline) d all.all ≡ record (parts m names) { deadline = handed word m.base.deadline } =
     same_parts (handed word m.base.deadline) names d.names (timed_observations m.base) _ m.labels _ (map drawn m.base.constraints) all.all.constraints
     (has_names m names is so).names_are
     (so.are.observes_are
     ∙ take_all (suc so.n) (timed_observations m.base) (omega (arith, so.count_is, length-map m.base.observes (observed_by m.base.reaction))))
     all.labels_are all.constraints_are in
-    ap (λ (b : Bool). demand b too_long >>= λ fits. read_by word (lines_of (sentences m names))) (le_true (length (sentences m names)) short)
+    ap (λ (b : Bool). holds_or b too_long >>? λ fits. read_by word (plan_lines (sentences m names))) (le_true (length (sentences m names)) short)
     ∙ ap (read_by word) (lines_are m names good is)
-    ∙ ap (λ (r : Result Declared Refusal). r >>= λ e. meant_after 1 e nothing_meant lines
-    >>= λ v. or_refused (first_of_two word (deadline_in e)) no_deadline >>= λ n. Ok (parts_of n e v))
+    ∙ ap (λ (r : Result Declared PlanRefusal). r >>? λ e. meant_after 1 e nothing_meant lines
+    >>? λ v. some_or (first_of_two word (deadline_in e)) no_deadline >>? λ n. Ok (plan_parts n e v))
     (declared_whole 1 nothing_declared d (all_lines m names) so.declares)
-    ∙ ap (λ (r : Result Meaning Refusal). r >>= λ v. or_refused (first_of_two word (deadline_in d)) no_deadline >>= λ n. Ok (parts_of n d v))
+    ∙ ap (λ (r : Result Meaning PlanRefusal). r >>? λ v. some_or (first_of_two word (deadline_in d)) no_deadline >>? λ n. Ok (plan_parts n d v))
     (meant_whole 1 d nothing_meant all.all (all_lines m names) all.means)
-    ∙ ap (λ (o : Option ℕ). or_refused o no_deadline >>= λ n. Ok (parts_of n d all.all)) (first_deadline word d m.base.deadline so.are.deadline_is)
+    ∙ ap (λ (o : Option ℕ). some_or o no_deadline >>? λ n. Ok (plan_parts n d all.all)) (first_deadline word d m.base.deadline so.are.deadline_is)
     ∙ ap (λ (p : Parts). Ok p) told

@@ -14,13 +14,13 @@ use Rattle.cstn_graphml.specs.DrawnGraphLaws.{IsWithReaction, IsLettered}
 use Rattle.cstn_graphml.specs.Document.{or_nothing}
 use Rattle.cstn_sentences.specs.declared.lines.Observed.{Observed}
 use Rattle.cstn_sentences.specs.declared.declarations.Meant.{Meant}
-use Rattle.cstn_sentences.specs.Results.{◌>>=◌, demand}
-use Rattle.cstn_sentences.specs.Refusals.{Refusal, wrong_word, out_of_range, stands_twice}
+use Rattle.cstn_sentences.specs.Results.{◌>>?◌, holds_or}
+use Rattle.cstn_sentences.specs.Refusals.{PlanRefusal, wrong_word, out_of_range, stands_twice}
 use Rattle.cstn_sentences.specs.Words.{words_of, is_of_words}
-use Rattle.cstn_sentences.specs.Lines.{Step, Line, nothing, deadline, start, step, task, rule}
-use Rattle.cstn_sentences.specs.Grammar.{line_read}
-use Rattle.cstn_sentences.specs.Judged.{is_range, is_timely, is_numbered, at_word, line_of}
-use Rattle.cstn_sentences.specs.Declarations.{Declared, nothing_declared, is_declared, is_origin, end_of, observation_of, are_new, words_with, with_point, with_step, is_task, declare_step, declare_task, declare, declared_line, declared_after}
+use Rattle.cstn_sentences.specs.Lines.{PlanStep, PlanLine, nothing, deadline, start, step, task, rule}
+use Rattle.cstn_sentences.specs.Grammar.{plan_line_read}
+use Rattle.cstn_sentences.specs.Judged.{is_range, is_timely, is_line_in_range, at_word, line_of_text}
+use Rattle.cstn_sentences.specs.Declarations.{Declared, nothing_declared, is_declared, is_origin, end_name, step_observation, are_new_literals, words_with, with_point, with_step, is_task, declare_step, declare_task, declare, declared_line, declared_after}
 use Rattle.cstn_sentences.proofs.Accepted.{bind_ok, ok_is, demanded}
 
 pub record IsInOrder (d : Declared) : Type 0 where
@@ -43,7 +43,7 @@ timely_by : (prop : Option ℕ) (ticks : ℕ) → (nat_lt 0 ticks && nat_le tick
 timely_by None ticks h = tt
 timely_by (Some p) ticks h = in_reach ticks h
 
-timely : (observed : Option Observed) → is_timely observed ≡ true → IsWithReaction (observation_of observed)
+timely : (observed : Option Observed) → is_timely observed ≡ true → IsWithReaction (step_observation observed)
 timely None h = tt
 timely (Some o) h = timely_by (prop_of o.letter) (nat_abs o.reaction.ticks) h
 
@@ -51,7 +51,7 @@ lettered_by : (prop : Option ℕ) (ticks : ℕ) → ((p : ℕ) → prop ≡ Some
 lettered_by None ticks small = tt
 lettered_by (Some p) ticks small = small p refl
 
-lettered : (observed : Option Observed) → IsLettered (observation_of observed)
+lettered : (observed : Option Observed) → IsLettered (step_observation observed)
 lettered None = tt
 lettered (Some o) = lettered_by (prop_of o.letter) (nat_abs o.reaction.ticks) (λ p e. prop_small o.letter p e)
 
@@ -156,47 +156,47 @@ step_by false d name observed h t l = point_kept d name observed h t l
 -- ---- lines
 
 -- what a step and a task declare
-pub step_declared : (n : ℕ) (s : Step) (d e : Declared) → declare_step n s d ≡ Ok e
-    → (words : List Meant) × (with_step s.name (observation_of s.observed) (record d { words = words }) ≡ e)
+pub step_declared : (n : ℕ) (s : PlanStep) (d e : Declared) → declare_step n s d ≡ Ok e
+    → (words : List Meant) × (with_step s.name (step_observation s.observed) (record d { words = words }) ≡ e)
 step_declared n s d e h =
-    let a = bind_ok (demand (not (is_declared s.name d)) (stands_twice n s.name)) (λ new. words_with n s d.words >>= λ words. Ok (with_step s.name (observation_of s.observed) (record d { words = words }))) e h in
-    let b = bind_ok (words_with n s d.words) (λ words. Ok (with_step s.name (observation_of s.observed) (record d { words = words }))) e a.2 in
-    (b.0, ok_is (with_step s.name (observation_of s.observed) (record d { words = b.0 })) e b.2)
+    let a = bind_ok (holds_or (not (is_declared s.name d)) (stands_twice n s.name)) (λ new. words_with n s d.words >>? λ words. Ok (with_step s.name (step_observation s.observed) (record d { words = words }))) e h in
+    let b = bind_ok (words_with n s d.words) (λ words. Ok (with_step s.name (step_observation s.observed) (record d { words = words }))) e a.2 in
+    (b.0, ok_is (with_step s.name (step_observation s.observed) (record d { words = b.0 })) e b.2)
 
-pub task_declared : (n : ℕ) (s : Step) (d e : Declared) → declare_task n s d ≡ Ok e
-    → (words : List Meant) × (with_point (end_of s.name) false (observation_of s.observed) (with_point s.name true None (record d { words = words })) ≡ e)
+pub task_declared : (n : ℕ) (s : PlanStep) (d e : Declared) → declare_task n s d ≡ Ok e
+    → (words : List Meant) × (with_point (end_name s.name) false (step_observation s.observed) (with_point s.name true None (record d { words = words })) ≡ e)
 task_declared n s d e h =
-    let done : List Meant → Result Declared Refusal = λ words. Ok (with_point (end_of s.name) false (observation_of s.observed) (with_point s.name true None (record d { words = words }))) in
-    let a = bind_ok (is_task n s.name d) (λ named. words_with n s d.words >>= done) e h in
+    let done : List Meant → Result Declared PlanRefusal = λ words. Ok (with_point (end_name s.name) false (step_observation s.observed) (with_point s.name true None (record d { words = words }))) in
+    let a = bind_ok (is_task n s.name d) (λ named. words_with n s d.words >>? done) e h in
     let b = bind_ok (words_with n s d.words) done e a.2 in
-    (b.0, ok_is (with_point (end_of s.name) false (observation_of s.observed) (with_point s.name true None (record d { words = b.0 }))) e b.2)
+    (b.0, ok_is (with_point (end_name s.name) false (step_observation s.observed) (with_point s.name true None (record d { words = b.0 }))) e b.2)
 
 -- the line of a text has its numbers in range
-pub numbered_line : (n : ℕ) (text : List ℕ) (l : Line) → line_of n text ≡ Ok l → is_numbered l ≡ true
+pub numbered_line : (n : ℕ) (text : List ℕ) (l : PlanLine) → line_of_text n text ≡ Ok l → is_line_in_range l ≡ true
 numbered_line n text l e =
-    let judged : Line → Result Line Refusal = λ line. demand (is_numbered line) (out_of_range n) >>= λ numbered. Ok line in
-    let a = bind_ok (demand (is_of_words text) (wrong_word n 0)) (λ whole. at_word n (words_of text) (line_read (words_of text)) >>= judged) l e in
-    let b = bind_ok (at_word n (words_of text) (line_read (words_of text))) judged l a.2 in
-    let c = bind_ok (demand (is_numbered b.0) (out_of_range n)) (λ numbered. Ok b.0) l b.2 in
-    subst (λ (x : Line). is_numbered x ≡ true) (ok_is b.0 l c.2) (demanded (is_numbered b.0) (out_of_range n) c.0 c.1)
+    let judged : PlanLine → Result PlanLine PlanRefusal = λ line. holds_or (is_line_in_range line) (out_of_range n) >>? λ numbered. Ok line in
+    let a = bind_ok (holds_or (is_of_words text) (wrong_word n 0)) (λ whole. at_word n (words_of text) (plan_line_read (words_of text)) >>? judged) l e in
+    let b = bind_ok (at_word n (words_of text) (plan_line_read (words_of text))) judged l a.2 in
+    let c = bind_ok (holds_or (is_line_in_range b.0) (out_of_range n)) (λ numbered. Ok b.0) l b.2 in
+    subst (λ (x : PlanLine). is_line_in_range x ≡ true) (ok_is b.0 l c.2) (demanded (is_line_in_range b.0) (out_of_range n) c.0 c.1)
 
-line_kept : (n : ℕ) (l : Line) (d e : Declared) → IsInOrder d → is_numbered l ≡ true → declare n d l ≡ Ok e → IsInOrder e
+line_kept : (n : ℕ) (l : PlanLine) (d e : Declared) → IsInOrder d → is_line_in_range l ≡ true → declare n d l ≡ Ok e → IsInOrder e
 line_kept n nothing d e h numbered k = subst IsInOrder (ok_is d e k) h
 line_kept n (deadline t) d e h numbered k =
-    let a = bind_ok (demand (is_none d.deadline) (stands_twice n (codes "deadline"))) (λ first. Ok (record d { deadline = Some t })) e k in
+    let a = bind_ok (holds_or (is_none d.deadline) (stands_twice n (codes "deadline"))) (λ first. Ok (record d { deadline = Some t })) e k in
     subst IsInOrder (ok_is (record d { deadline = Some t }) e a.2) (record { later = h.later; first = h.first; each = h.each; as_many = h.as_many; has_end = h.has_end; origin_timely = h.origin_timely; timely = h.timely; origin_lettered = h.origin_lettered; lettered = h.lettered })
 line_kept n (start t) d e h numbered k =
-    let a = bind_ok (demand (is_none d.start) (stands_twice n (codes "start"))) (λ first. Ok (record d { start = Some t.ticks })) e k in
+    let a = bind_ok (holds_or (is_none d.start) (stands_twice n (codes "start"))) (λ first. Ok (record d { start = Some t.ticks })) e k in
     subst IsInOrder (ok_is (record d { start = Some t.ticks }) e a.2) (record { later = h.later; first = h.first; each = h.each; as_many = h.as_many; has_end = h.has_end; origin_timely = h.origin_timely; timely = h.timely; origin_lettered = h.origin_lettered; lettered = h.lettered })
 line_kept n (step s) d e h numbered k =
     let a = step_declared n s d e k in
-    subst IsInOrder a.1 (step_by (is_origin s.name) (record d { words = a.0 }) s.name (observation_of s.observed) (worded d a.0 h) (timely s.observed numbered) (lettered s.observed))
+    subst IsInOrder a.1 (step_by (is_origin s.name) (record d { words = a.0 }) s.name (step_observation s.observed) (worded d a.0 h) (timely s.observed numbered) (lettered s.observed))
 line_kept n (task s r) d e h numbered k =
     let a = task_declared n s d e k in
     subst IsInOrder a.1
-    (task_kept (record d { words = a.0 }) s.name (end_of s.name) (observation_of s.observed) (worded d a.0 h) (timely s.observed (and_parts (is_range r) (is_timely s.observed) numbered).1) (lettered s.observed))
+    (task_kept (record d { words = a.0 }) s.name (end_name s.name) (step_observation s.observed) (worded d a.0 h) (timely s.observed (and_parts (is_range r) (is_timely s.observed) numbered).1) (lettered s.observed))
 line_kept n (rule r) d e h numbered k =
-    let a = bind_ok (are_new n [] r.label) (λ new. Ok d) e k in
+    let a = bind_ok (are_new_literals n [] r.label) (λ new. Ok d) e k in
     subst IsInOrder (ok_is d e a.2) h
 
 pub nothing_in_order : IsInOrder nothing_declared
@@ -218,7 +218,7 @@ nothing_in_order = record {
 
 pub text_kept : (n : ℕ) (text : List ℕ) (d e : Declared) → IsInOrder d → declared_line n d text ≡ Ok e → IsInOrder e
 text_kept n text d e h k =
-    let a = bind_ok (line_of n text) (declare n d) e k in
+    let a = bind_ok (line_of_text n text) (declare n d) e k in
     line_kept n a.0 d e h (numbered_line n text a.0 a.1) a.2
 
 pub lines_kept : (n : ℕ) (lines : List (List ℕ)) (d e : Declared) → IsInOrder d → declared_after n d lines ≡ Ok e → IsInOrder e

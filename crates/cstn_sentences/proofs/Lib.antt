@@ -40,5 +40,11 @@ pub mod OnePlan
 pub mod PlanNames
 -- What sentences say of moments.
 pub mod MomentLemmas
-pub mod TaskEnds
+pub mod RuleMoments
+pub mod FirstObservers
+pub mod PutNames
+pub mod MeantForms
+pub mod LaterLines
+pub mod PointsMeant
+pub mod OtherPoints
 pub mod MeantLines

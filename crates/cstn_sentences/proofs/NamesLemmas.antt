@@ -1,6 +1,6 @@
 -- Names that aren't in a list yet.
 use Rattle.std.proofs.Common.{refl, ◌≡◌, ℕ, ◌+◌, suc, not, Bool, true, false, List, [], ◌∷◌, ◌++◌, length, Option, Some, None, cond, ap, sym, ◌∙◌, arith, length-append}
-use Rattle.std.specs.Prelude.{◌||◌, Contains, if◌then◌else◌, is_some, codes, nat_lt}
+use Rattle.std.specs.Prelude.{◌||◌, Contains, is_some, codes, nat_lt}
 use Rattle.std.specs.List.{All, list_any, position, position_or_len}
 use Rattle.std.specs.Str.{bytes_eq}
 use Rattle.std.proofs.lemmas.Bool.{false≢true}
@@ -9,7 +9,7 @@ use Rattle.std.proofs.lemmas.Slice.Eq.{bytes_eq-Decides}
 use Rattle.cstn_facts.proofs.Booleans.{bytes_same}
 use Rattle.cstn_facts.proofs.Filters.{none_passes}
 use Rattle.cstn_text.specs.Names.{number_of}
-use Rattle.cstn_sentences.specs.Declarations.{Declared, is_declared, is_origin, end_of}
+use Rattle.cstn_sentences.specs.Declarations.{Declared, is_declared, is_origin, end_name}
 
 -- a name without a number isn't in the list
 pub unknown : (names : List (List ℕ)) (name : List ℕ) → number_of names name ≡ None → Contains names name → ⊥
@@ -17,14 +17,13 @@ unknown names name e there =
     let differs = All-contains (λ x. bytes_eq name x ≡ false) names name (none_passes (bytes_eq name) names e) there in
     absurd (false≢true (sym differs ∙ bytes_same name))
 
-undeclared_by : (origin here : Bool) (found : Option ℕ) → (if origin then here else is_some found) ≡ false → origin ≡ false → found ≡ None
-undeclared_by true here found e f = absurd (cc)
-undeclared_by false here None e f = cc
-undeclared_by false here (Some k) e f = absurd (cc)
+none_found : (found : Option ℕ) → is_some found ≡ false → found ≡ None
+none_found None e = refl
+none_found (Some k) e = absurd (cc)
 
 -- what wasn't declared has no number, but for the origin
 pub undeclared : (name : List ℕ) (d : Declared) → is_declared name d ≡ false → is_origin name ≡ false → number_of d.names name ≡ None
-undeclared name d e other = undeclared_by (is_origin name) (is_some d.origin) (number_of d.names name) e other
+undeclared name d e other = none_found (number_of d.names name) (rw other at e)
 
 -- ---- a name more
 
@@ -68,8 +67,8 @@ differ xs ys far = at (bytes_eq xs ys) refl
     at false e = e
 
 -- the name of the end of a task is longer than that of the task, and not the origin's
-pub end_differs : (name : List ℕ) → bytes_eq (end_of name) name ≡ false
-end_differs name = differ (end_of name) name (λ e. absurd (omega (arith, e, length-append name (codes ".end"))))
+pub end_differs : (name : List ℕ) → bytes_eq (end_name name) name ≡ false
+end_differs name = differ (end_name name) name (λ e. absurd (omega (arith, e, length-append name (codes ".end"))))
 
-pub end_is_no_origin : (name : List ℕ) → is_origin (end_of name) ≡ false
-end_is_no_origin name = differ (end_of name) (codes "Z") (λ e. absurd (omega (arith, e, length-append name (codes ".end"))))
+pub end_is_no_origin : (name : List ℕ) → is_origin (end_name name) ≡ false
+end_is_no_origin name = differ (end_name name) (codes "Z") (λ e. absurd (omega (arith, e, length-append name (codes ".end"))))

@@ -12,11 +12,11 @@ use Rattle.cstn_graphml.proofs.Fits.{one_unfit}
 use Rattle.cstn_graphml.proofs.OneAnswer.{fit_is_not_unfit, fit_is_not_mislabelled, unfit_is_not_mislabelled}
 use Rattle.cstn_sentences.specs.declared.errors.PlanError.{PlanError}
 use Rattle.cstn_sentences.specs.declared.errors.PlanError.TheVariants.{Long, Wrong, Range, Twice, NoName, NoLetter, NoDeadline, Net, Lift, Memory}
-use Rattle.cstn_sentences.specs.Refusals.{Refusal, too_long, wrong_word, out_of_range, stands_twice, no_name, no_letter, no_deadline}
-use Rattle.cstn_sentences.specs.Planned.{Answer, IsAnswerTo, RefusesPlan}
+use Rattle.cstn_sentences.specs.Refusals.{PlanRefusal, too_long, wrong_word, out_of_range, stands_twice, no_name, no_letter, no_deadline}
+use Rattle.cstn_sentences.specs.Planned.{PlanAnswer, IsPlanAnswerTo, RefusesPlan}
 
 -- the error of a refusal by the lines
-error_of : Refusal → PlanError
+error_of : PlanRefusal → PlanError
 error_of too_long = Long
 error_of (wrong_word n word) = Wrong n word
 error_of (out_of_range n) = Range n
@@ -25,7 +25,7 @@ error_of (no_name n name) = NoName n name
 error_of (no_letter n word) = NoLetter n word
 error_of no_deadline = NoDeadline
 
-refuses : (r : Refusal) → RefusesPlan (Err r) (error_of r)
+refuses : (r : PlanRefusal) → RefusesPlan (Err r) (error_of r)
 unfolding error_of
 refuses too_long = refl
 refuses (wrong_word n word) = refl
@@ -35,7 +35,7 @@ refuses (no_name n name) = refl
 refuses (no_letter n word) = refl
 refuses no_deadline = refl
 
-not_memory : (r : Refusal) (e : AllocError) → error_of r ≢ Memory e
+not_memory : (r : PlanRefusal) (e : AllocError) → error_of r ≢ Memory e
 unfolding error_of
 not_memory too_long e is = cc
 not_memory (wrong_word n word) e is = cc
@@ -45,14 +45,14 @@ not_memory (no_name n name) e is = cc
 not_memory (no_letter n word) e is = cc
 not_memory no_deadline e is = cc
 
-refusal_is : (r s : Refusal) → ◌≡◌ {A = Result Parts Refusal} (Err r) (Err s) → s ≡ r
+refusal_is : (r s : PlanRefusal) → ◌≡◌ {A = Result Parts PlanRefusal} (Err r) (Err s) → s ≡ r
 refusal_is r s e = cc
 
-parts_are : (p q : Parts) → ◌≡◌ {A = Result Parts Refusal} (Ok p) (Ok q) → q ≡ p
+parts_are : (p q : Parts) → ◌≡◌ {A = Result Parts PlanRefusal} (Ok p) (Ok q) → q ≡ p
 parts_are p q e = cc
 
 -- the answer to a plan that is refused by its lines is this refusal
-told_refusal : (r : Refusal) (a : Answer) → IsAnswerTo (Err r) a → a ≡ Err (error_of r)
+told_refusal : (r : PlanRefusal) (a : PlanAnswer) → IsPlanAnswerTo (Err r) a → a ≡ Err (error_of r)
 unfolding error_of
 told_refusal r (Ok x) h = let is = h.told_are in absurd (cc)
 told_refusal r (Err Long) h = ap (λ s. Err (error_of s)) (refusal_is r too_long h.0)
@@ -67,15 +67,15 @@ told_refusal r (Err (Lift error names)) h = let is = h.0.told_are in absurd (cc)
 told_refusal r (Err (Memory e)) h = absurd (h.1 e refl)
 
 -- the answer is the labelled network of the parts, the fault of their network, or that of their labels
-record Told (parts : Parts) (a : Answer) : Type 0 where
+record Told (parts : Parts) (a : PlanAnswer) : Type 0 where
   pub is : ((IsFit parts × (a ≡ Ok (labelled_of parts, parts.names)))
       ⊎ (((error : NetError) × IsUnfit parts error × (a ≡ Err (Net error parts.names)))
       ⊎ ((error : LiftError) × IsMislabelled parts error × (a ≡ Err (Lift error parts.names)))))
 
-abbrev read_as : Labelled → List (List ℕ) → Answer
+abbrev read_as : Labelled → List (List ℕ) → PlanAnswer
 read_as m names = Ok (m, names)
 
-told_parts : (parts : Parts) (a : Answer) → IsAnswerTo (Ok parts) a → Told parts a
+told_parts : (parts : Parts) (a : PlanAnswer) → IsPlanAnswerTo (Ok parts) a → Told parts a
 told_parts parts (Ok x) h =
     let same = parts_are parts h.parts h.told_are in
     let labelled : x.0 ≡ labelled_of parts = h.labelled_is ∙ ap labelled_of same in
@@ -98,7 +98,7 @@ told_parts parts (Err (Memory e)) h = absurd (h.1 e refl)
 
 module _ (one_net : (b : BuilderParts) (e f : NetError) → IsLowestNetFault b e → IsLowestNetFault b f → e ≡ f)
     (one_lift : (m : Labelled) (e f : LiftError) → IsLowestLiftFault m e → IsLowestLiftFault m f → e ≡ f) where
-  same_answer : (parts : Parts) (a b : Answer) → Told parts a → Told parts b → a ≡ b
+  same_answer : (parts : Parts) (a b : PlanAnswer) → Told parts a → Told parts b → a ≡ b
   same_answer parts a b one other = elim one.is [
     | inl fit ↦ elim other.is [
       | inl again ↦ fit.1 ∙ sym again.1
@@ -117,15 +117,15 @@ module _ (one_net : (b : BuilderParts) (e f : NetError) → IsLowestNetFault b e
     ]
   ]
 
-  pub one_answer : (told : Result Parts Refusal) (a b : Answer) → IsAnswerTo told a → IsAnswerTo told b → a ≡ b
+  pub one_answer : (told : Result Parts PlanRefusal) (a b : PlanAnswer) → IsPlanAnswerTo told a → IsPlanAnswerTo told b → a ≡ b
   one_answer (Ok parts) a b one other = same_answer parts a b (told_parts parts a one) (told_parts parts b other)
   one_answer (Err r) a b one other = told_refusal r a one ∙ sym (told_refusal r b other)
 
 -- a plan that is refused by its lines has an answer, and so has one whose parts make a labelled network where there is
 -- no fault
-pub some_answer : (told : Result Parts Refusal) →
+pub some_answer : (told : Result Parts PlanRefusal) →
     ((parts : Parts) → told ≡ Ok parts → ((e : NetError) → IsUnfit parts e → ⊥) → ((e : LiftError) → IsMislabelled parts e → ⊥) → IsFit parts) →
-    ((a : Answer) → IsAnswerTo told a → ⊥) → ⊥
+    ((a : PlanAnswer) → IsPlanAnswerTo told a → ⊥) → ⊥
 some_answer (Err r) fits none = none (Err (error_of r)) (refuses r, not_memory r)
 some_answer (Ok parts) fits none =
     let fit : IsFit parts =

@@ -14,7 +14,7 @@ use Rattle.cstn_sentences.specs.Spelling.{begins_with, quoted_byte, quoted}
 use Rattle.cstn_sentences.specs.Words.{word_len, words_after, words_of}
 use Rattle.cstn_sentences.specs.WrittenWords.{IsBehind, IsOneWord}
 use Rattle.cstn_sentences.specs.Grammar.{Words}
-use Rattle.cstn_sentences.specs.Printed.{spaced}
+use Rattle.cstn_sentences.specs.Printed.{spaced_words}
 use Rattle.cstn_sentences.proofs.WordLemmas.{first_of, nothing}
 
 -- ---- one word
@@ -70,12 +70,12 @@ unfolding words_after
 after_space line = refl
 
 -- words with one space between them are read as these words
-pub words_back : (word : List ℕ) (words : Words) → IsOneWord word → All IsOneWord words → words_of (word ++ spaced words) ≡ word ∷ words
+pub words_back : (word : List ℕ) (words : Words) → IsOneWord word → All IsOneWord words → words_of (word ++ spaced_words words) ≡ word ∷ words
 words_back word [] one all = one [] tt ∙ ap (λ (ws : Words). word ∷ ws) nothing
 words_back word (next ∷ words) one all =
-    one (spaced (next ∷ words)) refl
+    one (spaced_words (next ∷ words)) refl
     ∙ ap (λ (ws : Words). word ∷ ws)
-    (after_space (next ++ spaced words) ∙ words_back next words (All-head IsOneWord next words all) (All-tail IsOneWord next words all))
+    (after_space (next ++ spaced_words words) ∙ words_back next words (All-head IsOneWord next words all) (All-tail IsOneWord next words all))
 
 -- ---- names
 

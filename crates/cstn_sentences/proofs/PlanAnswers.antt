@@ -23,49 +23,49 @@ use Rattle.cstn_sentences.specs.declared.errors.PlanError.{PlanError}
 use Rattle.cstn_sentences.specs.Declarations.{Declared}
 use Rattle.cstn_sentences.specs.Meaning.{Meaning}
 use Rattle.cstn_sentences.specs.Drawn.{graph_of}
-use Rattle.cstn_sentences.specs.Plans.{parts_of}
-use Rattle.cstn_sentences.specs.Planned.{IsPlan, RefusesPlan, IsNetTold, IsLabelTold}
+use Rattle.cstn_sentences.specs.Plans.{plan_parts}
+use Rattle.cstn_sentences.specs.Planned.{IsFitPlan, RefusesPlan, IsPlanNetTold, IsLabelTold}
 
 -- the program keeps this graph of a plan with these parts
 module _ (n : ℕ) (d : Declared) (m : Meaning) (g : LentGraph) (drawn : IsDrawnGraph (graph_of d m)) (seen : graph_seen g ≡ kept (graph_of d m)) where
   pub as_kept : IsKeptOf (graph_of d m) g
   as_kept = record { kept_is = sym seen; drawn = drawn }
 
-  pub plan_unfit : (error : NetError) (names : List (List ℕ)) (e : PlanError) → names ≡ g.names → IsNetRefusal (builder_of n g) error → IsNetTold error names e → RefusesPlan (Ok (parts_of n d m)) e
-  plan_unfit error names e named h (inl memory) = subst (RefusesPlan (Ok (parts_of n d m))) (sym memory.2) tt
+  pub plan_unfit : (error : NetError) (names : List (List ℕ)) (e : PlanError) → names ≡ g.names → IsNetRefusal (builder_of n g) error → IsPlanNetTold error names e → RefusesPlan (Ok (plan_parts n d m)) e
+  plan_unfit error names e named h (inl memory) = subst (RefusesPlan (Ok (plan_parts n d m))) (sym memory.2) tt
   plan_unfit error names e named h (inr fault) =
-      subst (RefusesPlan (Ok (parts_of n d m))) (sym fault.1)
+      subst (RefusesPlan (Ok (plan_parts n d m))) (sym fault.1)
       (record {
-        parts = parts_of n d m;
+        parts = plan_parts n d m;
         told_are = refl;
         unfit = kept_unfit n (graph_of d m) g as_kept error (lowest_of (builder_of n g) error h fault.0);
         names_are = named ∙ sym (same_names (graph_of d m) g as_kept);
       })
 
   module _ (network : NetworkParts) (built : IsBuilt (builder_of n g) network) (good : IsWellFormed (the_network network)) where
-    whole : graph_parts n (graph_seen g) ≡ parts_of n d m
+    whole : graph_parts n (graph_seen g) ≡ plan_parts n d m
     whole = ap (graph_parts n) (sym (built_whole (graph_of d m) g as_kept n network built good))
 
     pub plan_fit : (labelled : LabelledParts) (names : List (List ℕ)) → the_labelled labelled ≡ with_labels_of network g → names ≡ g.names → IsLabelled (the_labelled labelled)
-        → ((error : LiftError) → HasLiftFault (with_labels_of network g) error → ⊥) → IsPlan (Ok (parts_of n d m)) (the_labelled labelled) names
+        → ((error : LiftError) → HasLiftFault (with_labels_of network g) error → ⊥) → IsFitPlan (Ok (plan_parts n d m)) (the_labelled labelled) names
     plan_fit labelled names same named in_order none = record {
-      parts = parts_of n d m;
+      parts = plan_parts n d m;
       told_are = refl;
       fit = subst IsFit whole (made_fit n g network built labelled same in_order none);
       labelled_is = same ∙ labels_made n g network built ∙ ap labelled_of whole;
       names_are = named ∙ sym (same_names (graph_of d m) g as_kept);
     }
 
-    pub plan_mislabelled : (fault : DocError) (e : PlanError) → IsLabelRefusal (with_labels_of network g) g.names fault → IsLabelTold fault e → RefusesPlan (Ok (parts_of n d m)) e
+    pub plan_mislabelled : (fault : DocError) (e : PlanError) → IsLabelRefusal (with_labels_of network g) g.names fault → IsLabelTold fault e → RefusesPlan (Ok (plan_parts n d m)) e
     plan_mislabelled (DocLift error names) e h told =
-        subst (RefusesPlan (Ok (parts_of n d m))) (sym told)
+        subst (RefusesPlan (Ok (plan_parts n d m))) (sym told)
         (record {
-          parts = parts_of n d m;
+          parts = plan_parts n d m;
           told_are = refl;
           mislabelled = subst (λ (p : Parts). IsMislabelled p error) whole (made_mislabelled n g network built error good h.0);
           names_are = h.1 ∙ sym (same_names (graph_of d m) g as_kept);
         })
-    plan_mislabelled (DocMemory x) e h told = subst (RefusesPlan (Ok (parts_of n d m))) (sym told) tt
+    plan_mislabelled (DocMemory x) e h told = subst (RefusesPlan (Ok (plan_parts n d m))) (sym told) tt
     plan_mislabelled (NotUtf8 at) e h told = absurd h
     plan_mislabelled (Shape at) e h told = absurd h
     plan_mislabelled (NameTwice at) e h told = absurd h

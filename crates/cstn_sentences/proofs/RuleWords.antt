@@ -12,15 +12,15 @@ use Rattle.cstn_sentences.specs.declared.lines.Range.{Range}
 use Rattle.cstn_sentences.specs.declared.lines.Says.{Says}
 use Rattle.cstn_sentences.specs.declared.lines.Says.TheVariants.{At, By, Between, ByAfter, Within, NotBefore, Together}
 use Rattle.cstn_sentences.specs.Spelling.{spelling}
-use Rattle.cstn_sentences.specs.WrittenWords.{IsWritten}
+use Rattle.cstn_sentences.specs.WrittenWords.{IsWrittenWord}
 use Rattle.cstn_sentences.specs.Printed.{span_word, range_word, label_words, reaction_words, observed_words, says_words}
-use Rattle.cstn_sentences.specs.Sentences.{ticks, literal, literals_below, literals, since_words, observed_after}
+use Rattle.cstn_sentences.specs.Sentences.{ticks, literal_of_mark, literals_below, literals_of_label, since_words, observed_after}
 use Rattle.cstn_sentences.proofs.SpelledWords.{spelled_is_written}
 use Rattle.cstn_sentences.proofs.LineWords.{plain_word, span_is_word, letter_is_word, AreWords, one_more, no_words, HasWord, label_are}
 
 -- ---- labels
 
-of_mark : (p : ℕ) (m : Mark) → p < 52 → All HasWord (literal (letter_of p) m)
+of_mark : (p : ℕ) (m : Mark) → p < 52 → All HasWord (literal_of_mark (letter_of p) m)
 of_mark p Absent small = All-nil HasWord
 of_mark p Yes small = All-cons HasWord (record { prop = letter_of p ∷ []; holds = true }) [] (letter_is_word p small) (All-nil HasWord)
 of_mark p No small = All-cons HasWord (record { prop = letter_of p ∷ []; holds = false }) [] (letter_is_word p small) (All-nil HasWord)
@@ -30,24 +30,25 @@ literals_have : (a : Label) (n : ℕ) → n ≤ 52 → All HasWord (literals_bel
 unfolding literals_below
 literals_have a zero few = All-nil HasWord
 literals_have a (suc n) few =
-    All-append HasWord (literals_below a n) (literal (letter_of n) (a n)) (literals_have a n (omega (arith, few))) (of_mark n (a n) (omega (arith, few)))
+    All-append HasWord (literals_below a n) (literal_of_mark (letter_of n) (a n)) (literals_have a n (omega (arith, few)))
+    (of_mark n (a n) (omega (arith, few)))
 
-pub label_is : (a : Label) → AreWords (label_words (literals a))
-label_is a = label_are (literals a) (literals_have a 52 (omega arith))
+pub label_is : (a : Label) → AreWords (label_words (literals_of_label a))
+label_is a = label_are (literals_of_label a) (literals_have a 52 (omega arith))
 
 -- ---- what is said
 
 after_is : AreWords (codes "after" ∷ [])
 after_is = one_more (codes "after") [] (plain_word (codes "after") (omega arith) (omega arith) refl refl refl) no_words
 
-pub at_are : (r : Range) → IsWritten (range_word r) → AreWords (says_words (At r))
+pub at_are : (r : Range) → IsWrittenWord (range_word r) → AreWords (says_words (At r))
 at_are r one = one_more (codes "at") (range_word r ∷ []) (plain_word (codes "at") (omega arith) (omega arith) refl refl refl) (one_more (range_word r) [] one no_words)
 
 pub by_are : (v : ℤ) → is_sized v ≡ true → AreWords (says_words (By (ticks v)))
 by_are v sized =
     one_more (codes "by") (span_word (ticks v) ∷ []) (plain_word (codes "by") (omega arith) (omega arith) refl refl refl) (one_more (span_word (ticks v)) [] (span_is_word v sized) no_words)
 
-pub between_are : (r : Range) → IsWritten (range_word r) → AreWords (says_words (Between r))
+pub between_are : (r : Range) → IsWrittenWord (range_word r) → AreWords (says_words (Between r))
 between_are r one = one_more (range_word r) (codes "after" ∷ []) one after_is
 
 pub by_after_are : (v : ℤ) → is_sized v ≡ true → AreWords (says_words (ByAfter (ticks v)))
@@ -76,9 +77,9 @@ since_one names y named = one_more (spelling (slice_index_or names y [])) [] (sp
 
 -- a rule is written in words, and its line is cut into them
 pub rule_are : (names : List (List ℕ)) (x : ℕ) (says : Says) (y : Option ℕ) (label : Label) → IsName (slice_index_or names x []) → AreWords (says_words says) → AreWords (since_words names y)
-    → AreWords (says_words says ++ since_words names y ++ label_words (literals label))
+    → AreWords (says_words says ++ since_words names y ++ label_words (literals_of_label label))
 rule_are names x says y label named said since =
-    All-append IsWritten (says_words says ++ since_words names y) (label_words (literals label)) (All-append IsWritten (says_words says) (since_words names y) said since) (label_is label)
+    All-append IsWrittenWord (says_words says ++ since_words names y) (label_words (literals_of_label label)) (All-append IsWrittenWord (says_words says) (since_words names y) said since) (label_is label)
 
 -- ---- steps
 

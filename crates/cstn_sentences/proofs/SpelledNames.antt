@@ -12,7 +12,7 @@ use Rattle.cstn_markup.specs.Bytes.{when}
 use Rattle.cstn_text.specs.Names.{IsName}
 use Rattle.cstn_text.specs.PrintedNames.{is_plain_byte, printed_byte, printed_name, unprinted_after, unprinted}
 use Rattle.cstn_text.proofs.PrintedNameLemmas.{text_back, name_back as printed_back, printed_once, shape_true}
-use Rattle.cstn_sentences.specs.Spelling.{is_keyword, begins_with, has_space_or_quote, needs_quotes, quoted_byte, quoted, spelling, between_quotes, is_quoted_as, quoted_as, quoted_name, bare_name, name_of}
+use Rattle.cstn_sentences.specs.Spelling.{is_keyword, begins_with, has_space_or_quote, needs_quotes, quoted_byte, quoted, spelling, between_quotes, is_quoted_as, quoted_as, quoted_name, bare_name, name_spelled}
 
 -- ---- in quotes
 
@@ -47,7 +47,7 @@ quoted_is name is needs =
     all_true (is_utf8 name) (nat_lt 0 (length name) && nat_le (length name) 64) (needs_quotes name) (bytes_eq (quoted name) (quoted name))
     is.utf8 (shape_true (length name) is.some is.few) needs (bytes_same (quoted name))
 
-quoted_back : (name : List ℕ) → IsName name → needs_quotes name ≡ true → name_of (quoted name) ≡ Some name
+quoted_back : (name : List ℕ) → IsName name → needs_quotes name ≡ true → name_spelled (quoted name) ≡ Some name
 quoted_back name is needs = ap (λ (t : List ℕ). quoted_as t (quoted name)) (told_back name) ∙ ap (λ (b : Bool). when b name) (quoted_is name is needs)
 
 -- ---- bare
@@ -69,7 +69,7 @@ first_bare (b ∷ name) e = first_byte b (is_plain_byte b) (printed_name name) r
 pub bare_parts : (name : List ℕ) → needs_quotes name ≡ false → (has_space_or_quote name ≡ false) × (begins_with 35 name ≡ false) × (is_keyword name ≡ false)
 bare_parts name e = needs_parts (has_space_or_quote name) (begins_with 35 name) (is_keyword name) e
 
-bare_back : (name : List ℕ) → IsName name → needs_quotes name ≡ false → name_of (printed_name name) ≡ Some name
+bare_back : (name : List ℕ) → IsName name → needs_quotes name ≡ false → name_spelled (printed_name name) ≡ Some name
 bare_back name is bare =
     ap (λ (b : Bool). if b then quoted_name (printed_name name) else bare_name (printed_name name)) (first_bare name (bare_parts name bare).0)
     ∙ ap (λ (o : Option (List ℕ)). option_and_then (λ n. when (not (needs_quotes n)) n) o) (printed_back name is)
@@ -84,12 +84,12 @@ pub spelled_bare : (name : List ℕ) → needs_quotes name ≡ false → spellin
 spelled_bare name e = ap (λ (b : Bool). if b then quoted name else printed_name name) e
 
 -- the spelling of a name is read as the name
-pub name_back : (name : List ℕ) → IsName name → name_of (spelling name) ≡ Some name
+pub name_back : (name : List ℕ) → IsName name → name_spelled (spelling name) ≡ Some name
 name_back name is = at (needs_quotes name) refl
   where
-    at : (needs : Bool) → needs_quotes name ≡ needs → name_of (spelling name) ≡ Some name
-    at true e = ap name_of (spelled_quoted name e) ∙ quoted_back name is e
-    at false e = ap name_of (spelled_bare name e) ∙ bare_back name is e
+    at : (needs : Bool) → needs_quotes name ≡ needs → name_spelled (spelling name) ≡ Some name
+    at true e = ap name_spelled (spelled_quoted name e) ∙ quoted_back name is e
+    at false e = ap name_spelled (spelled_bare name e) ∙ bare_back name is e
 
 -- ---- the spelling of a name is no keyword
 

@@ -18,8 +18,8 @@ use Rattle.cstn_text.proofs.PrintedNameLemmas.{printed_utf8, name_length}
 use Rattle.cstn_sentences.specs.Spelling.{begins_with, needs_quotes, quoted_byte, quoted, spelling}
 use Rattle.cstn_sentences.specs.Words.{words_of, is_closed}
 use Rattle.cstn_sentences.specs.Grammar.{Words}
-use Rattle.cstn_sentences.specs.Printed.{spaced}
-use Rattle.cstn_sentences.specs.WrittenWords.{IsOneWord, IsWritten}
+use Rattle.cstn_sentences.specs.Printed.{spaced_words}
+use Rattle.cstn_sentences.specs.WrittenWords.{IsOneWord, IsWrittenWord}
 use Rattle.cstn_sentences.proofs.SpelledNames.{first_bare, bare_parts, spelled_quoted, spelled_bare}
 use Rattle.cstn_sentences.proofs.OneWord.{quoted_is_word, part_word, no_comment, words_back}
 use Rattle.cstn_sentences.proofs.WrittenNumbers.{free_of}
@@ -35,7 +35,7 @@ no_quote_closed : (text : List ℕ) → begins_with 34 text ≡ false → is_clo
 no_quote_closed [] e = refl
 no_quote_closed (b ∷ text) e = rw e refl
 
-bare_written : (name : List ℕ) → IsName name → needs_quotes name ≡ false → IsWritten (printed_name name)
+bare_written : (name : List ℕ) → IsName name → needs_quotes name ≡ false → IsWrittenWord (printed_name name)
 bare_written name is e =
     let bare = bare_parts name e in
     let part : IsOnePart (printed_name name) = name_part name is.some in
@@ -145,7 +145,7 @@ quoted_utf8 name text =
     let quote : IsUtf8 (34 ∷ []) = IsUtf8-from_ascii (34 ∷ []) (small_text (34 ∷ []) refl) in
     IsUtf8-append (34 ∷ flat_map quoted_byte name) (34 ∷ []) (IsUtf8-append (34 ∷ []) (flat_map quoted_byte name) quote inner) quote
 
-quoted_written : (name : List ℕ) → IsName name → IsWritten (quoted name)
+quoted_written : (name : List ℕ) → IsName name → IsWrittenWord (quoted name)
 quoted_written name is = record {
   one = quoted_is_word name;
   few = quoted_few name is.few;
@@ -157,17 +157,17 @@ quoted_written name is = record {
 -- ---- both
 
 -- the spelling of a name is a word
-pub spelled_is_written : (name : List ℕ) → IsName name → IsWritten (spelling name)
+pub spelled_is_written : (name : List ℕ) → IsName name → IsWrittenWord (spelling name)
 spelled_is_written name is = at (needs_quotes name) refl
   where
-    at : (needs : Bool) → needs_quotes name ≡ needs → IsWritten (spelling name)
-    at true e = subst IsWritten (sym (spelled_quoted name e)) (quoted_written name is)
-    at false e = subst IsWritten (sym (spelled_bare name e)) (bare_written name is e)
+    at : (needs : Bool) → needs_quotes name ≡ needs → IsWrittenWord (spelling name)
+    at true e = subst IsWrittenWord (sym (spelled_quoted name e)) (quoted_written name is)
+    at false e = subst IsWrittenWord (sym (spelled_bare name e)) (bare_written name is e)
 
-ones : (words : Words) → All IsWritten words → All IsOneWord words
+ones : (words : Words) → All IsWrittenWord words → All IsOneWord words
 ones [] all = All-nil IsOneWord
-ones (word ∷ words) all = All-cons IsOneWord word words (All-head IsWritten word words all).one (ones words (All-tail IsWritten word words all))
+ones (word ∷ words) all = All-cons IsOneWord word words (All-head IsWrittenWord word words all).one (ones words (All-tail IsWrittenWord word words all))
 
 -- written words with one space between them are read as these words
-pub written_back : (word : List ℕ) (words : Words) → IsWritten word → All IsWritten words → words_of (word ++ spaced words) ≡ word ∷ words
+pub written_back : (word : List ℕ) (words : Words) → IsWrittenWord word → All IsWrittenWord words → words_of (word ++ spaced_words words) ≡ word ∷ words
 written_back word words one all = words_back word words one.one (ones words all)

@@ -12,27 +12,28 @@ use Rattle.cstn_text.proofs.CutLemmas.{cut_back}
 use Rattle.cstn_text.proofs.SplitLemmas.{parts_cut}
 use Rattle.cstn_text.proofs.ReadingLemmas.{IsFree}
 use Rattle.cstn_sentences.specs.Judged.{is_sized}
-use Rattle.cstn_sentences.specs.Lines.{Step, Rule, step, rule}
-use Rattle.cstn_sentences.specs.Words.{lines_of, cut_lines}
+use Rattle.cstn_sentences.specs.Lines.{PlanStep, Rule, step, rule}
+use Rattle.cstn_sentences.specs.Words.{plan_lines, cut_lines}
 use Rattle.cstn_sentences.specs.Grammar.{Words}
-use Rattle.cstn_sentences.specs.Printed.{spaced, line_text, deadline_words, step_words, rule_words}
-use Rattle.cstn_sentences.specs.Sentences.{ticks, has_step, step_of, steps_below, is_pair, is_paired, pair_rule, alone_rule, next_rule, rules_after, steps_text, rules_text, sentences}
-use Rattle.cstn_sentences.specs.WrittenWords.{IsWritten, line_bytes, IsReadAs, network_lines}
+use Rattle.cstn_sentences.specs.Printed.{spaced_words, line_text, deadline_words, step_words, rule_words}
+use Rattle.cstn_sentences.specs.Sentences.{ticks, has_step, step_of, steps_below, is_pair, is_paired, pair_rule, alone_rule, next_rule, rules_after, step_lines_text, rules_text, sentences}
+use Rattle.cstn_sentences.specs.WrittenWords.{IsWrittenWord, line_bytes, IsReadAsLine, network_lines}
 use Rattle.cstn_sentences.proofs.WrittenSteps.{point_back, deadline_back}
 use Rattle.cstn_sentences.proofs.WrittenForms.{alone_back, pair_back}
 
 -- ---- a text of lines
 
-spaced_lone : (words : Words) → All IsWritten words → IsFree (spaced words)
+spaced_lone : (words : Words) → All IsWrittenWord words → IsFree (spaced_words words)
 spaced_lone [] all = All-nil (λ b. b ≢ 10)
 spaced_lone (word ∷ words) all =
-    All-cons (λ b. b ≢ 10) 32 (word ++ spaced words) (λ same. absurd (omega (arith, same)))
-    (All-append (λ b. b ≢ 10) word (spaced words) (All-head IsWritten word words all).lone (spaced_lone words (All-tail IsWritten word words all)))
+    All-cons (λ b. b ≢ 10) 32 (word ++ spaced_words words) (λ same. absurd (omega (arith, same)))
+    (All-append (λ b. b ≢ 10) word (spaced_words words) (All-head IsWrittenWord word words all).lone
+    (spaced_lone words (All-tail IsWrittenWord word words all)))
 
-line_lone : (words : Words) → All IsWritten words → IsFree (line_bytes words)
+line_lone : (words : Words) → All IsWrittenWord words → IsFree (line_bytes words)
 line_lone [] all = All-nil (λ b. b ≢ 10)
 line_lone (word ∷ words) all =
-    All-append (λ b. b ≢ 10) word (spaced words) (All-head IsWritten word words all).lone (spaced_lone words (All-tail IsWritten word words all))
+    All-append (λ b. b ≢ 10) word (spaced_words words) (All-head IsWrittenWord word words all).lone (spaced_lone words (All-tail IsWrittenWord word words all))
 
 text_of : (words : Words) → line_text words ≡ line_bytes words ++ (10 ∷ [])
 text_of [] = refl
@@ -45,17 +46,17 @@ no_text : parts_at 10 [] ≡ ([], [])
 unfolding parts_at
 no_text = refl
 
-text_cut : (lines : List Words) → All (λ words. All IsWritten words) lines → parts_at 10 (flat_map line_text lines) ≡ (map line_bytes lines, [])
+text_cut : (lines : List Words) → All (λ words. All IsWrittenWord words) lines → parts_at 10 (flat_map line_text lines) ≡ (map line_bytes lines, [])
 text_cut [] all = no_text
 text_cut (words ∷ lines) all =
     ap (λ (t : List ℕ). parts_at 10 (t ++ flat_map line_text lines)) (text_of words)
-    ∙ line_cut (line_bytes words) (flat_map line_text lines) (line_lone words (All-head (λ ws. All IsWritten ws) words lines all))
-    ∙ ap {B = Parts} (λ (p : Parts). (line_bytes words ∷ p.0, p.1)) (text_cut lines (All-tail (λ ws. All IsWritten ws) words lines all))
+    ∙ line_cut (line_bytes words) (flat_map line_text lines) (line_lone words (All-head (λ ws. All IsWrittenWord ws) words lines all))
+    ∙ ap {B = Parts} (λ (p : Parts). (line_bytes words ∷ p.0, p.1)) (text_cut lines (All-tail (λ ws. All IsWrittenWord ws) words lines all))
 
 -- ---- steps
 
-abbrev IsStepRead : Step → Type 0
-IsStepRead s = IsReadAs (step_words s) (step s)
+abbrev IsStepRead : PlanStep → Type 0
+IsStepRead s = IsReadAsLine (step_words s) (step s)
 
 -- the first n time-points have names
 abbrev pub AreNamed : List (List ℕ) → ℕ → Type 0
@@ -77,7 +78,7 @@ steps_are m names (suc n) well named =
 
 -- a rule is read from its line
 abbrev pub IsRuleRead : Rule → Type 0
-IsRuleRead r = IsReadAs (rule_words r) (rule r)
+IsRuleRead r = IsReadAsLine (rule_words r) (rule r)
 
 -- a constraint between time-points with names, with its value in range
 pub record IsNamed (names : List (List ℕ)) (c : Constraint) : Type 0 where
@@ -122,23 +123,24 @@ each_text words (x ∷ xs) = ap (λ (t : List ℕ). line_text (words x) ++ t) (e
 whole_text : (m : Labelled) (names : List (List ℕ)) → sentences m names ≡ flat_map line_text (network_lines m names)
 whole_text m names =
     let first : List ℕ = line_text (deadline_words (ticks (pos m.base.deadline))) in
-    let steps : List Step = steps_below m names (count m.base) in
+    let steps : List PlanStep = steps_below m names (count m.base) in
     let rules : List Rule = rules_after names 0 m.base.constraints in
-    let later : flat_map line_text (map step_words steps ++ map rule_words rules) ≡ steps_text m names (count m.base) ++ rules_text names m.base.constraints =
+    let later : flat_map line_text (map step_words steps ++ map rule_words rules)
+    ≡ step_lines_text m names (count m.base) ++ rules_text names m.base.constraints =
     flat_map-append line_text (map step_words steps) (map rule_words rules)
     ∙ ap (λ (t : List ℕ). t ++ flat_map line_text (map rule_words rules)) (each_text step_words steps)
-    ∙ ap (λ (t : List ℕ). steps_text m names (count m.base) ++ t) (each_text rule_words rules) in
-    append_assoc first (steps_text m names (count m.base)) (rules_text names m.base.constraints) ∙ ap (λ (t : List ℕ). first ++ t) (sym later)
+    ∙ ap (λ (t : List ℕ). step_lines_text m names (count m.base) ++ t) (each_text rule_words rules) in
+    append_assoc first (step_lines_text m names (count m.base)) (rules_text names m.base.constraints) ∙ ap (λ (t : List ℕ). first ++ t) (sym later)
 
-written_steps : (ss : List Step) → All IsStepRead ss → All (λ ws. All IsWritten ws) (map step_words ss)
-written_steps [] all = All-nil (λ ws. All IsWritten ws)
+written_steps : (ss : List PlanStep) → All IsStepRead ss → All (λ ws. All IsWrittenWord ws) (map step_words ss)
+written_steps [] all = All-nil (λ ws. All IsWrittenWord ws)
 written_steps (s ∷ ss) all =
-    All-cons (λ ws. All IsWritten ws) (step_words s) (map step_words ss) (All-head IsStepRead s ss all).written (written_steps ss (All-tail IsStepRead s ss all))
+    All-cons (λ ws. All IsWrittenWord ws) (step_words s) (map step_words ss) (All-head IsStepRead s ss all).written (written_steps ss (All-tail IsStepRead s ss all))
 
-written_rules : (rs : List Rule) → All IsRuleRead rs → All (λ ws. All IsWritten ws) (map rule_words rs)
-written_rules [] all = All-nil (λ ws. All IsWritten ws)
+written_rules : (rs : List Rule) → All IsRuleRead rs → All (λ ws. All IsWrittenWord ws) (map rule_words rs)
+written_rules [] all = All-nil (λ ws. All IsWrittenWord ws)
 written_rules (r ∷ rs) all =
-    All-cons (λ ws. All IsWritten ws) (rule_words r) (map rule_words rs) (All-head IsRuleRead r rs all).written (written_rules rs (All-tail IsRuleRead r rs all))
+    All-cons (λ ws. All IsWrittenWord ws) (rule_words r) (map rule_words rs) (All-head IsRuleRead r rs all).written (written_rules rs (All-tail IsRuleRead r rs all))
 
 -- a deadline is sized
 pub deadline_sized : (n : ℕ) → n ≤ most_deadline → is_sized (pos n) ≡ true
@@ -150,14 +152,14 @@ all_named m names ok each x inside = All-get_or IsName names x [] (omega (arith,
 
 -- the sentences of a network are cut into its lines; the last one, behind the last LF, is empty
 pub sentences_cut : (m : Labelled) (names : List (List ℕ)) → IsWellFormed m.base → AreNames names → length names ≡ count m.base
-    → lines_of (sentences m names) ≡ map line_bytes (network_lines m names) ++ ([] ∷ [])
+    → plan_lines (sentences m names) ≡ map line_bytes (network_lines m names) ++ ([] ∷ [])
 sentences_cut m names well ok each =
     let named : AreNamed names (count m.base) = all_named m names ok each in
     let first : List (List ℕ) = deadline_words (ticks (pos m.base.deadline)) in
     let steps : List Words = map step_words (steps_below m names (count m.base)) in
     let rules : List Words = map rule_words (rules_after names 0 m.base.constraints) in
-    let written : All (λ ws. All IsWritten ws) (network_lines m names) =
-    All-cons (λ ws. All IsWritten ws) first (steps ++ rules) (deadline_back m.base.deadline (deadline_sized m.base.deadline well.in_time)).written
-    (All-append (λ ws. All IsWritten ws) steps rules (written_steps (steps_below m names (count m.base)) (steps_are m names (count m.base) well named))
+    let written : All (λ ws. All IsWrittenWord ws) (network_lines m names) =
+    All-cons (λ ws. All IsWrittenWord ws) first (steps ++ rules) (deadline_back m.base.deadline (deadline_sized m.base.deadline well.in_time)).written
+    (All-append (λ ws. All IsWrittenWord ws) steps rules (written_steps (steps_below m names (count m.base)) (steps_are m names (count m.base) well named))
     (written_rules (rules_after names 0 m.base.constraints) (rules_are names 0 m.base.constraints (named_constraints m.base names m.base.constraints named well.network.constraints well.values)))) in
     ap (λ (t : List ℕ). cut_lines (parts_at 10 t)) (whole_text m names) ∙ ap cut_lines (text_cut (network_lines m names) written)

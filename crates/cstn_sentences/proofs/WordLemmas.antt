@@ -3,7 +3,7 @@ use Rattle.std.proofs.Common.{◌≡◌, ℕ, zero, suc, ◌+◌, ◌-◌, ◌�
 use Rattle.std.proofs.lemmas.List.{drop_all, take_all}
 use Rattle.std.specs.List.{prefix_len}
 use Rattle.cstn_markup.specs.Bytes.{is_white, past_white}
-use Rattle.cstn_sentences.specs.Words.{word_len, word_at, passed, words_after, words_of}
+use Rattle.cstn_sentences.specs.Words.{word_len, word_at, passed_bytes, words_after, words_of}
 
 -- the words behind the bytes that are passed over
 pub words_skip : (n : ℕ) (bytes : List ℕ) → words_after n bytes ≡ words_of (drop n bytes)
@@ -87,19 +87,19 @@ word_some b rest w = at (b == 34) refl
 here : (b : ℕ) (rest : List ℕ) → is_white b ≡ false → (b == 35) ≡ false → word_at (b ∷ rest) ≡ take (word_len (b ∷ rest)) (b ∷ rest) ∷ []
 here b rest w hash = rw w (rw hash refl)
 
-behind : (b : ℕ) (rest : List ℕ) → is_white b ≡ false → (b == 35) ≡ false → passed (b ∷ rest) ≡ word_len (b ∷ rest) - 1
+behind : (b : ℕ) (rest : List ℕ) → is_white b ≡ false → (b == 35) ≡ false → passed_bytes (b ∷ rest) ≡ word_len (b ∷ rest) - 1
 behind b rest w hash = rw w (rw hash refl)
 
-opened : (b : ℕ) (rest : List ℕ) → words_of (b ∷ rest) ≡ word_at (b ∷ rest) ++ words_after (passed (b ∷ rest)) rest
+opened : (b : ℕ) (rest : List ℕ) → words_of (b ∷ rest) ≡ word_at (b ∷ rest) ++ words_after (passed_bytes (b ∷ rest)) rest
 unfolding words_after
 opened b rest = refl
 
 -- the word of the first n + 1 bytes, and the words behind it
-told : (b : ℕ) (rest : List ℕ) (n : ℕ) → word_at (b ∷ rest) ≡ take (suc n) (b ∷ rest) ∷ [] → passed (b ∷ rest) ≡ n
+told : (b : ℕ) (rest : List ℕ) (n : ℕ) → word_at (b ∷ rest) ≡ take (suc n) (b ∷ rest) ∷ [] → passed_bytes (b ∷ rest) ≡ n
     → words_of (b ∷ rest) ≡ take (suc n) (b ∷ rest) ∷ words_of (drop (suc n) (b ∷ rest))
 told b rest n word skip =
     opened b rest
-    ∙ ap (λ ws. ws ++ words_after (passed (b ∷ rest)) rest) word
+    ∙ ap (λ ws. ws ++ words_after (passed_bytes (b ∷ rest)) rest) word
     ∙ ap (λ k. (take (suc n) (b ∷ rest) ∷ []) ++ words_after k rest) skip
     ∙ ap (λ ws. take (suc n) (b ∷ rest) ∷ ws) (words_skip n rest)
 
@@ -107,7 +107,7 @@ pub first_of : (b : ℕ) (rest : List ℕ) → is_white b ≡ false → (b == 35
     → words_of (b ∷ rest) ≡ take (word_len (b ∷ rest)) (b ∷ rest) ∷ words_of (drop (word_len (b ∷ rest)) (b ∷ rest))
 first_of b rest w hash = at (word_len (b ∷ rest)) (word_some b rest w) (here b rest w hash) (behind b rest w hash)
   where
-    at : (n : ℕ) → 1 ≤ n → word_at (b ∷ rest) ≡ take n (b ∷ rest) ∷ [] → passed (b ∷ rest) ≡ n - 1
+    at : (n : ℕ) → 1 ≤ n → word_at (b ∷ rest) ≡ take n (b ∷ rest) ∷ [] → passed_bytes (b ∷ rest) ≡ n - 1
         → words_of (b ∷ rest) ≡ take n (b ∷ rest) ∷ words_of (drop n (b ∷ rest))
     at zero some word skip = absurd (omega (arith, some))
     at (suc n) some word skip = told b rest n word (skip ∙ (let h : suc n - 1 ≡ n = omega arith in h))

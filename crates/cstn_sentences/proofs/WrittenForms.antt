@@ -13,11 +13,11 @@ use Rattle.cstn_sentences.specs.declared.lines.Says.{Says}
 use Rattle.cstn_sentences.specs.declared.lines.Says.TheVariants.{At, By, Between, ByAfter, Within, NotBefore, Together}
 use Rattle.cstn_sentences.specs.Lines.{Rule, rule}
 use Rattle.cstn_sentences.specs.Spans.{range_read}
-use Rattle.cstn_sentences.specs.Grammar.{Words, rule_read}
-use Rattle.cstn_sentences.specs.Printed.{spaced, range_word, label_words, says_words, rule_words}
+use Rattle.cstn_sentences.specs.Grammar.{Words, point_rule_read}
+use Rattle.cstn_sentences.specs.Printed.{spaced_words, range_word, label_words, says_words, rule_words}
 use Rattle.cstn_sentences.specs.Spelling.{spelling}
-use Rattle.cstn_sentences.specs.WrittenWords.{IsWritten, IsReadAs}
-use Rattle.cstn_sentences.specs.Sentences.{ticks, from_to, from_on, literals, since_words, rule_of, counted_from, range_says, least_says, is_same_label, is_range, are_turned, are_one_range, is_pair, pair_rule, alone_rule}
+use Rattle.cstn_sentences.specs.WrittenWords.{IsWrittenWord, IsReadAsLine}
+use Rattle.cstn_sentences.specs.Sentences.{ticks, from_to, from_on, literals_of_label, since_words, rule_of, counted_from, range_says, least_says, is_same_label, is_range, are_turned, are_one_range, is_pair, pair_rule, alone_rule}
 use Rattle.cstn_sentences.proofs.WrittenNumbers.{three_true, from_back, to_back, single_back}
 use Rattle.cstn_sentences.proofs.WrittenLines.{label_literals, at_line, by_line, by_after_line, within_line, not_before_line, together_line, between_line, rule_line}
 use Rattle.cstn_sentences.proofs.LineWords.{range_is_word, from_is_word, AreWords, one_more}
@@ -27,7 +27,7 @@ use Rattle.cstn_sentences.proofs.SpelledWords.{spelled_is_written, written_back}
 
 -- the line of a rule is read as that rule
 abbrev pub IsReadBack : List (List ℕ) → ℕ → Option ℕ → Label → Says → Type 0
-IsReadBack names x y label says = IsReadAs (rule_words (rule_of names x says y label)) (rule (rule_of names x says y label))
+IsReadBack names x y label says = IsReadAsLine (rule_words (rule_of names x says y label)) (rule (rule_of names x says y label))
 
 abbrev pub HasName : List (List ℕ) → ℕ → Type 0
 HasName names x = IsName (slice_index_or names x [])
@@ -66,20 +66,21 @@ abbrev point_of : List (List ℕ) → ℕ → Point
 point_of names x = record { name = slice_index_or names x []; side = Alone }
 
 form : (names : List (List ℕ)) (x : ℕ) (says : Says) (y : Option ℕ) (label : Label) → HasName names x → AreWords (says_words says) → AreWords (since_words names y) → is_said says ≡ true
-    → rule_read (point_of names x) (says_words says ++ since_words names y ++ label_words (literals label)) ≡ Ok (rule (rule_of names x says y label))
+    → point_rule_read (point_of names x) (says_words says ++ since_words names y ++ label_words (literals_of_label label))
+    ≡ Ok (rule (rule_of names x says y label))
     → IsReadBack names x y label says
 form names x says y label named said since numbered read =
     let name : List ℕ = slice_index_or names x [] in
-    let behind : Words = says_words says ++ since_words names y ++ label_words (literals label) in
+    let behind : Words = says_words says ++ since_words names y ++ label_words (literals_of_label label) in
     let words : AreWords behind = rule_are names x says y label named said since in
-    let first : IsWritten (spelling name) = spelled_is_written name named in
+    let first : IsWrittenWord (spelling name) = spelled_is_written name named in
     record {
       written = one_more (spelling name) behind first words;
       short = omega (
         arith,
-        length-append (spelling name) (spaced behind),
+        length-append (spelling name) (spaced_words behind),
         first.few,
-        spaced_both (says_words says ++ since_words names y) (label_words (literals label)),
+        spaced_both (says_words says ++ since_words names y) (label_words (literals_of_label label)),
         spaced_both (says_words says) (since_words names y),
         words_few (says_words says) said,
         words_few (since_words names y) since,
@@ -108,22 +109,22 @@ chosen_back : (names : List (List ℕ)) (x y : ℕ) (label : Label) (a b : ℤ) 
     → int_le (pos 0) a ≡ true → int_le a b ≡ true → IsReadBack names x (Some y) label (chosen same none a b)
 chosen_back names x y label a b true true named since first last above order =
     form names x Together (Some y) label named together_are (since_one names y since) refl
-    (together_line (point_of names x) (slice_index_or names y []) (literals label) since (label_literals label))
+    (together_line (point_of names x) (slice_index_or names y []) (literals_of_label label) since (label_literals label))
 chosen_back names x y label a b true false named since first last above order =
     form names x (Between (from_to a b)) (Some y) label named (between_are (from_to a b) (range_is_word a b first last)) (since_one names y since) (between_numbered a b first last order)
-    (between_line (point_of names x) (from_to a b) a (slice_index_or names y []) (literals label) refl first (range_back a b first last order) since (label_literals label))
+    (between_line (point_of names x) (from_to a b) a (slice_index_or names y []) (literals_of_label label) refl first (range_back a b first last order) since (label_literals label))
 chosen_back names x y label a b false true named since first last above order =
     form names x (Within (ticks b)) (Some y) label named (within_are b last) (since_one names y since) last
-    (within_line (point_of names x) b (slice_index_or names y []) (literals label) last (le_next a b above order) since (label_literals label))
+    (within_line (point_of names x) b (slice_index_or names y []) (literals_of_label label) last (le_next a b above order) since (label_literals label))
 chosen_back names x y label a b false false named since first last above order =
     form names x (Between (from_to a b)) (Some y) label named (between_are (from_to a b) (range_is_word a b first last)) (since_one names y since) (between_numbered a b first last order)
-    (between_line (point_of names x) (from_to a b) a (slice_index_or names y []) (literals label) refl first (range_back a b first last order) since (label_literals label))
+    (between_line (point_of names x) (from_to a b) a (slice_index_or names y []) (literals_of_label label) refl first (range_back a b first last order) since (label_literals label))
 
 range_rule_back : (names : List (List ℕ)) (x y : ℕ) (label : Label) (a b : ℤ) → HasName names x → HasName names y → is_sized a ≡ true → is_sized b ≡ true
     → int_le (pos 0) a ≡ true → int_le a b ≡ true → IsReadBack names x (counted_from y) label (range_says (counted_from y) a b)
 range_rule_back names x zero label a b named since first last above order =
     form names x (At (from_to a b)) None label named (at_are (from_to a b) (range_is_word a b first last)) (since_none names) (at_numbered a b first last)
-    (at_line (point_of names x) (from_to a b) (literals label) (range_back a b first last order) (label_literals label))
+    (at_line (point_of names x) (from_to a b) (literals_of_label label) (range_back a b first last order) (label_literals label))
 range_rule_back names x (suc y) label a b named since first last above order =
     chosen_back names x (suc y) label a b (int_le b a) (int_le a (pos 0)) named since first last above order
 
@@ -132,7 +133,7 @@ range_parts least most e = and_parts (int_le least (pos 0)) (int_le (neg_ℤ lea
 
 -- the rule of a pair is read back
 pub pair_back : (names : List (List ℕ)) (c d : Constraint) → HasName names c.from → HasName names c.to → IsValue c.most → IsValue d.most → is_pair c d ≡ true
-    → IsReadAs (rule_words (pair_rule names c d)) (rule (pair_rule names c d))
+    → IsReadAsLine (rule_words (pair_rule names c d)) (rule (pair_rule names c d))
 pair_back names c d from to value other pair =
     let range = range_parts c.most d.most (and_parts (is_same_label c.label d.label) (is_range c.most d.most) (and_parts (are_turned c d) (are_one_range c d) pair).1).1 in
     range_rule_back names c.from c.to c.label (neg_ℤ c.most) d.most from to (negated_sized c.most value) (value_sized d.most other) (negated_up c.most range.0) range.1
@@ -143,27 +144,28 @@ least_at : (names : List (List ℕ)) (x y : ℕ) (label : Label) (a : ℤ) (none
     → IsReadBack names x (Some y) label (if none then NotBefore else Between (from_on a))
 least_at names x y label a true named since sized =
     form names x NotBefore (Some y) label named not_before_are (since_one names y since) refl
-    (not_before_line (point_of names x) (slice_index_or names y []) (literals label) since (label_literals label))
+    (not_before_line (point_of names x) (slice_index_or names y []) (literals_of_label label) since (label_literals label))
 least_at names x y label a false named since sized =
     form names x (Between (from_on a)) (Some y) label named (between_are (from_on a) (from_is_word a sized)) (since_one names y since) (from_numbered a sized)
-    (between_line (point_of names x) (from_on a) a (slice_index_or names y []) (literals label) refl sized (from_back a sized) since (label_literals label))
+    (between_line (point_of names x) (from_on a) a (slice_index_or names y []) (literals_of_label label) refl sized (from_back a sized) since
+    (label_literals label))
 
 least_rule_back : (names : List (List ℕ)) (x y : ℕ) (label : Label) (a : ℤ) → HasName names x → HasName names y → is_sized a ≡ true
     → IsReadBack names x (counted_from y) label (least_says (counted_from y) a)
 least_rule_back names x zero label a named since sized =
     form names x (At (from_on a)) None label named (at_are (from_on a) (from_is_word a sized)) (since_none names) sized
-    (at_line (point_of names x) (from_on a) (literals label) (from_back a sized) (label_literals label))
+    (at_line (point_of names x) (from_on a) (literals_of_label label) (from_back a sized) (label_literals label))
 least_rule_back names x (suc y) label a named since sized = least_at names x (suc y) label a (int_le a (pos 0)) named since sized
 
 by_rule_back : (names : List (List ℕ)) (x : ℕ) (label : Label) (v : ℤ) → HasName names x → is_sized v ≡ true → int_le (pos 0) v ≡ true → IsReadBack names x None label (By (ticks v))
 by_rule_back names x label v named sized timely =
-    form names x (By (ticks v)) None label named (by_are v sized) (since_none names) sized (by_line (point_of names x) v (literals label) sized timely (label_literals label))
+    form names x (By (ticks v)) None label named (by_are v sized) (since_none names) sized (by_line (point_of names x) v (literals_of_label label) sized timely (label_literals label))
 
 by_after_rule_back : (names : List (List ℕ)) (x y : ℕ) (label : Label) (v : ℤ) → HasName names x → HasName names y → is_sized v ≡ true
     → IsReadBack names x (Some y) label (ByAfter (ticks v))
 by_after_rule_back names x y label v named since sized =
     form names x (ByAfter (ticks v)) (Some y) label named (by_after_are v sized) (since_one names y since) sized
-    (by_after_line (point_of names x) v (slice_index_or names y []) (literals label) sized since (label_literals label))
+    (by_after_line (point_of names x) v (slice_index_or names y []) (literals_of_label label) sized since (label_literals label))
 
 -- the rule of a constraint alone, by what it is
 abbrev pub alone_by : List (List ℕ) → Constraint → Bool → Bool → Rule
@@ -174,10 +176,11 @@ alone_by names c by least =
 
 -- the rule of a constraint alone is read back
 pub alone_back : (names : List (List ℕ)) (c : Constraint) → HasName names c.from → HasName names c.to → IsValue c.most
-    → IsReadAs (rule_words (alone_rule names c)) (rule (alone_rule names c))
+    → IsReadAsLine (rule_words (alone_rule names c)) (rule (alone_rule names c))
 alone_back names c from to value = at (c.from == 0 && int_le (pos 0) c.most) (int_le c.most (pos 0)) refl
   where
-    at : (by least : Bool) → (c.from == 0 && int_le (pos 0) c.most) ≡ by → IsReadAs (rule_words (alone_by names c by least)) (rule (alone_by names c by least))
+    at : (by least : Bool) → (c.from == 0 && int_le (pos 0) c.most) ≡ by
+        → IsReadAsLine (rule_words (alone_by names c by least)) (rule (alone_by names c by least))
     at true least e = by_rule_back names c.to c.label c.most to (value_sized c.most value) (and_parts (c.from == 0) (int_le (pos 0) c.most) e).1
     at false true e = least_rule_back names c.from c.to c.label (neg_ℤ c.most) from to (negated_sized c.most value)
     at false false e = by_after_rule_back names c.to c.from c.label c.most to from (value_sized c.most value)

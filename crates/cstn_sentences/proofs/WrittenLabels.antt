@@ -6,7 +6,7 @@ use Rattle.cstn_label.specs.Labels.{Label}
 use Rattle.cstn_label.specs.Letters.{letter_of}
 use Rattle.cstn_sentences.specs.declared.lines.Literal.{Literal}
 use Rattle.cstn_sentences.specs.Grammar.{Words}
-use Rattle.cstn_sentences.specs.Printed.{spaced, said_words, literal_words, label_words}
+use Rattle.cstn_sentences.specs.Printed.{spaced_words, said_words, literal_words, label_words}
 use Rattle.cstn_sentences.specs.Sentences.{asserted, literals_below}
 
 -- the word before the literal that comes after these
@@ -14,7 +14,7 @@ abbrev pub joint_after : List Literal → List ℕ
 joint_after [] = codes "if"
 joint_after (l ∷ later) = codes "and"
 
-pub spaced_append : (words more : Words) → spaced (words ++ more) ≡ spaced words ++ spaced more
+pub spaced_append : (words more : Words) → spaced_words (words ++ more) ≡ spaced_words words ++ spaced_words more
 spaced_append words more = flat_map-append (λ w. 32 ∷ w) words more
 
 -- one literal more
@@ -31,7 +31,7 @@ joint_more : (ls : List Literal) (l : Literal) → codes "and" ≡ joint_after (
 joint_more [] l = refl
 joint_more (first ∷ ls) l = refl
 
-pub label_none : (a : Label) (old : List ℕ) → old ≡ old ++ spaced (label_words (literals_below a 0))
+pub label_none : (a : Label) (old : List ℕ) → old ≡ old ++ spaced_words (label_words (literals_below a 0))
 unfolding literals_below
 label_none a old = sym (append-nil old)
 
@@ -49,24 +49,24 @@ unfolding literals_below
 literals_same a n e = rw (add-one, e) (append-nil (literals_below a n))
 
 pub label_more : (a : Label) (n : ℕ) (holds : Bool) (old text new joint : List ℕ) → asserted (a n) ≡ Some holds
-    → text ≡ old ++ spaced (label_words (literals_below a n)) → joint ≡ joint_after (literals_below a n)
-    → new ≡ text ++ spaced (joint ∷ said_words holds (letter_of n ∷ [])) → new ≡ old ++ spaced (label_words (literals_below a (n + 1)))
+    → text ≡ old ++ spaced_words (label_words (literals_below a n)) → joint ≡ joint_after (literals_below a n)
+    → new ≡ text ++ spaced_words (joint ∷ said_words holds (letter_of n ∷ [])) → new ≡ old ++ spaced_words (label_words (literals_below a (n + 1)))
 label_more a n holds old text new joint e so_far is put =
     let l : Literal = record { prop = letter_of n ∷ []; holds = holds } in
     let words : label_words (literals_below a (n + 1)) ≡ label_words (literals_below a n) ++ (joint ∷ literal_words l) =
     ap label_words (literals_more a n holds e) ∙ label_words_more (literals_below a n) l
     ∙ ap (λ (j : List ℕ). label_words (literals_below a n) ++ (j ∷ literal_words l)) (sym is) in
-    put ∙ ap (λ (t : List ℕ). t ++ spaced (joint ∷ literal_words l)) so_far
-    ∙ append_assoc old (spaced (label_words (literals_below a n))) (spaced (joint ∷ literal_words l))
+    put ∙ ap (λ (t : List ℕ). t ++ spaced_words (joint ∷ literal_words l)) so_far
+    ∙ append_assoc old (spaced_words (label_words (literals_below a n))) (spaced_words (joint ∷ literal_words l))
     ∙ ap (λ (t : List ℕ). old ++ t) (sym (spaced_append (label_words (literals_below a n)) (joint ∷ literal_words l)))
-    ∙ ap (λ (ws : Words). old ++ spaced ws) (sym words)
+    ∙ ap (λ (ws : Words). old ++ spaced_words ws) (sym words)
 
 pub joint_next : (a : Label) (n : ℕ) (holds : Bool) → asserted (a n) ≡ Some holds → codes "and" ≡ joint_after (literals_below a (n + 1))
 joint_next a n holds e = joint_more (literals_below a n) (record { prop = letter_of n ∷ []; holds = holds }) ∙ ap joint_after (sym (literals_more a n holds e))
 
-pub label_same : (a : Label) (n : ℕ) (old text : List ℕ) → asserted (a n) ≡ None → text ≡ old ++ spaced (label_words (literals_below a n))
-    → text ≡ old ++ spaced (label_words (literals_below a (n + 1)))
-label_same a n old text e so_far = so_far ∙ ap (λ (ls : List Literal). old ++ spaced (label_words ls)) (sym (literals_same a n e))
+pub label_same : (a : Label) (n : ℕ) (old text : List ℕ) → asserted (a n) ≡ None → text ≡ old ++ spaced_words (label_words (literals_below a n))
+    → text ≡ old ++ spaced_words (label_words (literals_below a (n + 1)))
+label_same a n old text e so_far = so_far ∙ ap (λ (ls : List Literal). old ++ spaced_words (label_words ls)) (sym (literals_same a n e))
 
 pub joint_same : (a : Label) (n : ℕ) (joint : List ℕ) → asserted (a n) ≡ None → joint ≡ joint_after (literals_below a n)
     → joint ≡ joint_after (literals_below a (n + 1))

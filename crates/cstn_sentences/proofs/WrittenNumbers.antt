@@ -17,7 +17,8 @@ use Rattle.cstn_text.proofs.NumberLemmas.{digits, number_back}
 use Rattle.cstn_sentences.specs.Limits.{most_ticks}
 use Rattle.cstn_sentences.specs.Judged.{is_sized}
 use Rattle.cstn_sentences.specs.declared.lines.Span.{Span}
-use Rattle.cstn_sentences.specs.Spans.{digits_read, ticks_read, after, time_by, time_read, negated, span_read, range_to, past_point, range_by, range_read}
+use Rattle.cstn_sentences.specs.Spans.{digits_read, ticks_read, span_of_ticks, time_by, time_read}
+use Rattle.cstn_sentences.specs.Spans.{negated, span_read, range_to, past_point, range_by, range_read}
 use Rattle.cstn_sentences.specs.Printed.{span_word, range_word}
 use Rattle.cstn_sentences.specs.Sentences.{ticks, from_to, from_on}
 
@@ -75,10 +76,10 @@ ticks_back n few =
 
 -- ---- times and spans
 
-pub time_back : (n : ℕ) → n ≤ most_ticks → time_read (decimal n) ≡ Some (after false n)
+pub time_back : (n : ℕ) → n ≤ most_ticks → time_read (decimal n) ≡ Some (span_of_ticks false n)
 time_back n few =
     ap (time_by (decimal n)) (uncut is_ascii_digit 58 (decimal n) (decimal_digits n few) refl)
-    ∙ ap (option_map (after false)) (ticks_back n few)
+    ∙ ap (option_map (span_of_ticks false)) (ticks_back n few)
 
 no_minus : (b : ℕ) → is_ascii_digit b ≡ true → (b == 45) ≡ false
 no_minus b e = grind arith
@@ -95,7 +96,7 @@ below_zero n = grind arith
 pub span_back : (v : ℤ) → is_sized v ≡ true → span_read (span_word (ticks v)) ≡ Some (ticks v)
 span_back (pos n) sized =
     let few : n ≤ most_ticks = grind (arith, sized) in
-    digits_span (decimal n) (after false n) (decimal_digits n few) (time_back n few) (decimal_nonempty n (small_enough n few))
+    digits_span (decimal n) (span_of_ticks false n) (decimal_digits n few) (time_back n few) (decimal_nonempty n (small_enough n few))
 span_back (negsuc n) sized =
     let few : suc n ≤ most_ticks = grind (arith, sized) in
     ap (λ (o : Option Span). o >>= negated) (time_back (suc n) few) ∙ ap (λ (b : Bool). when b (ticks (negsuc n))) (below_zero n)

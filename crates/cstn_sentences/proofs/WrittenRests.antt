@@ -5,15 +5,15 @@ use Rattle.std.specs.Option.{option_map}
 use Rattle.std.proofs.lemmas.List.Elements.{All-head, All-tail}
 use Rattle.cstn_markup.specs.Bytes.{when}
 use Rattle.cstn_text.specs.Names.{IsName}
-use Rattle.cstn_sentences.specs.Results.{◌>>=◌, or_refused}
+use Rattle.cstn_sentences.specs.Results.{◌>>?◌, some_or}
 use Rattle.cstn_sentences.specs.declared.lines.Side.TheVariants.{Alone}
 use Rattle.cstn_sentences.specs.declared.lines.Reference.{Reference}
 use Rattle.cstn_sentences.specs.declared.lines.Reference.TheVariants.{Moment}
 use Rattle.cstn_sentences.specs.declared.lines.Literal.{Literal}
 use Rattle.cstn_sentences.specs.declared.lines.Expects.{Expects}
 use Rattle.cstn_sentences.specs.declared.lines.Expects.TheVariants.{Since, AndOrIf, If, Asserted, Negated, And}
-use Rattle.cstn_sentences.specs.Spelling.{begins_line, is_of_rule, is_between, needs_quotes, spelling, name_of, is_prop}
-use Rattle.cstn_sentences.specs.Grammar.{Words, Rest, is, expecting, with_reference, with_literal, after_word, may_end, rest_read}
+use Rattle.cstn_sentences.specs.Spelling.{begins_line, is_of_rule, is_between, needs_quotes, spelling, name_spelled, is_prop_word}
+use Rattle.cstn_sentences.specs.Grammar.{Words, Rest, is, expecting, with_reference, with_literal_read, after_word, may_end, rest_read}
 use Rattle.cstn_sentences.specs.Printed.{said_words, literal_words, label_words}
 use Rattle.cstn_sentences.proofs.SpelledNames.{name_back, needs_parts, bare_parts, spelled_other}
 
@@ -23,12 +23,12 @@ read_so_far since label expects = record { since = since; label = label; expects
 
 -- a literal by a proposition that isn't the word `not`
 pub record IsLiteral (l : Literal) : Type 0 where
-  pub prop : is_prop l.prop ≡ true
+  pub prop : is_prop_word l.prop ≡ true
   pub other : is (codes "not") l.prop ≡ false
 
 rest_step : (rest more : Rest) (word : List ℕ) (words : Words) → after_word rest.expects word rest ≡ Some more → rest_read rest (word ∷ words) ≡ rest_read more words
 unfolding rest_read
-rest_step rest more word words e = ap (λ (o : Option Rest). or_refused o (length (word ∷ words)) >>= λ next. rest_read next words) e
+rest_step rest more word words e = ap (λ (o : Option Rest). some_or o (length (word ∷ words)) >>? λ next. rest_read next words) e
 
 rest_ends : (rest : Rest) → may_end rest.expects ≡ true → rest_read rest [] ≡ Ok rest
 unfolding rest_read
@@ -36,18 +36,19 @@ rest_ends rest e = ap (λ (b : Bool). if b then Ok rest else Err 0) e
 
 -- ---- labels
 
-said_step : (since : List Reference) (done : List Literal) (holds : Bool) (prop : List ℕ) (words : Words) → is_prop prop ≡ true → is (codes "not") prop ≡ false
+said_step : (since : List Reference) (done : List Literal) (holds : Bool) (prop : List ℕ) (words : Words) → is_prop_word prop ≡ true
+    → is (codes "not") prop ≡ false
     → rest_read (read_so_far since done Asserted) (said_words holds prop ++ words)
     ≡ rest_read (read_so_far since (done ++ (record { prop = prop; holds = holds } ∷ [])) And) words
 said_step since done true prop words p other =
     let seen : Rest = read_so_far since done Asserted in
-    rest_step seen (with_literal true prop seen) prop words
-    (ap (λ (b : Bool). if b then Some (expecting Negated seen) else when (is_prop prop) (with_literal true prop seen)) other
-    ∙ ap (λ (b : Bool). when b (with_literal true prop seen)) p)
+    rest_step seen (with_literal_read true prop seen) prop words
+    (ap (λ (b : Bool). if b then Some (expecting Negated seen) else when (is_prop_word prop) (with_literal_read true prop seen)) other
+    ∙ ap (λ (b : Bool). when b (with_literal_read true prop seen)) p)
 said_step since done false prop words p other =
     let seen : Rest = read_so_far since done Negated in
     rest_step (read_so_far since done Asserted) seen (codes "not") (prop ∷ words) refl
-    ∙ rest_step seen (with_literal false prop seen) prop words (ap (λ (b : Bool). when b (with_literal false prop seen)) p)
+    ∙ rest_step seen (with_literal_read false prop seen) prop words (ap (λ (b : Bool). when b (with_literal_read false prop seen)) p)
 
 literal_step : (since : List Reference) (done : List Literal) (l : Literal) (words : Words) → IsLiteral l
     → rest_read (read_so_far since done Asserted) (literal_words l ++ words) ≡ rest_read (read_so_far since (done ++ (l ∷ [])) And) words
@@ -129,7 +130,8 @@ no_keyword name = record {
 abbrev pub moment_of : List ℕ → Reference
 moment_of name = Moment (record { name = name; side = Alone })
 
-name_step : (word name : List ℕ) → is (codes "end") word ≡ false → is (codes "start") word ≡ false → is (codes "result") word ≡ false → name_of word ≡ Some name
+name_step : (word name : List ℕ) → is (codes "end") word ≡ false → is (codes "start") word ≡ false → is (codes "result") word ≡ false
+    → name_spelled word ≡ Some name
     → after_word Since word (read_so_far [] [] Since) ≡ Some (read_so_far (moment_of name ∷ []) [] AndOrIf)
 name_step word name end start result named =
     rw (end, start, result) (ap (option_map (λ n. with_reference (moment_of n) (read_so_far [] [] Since))) named)

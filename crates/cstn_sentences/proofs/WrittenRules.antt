@@ -11,8 +11,8 @@ use Rattle.cstn_sentences.proofs.WrittenLabels.{spaced_append}
 use Rattle.cstn_net.specs.Networks.{Constraint}
 use Rattle.cstn_net.specs.declared.constraints.Constraint.{Constraint as NetConstraint}
 use Rattle.cstn_net.specs.Read.{the_constraint}
-use Rattle.cstn_sentences.specs.Printed.{spaced, says_words, label_words, step_words, rule_words, line_text}
-use Rattle.cstn_sentences.specs.Sentences.{since_words, literals, rule_of, step_of, has_step, steps_below, steps_text, is_pair, is_paired, pair_rule, alone_rule, rules_after, rules_text}
+use Rattle.cstn_sentences.specs.Printed.{spaced_words, says_words, label_words, step_words, rule_words, line_text}
+use Rattle.cstn_sentences.specs.Sentences.{since_words, literals_of_label, rule_of, step_of, has_step, steps_below, step_lines_text, is_pair, is_paired, pair_rule, alone_rule, rules_after, rules_text}
 
 pub pair_text : (names : List (List ℕ)) (c d : Constraint) (cs : List Constraint) → is_pair c d ≡ true
     → rules_text names (c ∷ d ∷ cs) ≡ line_text (rule_words (pair_rule names c d)) ++ rules_text names cs
@@ -30,44 +30,45 @@ next : (old a b t new : List ℕ) → t ≡ old ++ a → new ≡ t ++ b → new 
 next old a b t new so_far put = put ∙ ap (λ (x : List ℕ). x ++ b) so_far ∙ append_assoc old a b
 
 -- more words behind those of a line that were put
-words_put : (word : List ℕ) (words more : Words) (old t new : List ℕ) → t ≡ old ++ (word ++ spaced words) → new ≡ t ++ spaced more
-    → new ≡ old ++ (word ++ spaced (words ++ more))
+words_put : (word : List ℕ) (words more : Words) (old t new : List ℕ) → t ≡ old ++ (word ++ spaced_words words) → new ≡ t ++ spaced_words more
+    → new ≡ old ++ (word ++ spaced_words (words ++ more))
 words_put word words more old t new so_far put =
-    next old (word ++ spaced words) (spaced more) t new so_far put
-    ∙ ap (λ (x : List ℕ). old ++ x) (append_assoc word (spaced words) (spaced more) ∙ ap (λ (x : List ℕ). word ++ x) (sym (spaced_append words more)))
+    next old (word ++ spaced_words words) (spaced_words more) t new so_far put
+    ∙ ap (λ (x : List ℕ). old ++ x) (append_assoc word (spaced_words words) (spaced_words more)
+    ∙ ap (λ (x : List ℕ). word ++ x) (sym (spaced_append words more)))
 
 pub rule_put : (names : List (List ℕ)) (x : ℕ) (says : Says) (y : Option ℕ) (a : Label) (old t1 t2 t3 t4 new : List ℕ)
-    → t1 ≡ old ++ spelling (slice_index_or names x []) → t2 ≡ t1 ++ spaced (says_words says) → t3 ≡ t2 ++ spaced (since_words names y)
-    → t4 ≡ t3 ++ spaced (label_words (literals a)) → new ≡ t4 ++ (10 ∷ []) → new ≡ old ++ line_text (rule_words (rule_of names x says y a))
+    → t1 ≡ old ++ spelling (slice_index_or names x []) → t2 ≡ t1 ++ spaced_words (says_words says) → t3 ≡ t2 ++ spaced_words (since_words names y)
+    → t4 ≡ t3 ++ spaced_words (label_words (literals_of_label a)) → new ≡ t4 ++ (10 ∷ []) → new ≡ old ++ line_text (rule_words (rule_of names x says y a))
 rule_put names x says y a old t1 t2 t3 t4 new e1 e2 e3 e4 e5 =
     let name : List ℕ = spelling (slice_index_or names x []) in
     let s : Words = says_words says in
     let w : Words = since_words names y in
-    let l : Words = label_words (literals a) in
-    next old (name ++ spaced (s ++ w ++ l)) (10 ∷ []) t4 new
-    (words_put name (s ++ w) l old t3 t4 (words_put name s w old t2 t3 (next old name (spaced s) t1 t2 e1 e2) e3) e4) e5
+    let l : Words = label_words (literals_of_label a) in
+    next old (name ++ spaced_words (s ++ w ++ l)) (10 ∷ []) t4 new
+    (words_put name (s ++ w) l old t3 t4 (words_put name s w old t2 t3 (next old name (spaced_words s) t1 t2 e1 e2) e3) e4) e5
 
-pub steps_none : (m : Labelled) (names : List (List ℕ)) (old : List ℕ) → old ≡ old ++ steps_text m names 0
+pub steps_none : (m : Labelled) (names : List (List ℕ)) (old : List ℕ) → old ≡ old ++ step_lines_text m names 0
 unfolding steps_below
 steps_none m names old = sym (append-nil old)
 
 -- the line of one more time-point
-pub steps_more : (m : Labelled) (names : List (List ℕ)) (n : ℕ) (old t new : List ℕ) → has_step m.base n ≡ true → t ≡ old ++ steps_text m names n
-    → new ≡ t ++ line_text (step_words (step_of m names n)) → new ≡ old ++ steps_text m names (n + 1)
+pub steps_more : (m : Labelled) (names : List (List ℕ)) (n : ℕ) (old t new : List ℕ) → has_step m.base n ≡ true → t ≡ old ++ step_lines_text m names n
+    → new ≡ t ++ line_text (step_words (step_of m names n)) → new ≡ old ++ step_lines_text m names (n + 1)
 unfolding steps_below
 steps_more m names n old t new has so_far put =
     let line : List ℕ = line_text (step_words (step_of m names n)) in
-    let more : steps_text m names (suc n) ≡ steps_text m names n ++ line =
+    let more : step_lines_text m names (suc n) ≡ step_lines_text m names n ++ line =
     rw has (flat_map-append (λ s. line_text (step_words s)) (steps_below m names n) (step_of m names n ∷ [])
-    ∙ ap (λ (x : List ℕ). steps_text m names n ++ x) (append-nil line)) in
-    rw add-one (next old (steps_text m names n) line t new so_far put ∙ ap (λ (x : List ℕ). old ++ x) (sym more))
+    ∙ ap (λ (x : List ℕ). step_lines_text m names n ++ x) (append-nil line)) in
+    rw add-one (next old (step_lines_text m names n) line t new so_far put ∙ ap (λ (x : List ℕ). old ++ x) (sym more))
 
 -- a time-point that has no line
-pub steps_same : (m : Labelled) (names : List (List ℕ)) (n : ℕ) (old t : List ℕ) → has_step m.base n ≡ false → t ≡ old ++ steps_text m names n
-    → t ≡ old ++ steps_text m names (n + 1)
+pub steps_same : (m : Labelled) (names : List (List ℕ)) (n : ℕ) (old t : List ℕ) → has_step m.base n ≡ false → t ≡ old ++ step_lines_text m names n
+    → t ≡ old ++ step_lines_text m names (n + 1)
 unfolding steps_below
 steps_same m names n old t has so_far =
-    let same : steps_text m names (suc n) ≡ steps_text m names n = rw has (ap (flat_map (λ s. line_text (step_words s))) (append-nil (steps_below m names n))) in
+    let same : step_lines_text m names (suc n) ≡ step_lines_text m names n = rw has (ap (flat_map (λ s. line_text (step_words s))) (append-nil (steps_below m names n))) in
     rw add-one (so_far ∙ ap (λ (x : List ℕ). old ++ x) (sym same))
 
 -- a rule that was put, and what is left

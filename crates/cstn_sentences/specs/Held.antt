@@ -5,5 +5,5 @@ use Rattle.cstn_graphml.specs.Networks.{IsHeld}
 use Rattle.cstn_sentences.specs.Plans.{plan}
 
 -- where the plan says something, values of the program can hold it
-abbrev pub CanBeHeld : List ℕ → Option ℕ → Type 0
-CanBeHeld text deadline = (parts : Parts) → plan text deadline ≡ Ok parts → IsHeld parts
+abbrev pub PlanCanBeHeld : List ℕ → Option ℕ → Type 0
+PlanCanBeHeld text deadline = (parts : Parts) → plan text deadline ≡ Ok parts → IsHeld parts

@@ -2,16 +2,16 @@
 use Rattle.std.specs.Prelude.{ℕ, ◌+◌, ◌-◌, Bool, true, ◌&&◌, List, length, Option, Some, None, Result, Ok, Err, ℤ, nat_abs, int_le, nat_lt, nat_le}
 use Rattle.cstn_net.specs.Limits.{most_reaction}
 use Rattle.cstn_sentences.specs.Limits.{most_ticks, day}
-use Rattle.cstn_sentences.specs.Results.{◌>>=◌, demand}
-use Rattle.cstn_sentences.specs.Refusals.{Refusal, wrong_word, out_of_range}
+use Rattle.cstn_sentences.specs.Results.{◌>>?◌, holds_or}
+use Rattle.cstn_sentences.specs.Refusals.{PlanRefusal, wrong_word, out_of_range}
 use Rattle.cstn_sentences.specs.Words.{words_of, is_of_words}
 use Rattle.cstn_sentences.specs.declared.lines.Span.{Span}
 use Rattle.cstn_sentences.specs.declared.lines.Range.{Range}
 use Rattle.cstn_sentences.specs.declared.lines.Observed.{Observed}
 use Rattle.cstn_sentences.specs.declared.lines.Says.{Says}
 use Rattle.cstn_sentences.specs.declared.lines.Says.TheVariants.{At, By, Between, ByAfter, Within, NotBefore, Together}
-use Rattle.cstn_sentences.specs.Lines.{Line, nothing, deadline, start, step, task, rule}
-use Rattle.cstn_sentences.specs.Grammar.{Words, line_read}
+use Rattle.cstn_sentences.specs.Lines.{PlanLine, nothing, deadline, start, step, task, rule}
+use Rattle.cstn_sentences.specs.Grammar.{Words, plan_line_read}
 
 -- a number of ticks of at most 1,000,000,000 either way
 abbrev pub is_sized : ℤ → Bool
@@ -46,22 +46,22 @@ is_said NotBefore = true
 is_said Together = true
 
 -- the numbers of the line are in range
-abbrev pub is_numbered : Line → Bool
-is_numbered nothing = true
-is_numbered (deadline t) = is_sized t.ticks
-is_numbered (start t) = nat_lt (nat_abs t.ticks) day
-is_numbered (step s) = is_timely s.observed
-is_numbered (task s r) = is_range r && is_timely s.observed
-is_numbered (rule r) = is_said r.says
+abbrev pub is_line_in_range : PlanLine → Bool
+is_line_in_range nothing = true
+is_line_in_range (deadline t) = is_sized t.ticks
+is_line_in_range (start t) = nat_lt (nat_abs t.ticks) day
+is_line_in_range (step s) = is_timely s.observed
+is_line_in_range (task s r) = is_range r && is_timely s.observed
+is_line_in_range (rule r) = is_said r.says
 
 -- which word, counted from 1, is the first wrong one, where so many words are left from it on
-abbrev pub at_word : {A : Type 0} → ℕ → Words → Result A ℕ → Result A Refusal
+abbrev pub at_word : {A : Type 0} → ℕ → Words → Result A ℕ → Result A PlanRefusal
 at_word n words (Ok line) = Ok line
 at_word n words (Err left) = Err (wrong_word n (length words + 1 - left))
 
 -- the line of a text, which is number n
-abbrev pub line_of : ℕ → List ℕ → Result Line Refusal
-line_of n text =
-    demand (is_of_words text) (wrong_word n 0) >>= λ whole.
-    at_word n (words_of text) (line_read (words_of text)) >>= λ line.
-    demand (is_numbered line) (out_of_range n) >>= λ numbered. Ok line
+abbrev pub line_of_text : ℕ → List ℕ → Result PlanLine PlanRefusal
+line_of_text n text =
+    holds_or (is_of_words text) (wrong_word n 0) >>? λ whole.
+    at_word n (words_of text) (plan_line_read (words_of text)) >>? λ line.
+    holds_or (is_line_in_range line) (out_of_range n) >>? λ numbered. Ok line

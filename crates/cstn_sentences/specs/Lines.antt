@@ -13,7 +13,7 @@ use Rattle.cstn_sentences.specs.declared.lines.Line.{Line as LentLine}
 use Rattle.cstn_sentences.specs.declared.lines.Line.TheVariants.{Nothing, Deadline, Start, Step as StepLine, Task as TaskLine, Rule as RuleLine}
 
 -- a step, or a task but for its length: its name, what it observes, and its label
-pub record Step : Type 0 where
+pub record PlanStep : Type 0 where
   pub name : List ℕ
   pub observed : Option Observed
   pub label : List Literal
@@ -26,24 +26,24 @@ pub record Rule : Type 0 where
   pub label : List Literal
 
 -- a line says nothing, the deadline, the clock at tick 0, a step, a task with its length, or a rule
-pub data Line : Type 0 where
-  nothing : Line
-  deadline : Span → Line
-  start : Span → Line
-  step : Step → Line
-  task : Step → Range → Line
-  rule : Rule → Line
+pub data PlanLine : Type 0 where
+  nothing : PlanLine
+  deadline : Span → PlanLine
+  start : Span → PlanLine
+  step : PlanStep → PlanLine
+  task : PlanStep → Range → PlanLine
+  rule : Rule → PlanLine
 
-abbrev pub the_step : LentStep → Step
-the_step s = record { name = s.name; observed = s.observed; label = s.label.items }
+abbrev pub the_plan_step : LentStep → PlanStep
+the_plan_step s = record { name = s.name; observed = s.observed; label = s.label.items }
 
 abbrev pub the_rule : LentRule → Rule
 the_rule r = record { point = r.point; says = r.says; since = r.since.items; label = r.label.items }
 
-abbrev pub the_line : LentLine → Line
-the_line Nothing = nothing
-the_line (Deadline t) = deadline t
-the_line (Start t) = start t
-the_line (StepLine s) = step (the_step s)
-the_line (TaskLine s r) = task (the_step s) r
-the_line (RuleLine r) = rule (the_rule r)
+abbrev pub the_plan_line : LentLine → PlanLine
+the_plan_line Nothing = nothing
+the_plan_line (Deadline t) = deadline t
+the_plan_line (Start t) = start t
+the_plan_line (StepLine s) = step (the_plan_step s)
+the_plan_line (TaskLine s r) = task (the_plan_step s) r
+the_plan_line (RuleLine r) = rule (the_rule r)

@@ -10,10 +10,10 @@ use Rattle.cstn_net.specs.Networks.{is_prop}
 use Rattle.cstn_text.specs.Names.{number_of}
 use Rattle.cstn_graphml.specs.DrawnGraph.{Observation, DrawnConstraint}
 use Rattle.cstn_graphml.specs.Document.{or_nothing}
-use Rattle.cstn_graphml.specs.Networks.{observed_prop}
+use Rattle.cstn_graphml.specs.Networks.{observed_prop, observed_reaction}
 use Rattle.cstn_sentences.specs.Limits.{day}
-use Rattle.cstn_sentences.specs.Results.{◌>>=◌, or_refused, demand}
-use Rattle.cstn_sentences.specs.Refusals.{Refusal, out_of_range, stands_twice, no_name, no_letter}
+use Rattle.cstn_sentences.specs.Results.{◌>>?◌, some_or, holds_or}
+use Rattle.cstn_sentences.specs.Refusals.{PlanRefusal, out_of_range, stands_twice, no_name, no_letter}
 use Rattle.cstn_sentences.specs.declared.lines.Span.{Span}
 use Rattle.cstn_sentences.specs.declared.lines.Range.{Range}
 use Rattle.cstn_sentences.specs.declared.lines.Side.{Side}
@@ -26,9 +26,9 @@ use Rattle.cstn_sentences.specs.declared.lines.Says.{Says}
 use Rattle.cstn_sentences.specs.declared.lines.Says.TheVariants.{At, By, Between, ByAfter, Within, NotBefore, Together}
 use Rattle.cstn_sentences.specs.declared.bounds.Bounds.{Bounds}
 use Rattle.cstn_sentences.specs.declared.declarations.Meant.{Meant}
-use Rattle.cstn_sentences.specs.Lines.{Step, Rule, Line, nothing, deadline, start, step, task, rule}
-use Rattle.cstn_sentences.specs.Spelling.{is_letter}
-use Rattle.cstn_sentences.specs.Judged.{is_sized, line_of}
+use Rattle.cstn_sentences.specs.Lines.{PlanStep, Rule, PlanLine, nothing, deadline, start, step, task, rule}
+use Rattle.cstn_sentences.specs.Spelling.{is_letter_word}
+use Rattle.cstn_sentences.specs.Judged.{is_sized, line_of_text}
 use Rattle.cstn_sentences.specs.Declarations.{Declared, letter_for, is_origin}
 
 -- the labels of the origin and of the time-points after it, and the constraints
@@ -45,25 +45,25 @@ nothing_meant = record { origin_label = empty; labels = []; constraints = [] }
 -- the letter of a proposition: itself, or that of the word
 abbrev pub letter_in : List Meant → List ℕ → Option ℕ
 letter_in words [] = None
-letter_in words (b ∷ bytes) = if is_letter (b ∷ bytes) then Some b else letter_for (b ∷ bytes) words
+letter_in words (b ∷ bytes) = if is_letter_word (b ∷ bytes) then Some b else letter_for (b ∷ bytes) words
 
-abbrev pub prop_in : ℕ → List Meant → List ℕ → Result ℕ Refusal
-prop_in n words prop = or_refused (letter_in words prop) (no_letter n prop) >>= λ letter. or_refused (prop_of letter) (no_letter n prop)
+abbrev pub prop_in : ℕ → List Meant → List ℕ → Result ℕ PlanRefusal
+prop_in n words prop = some_or (letter_in words prop) (no_letter n prop) >>? λ letter. some_or (prop_of letter) (no_letter n prop)
 
-abbrev pub said : Bool → Mark
-said true = Yes
-said false = No
+abbrev pub mark_said : Bool → Mark
+mark_said true = Yes
+mark_said false = No
 
 -- the label with more literals, each of another proposition
-abbrev pub label_with : ℕ → List Meant → Label → List Literal → Result Label Refusal
-label_with n words a [] = Ok a
-label_with n words a (l ∷ later) =
-    prop_in n words l.prop >>= λ p.
-    demand (is_absent (a p)) (stands_twice n l.prop) >>= λ new.
-    label_with n words (with_mark a p (said l.holds)) later
+abbrev pub label_meant_after : ℕ → List Meant → Label → List Literal → Result Label PlanRefusal
+label_meant_after n words a [] = Ok a
+label_meant_after n words a (l ∷ later) =
+    prop_in n words l.prop >>? λ p.
+    holds_or (is_absent (a p)) (stands_twice n l.prop) >>? λ new.
+    label_meant_after n words (with_mark a p (mark_said l.holds)) later
 
-abbrev pub label_of : ℕ → Declared → List Literal → Result Label Refusal
-label_of n d literals = label_with n d.words empty literals
+abbrev pub label_meant : ℕ → Declared → List Literal → Result Label PlanRefusal
+label_meant n d literals = label_meant_after n d.words empty literals
 
 -- ---- time-points
 
@@ -74,43 +74,42 @@ side_of First is_end k is_task = if is_task then Some k else None
 side_of Last is_end k is_task = if is_task then Some (k + 1) else None
 
 -- the number of a time-point, where a task's name alone is its end or its start
-abbrev pub point_in : ℕ → Declared → Bool → Point → Result ℕ Refusal
+abbrev pub point_in : ℕ → Declared → Bool → Point → Result ℕ PlanRefusal
 point_in n d is_end p =
-    or_refused (number_of d.names p.name) (no_name n p.name) >>= λ k.
-    or_refused (side_of p.side is_end k (slice_index_or d.begins_task k false)) (no_name n p.name)
+    some_or (number_of d.names p.name) (no_name n p.name) >>? λ k.
+    some_or (side_of p.side is_end k (slice_index_or d.begins_task k false)) (no_name n p.name)
 
 -- what the time-points observe
-abbrev pub observations : Declared → List (Option Observation)
-observations d = or_nothing d.origin ∷ d.observes
-
--- the reaction of what is observed
-abbrev pub reaction_of : Option Observation → ℕ
-reaction_of None = 0
-reaction_of (Some o) = o.reaction
+abbrev pub declared_observations : Declared → List (Option Observation)
+declared_observations d = or_nothing d.origin ∷ d.observes
 
 -- the first of these time-points, numbered from k on, that observes the proposition, with its reaction
 abbrev pub first_observer : ℕ → ℕ → List (Option Observation) → Option (ℕ × ℕ)
 first_observer p k [] = None
-first_observer p k (o ∷ later) = if is_prop p (observed_prop o) then Some (k, reaction_of o) else first_observer p (k + 1) later
+first_observer p k (o ∷ later) = if is_prop p (observed_prop o) then Some (k, observed_reaction o) else first_observer p (k + 1) later
 
 -- a moment: so many ticks after a time-point
 abbrev pub Moment_after : Type 0
 Moment_after = ℕ × ℤ
 
--- when the outcome of the proposition is known: its reaction after its first observer
-abbrev pub outcome_in : ℕ → Declared → List ℕ → Result Moment_after Refusal
-outcome_in n d prop =
-    prop_in n d.words prop >>= λ p.
-    or_refused (first_observer p 0 (observations d)) (no_letter n prop) >>= λ x. Ok (x.0, pos x.1)
+-- when an outcome is known, by its observer and the reaction: so long after the one as the other is
+abbrev pub known_after : ℕ × ℕ → Moment_after
+known_after x = (x.0, pos x.1)
 
-abbrev pub moment_in : ℕ → Declared → Reference → Result Moment_after Refusal
-moment_in n d (Moment p) = point_in n d true p >>= λ x. Ok (x, pos 0)
+-- when the outcome of the proposition is known: its reaction after its first observer
+abbrev pub outcome_in : ℕ → Declared → List ℕ → Result Moment_after PlanRefusal
+outcome_in n d prop =
+    prop_in n d.words prop >>? λ p.
+    some_or (first_observer p 0 (declared_observations d)) (no_letter n prop) >>? λ x. Ok (known_after x)
+
+abbrev pub moment_in : ℕ → Declared → Reference → Result Moment_after PlanRefusal
+moment_in n d (Moment p) = point_in n d true p >>? λ x. Ok (x, pos 0)
 moment_in n d (Outcome prop) = outcome_in n d prop
 
 -- the moments that a rule counts from
-abbrev pub moments_in : ℕ → Declared → List Reference → Result (List Moment_after) Refusal
+abbrev pub moments_in : ℕ → Declared → List Reference → Result (List Moment_after) PlanRefusal
 moments_in n d [] = Ok []
-moments_in n d (r ∷ later) = moment_in n d r >>= λ m. moments_in n d later >>= λ ms. Ok (m ∷ ms)
+moments_in n d (r ∷ later) = moment_in n d r >>? λ m. moments_in n d later >>? λ ms. Ok (m ∷ ms)
 
 -- ---- what is said
 
@@ -185,35 +184,35 @@ constraints_of x b label m =
 abbrev pub with_rule : ℕ → Bounds → Label → List Moment_after → Meaning → Meaning
 with_rule x b label ms m = record m { constraints = m.constraints ++ flat_map (constraints_of x b label) ms }
 
-abbrev pub mean_rule : ℕ → Declared → Rule → Meaning → Result Meaning Refusal
+abbrev pub mean_rule : ℕ → Declared → Rule → Meaning → Result Meaning PlanRefusal
 mean_rule n d r m =
-    point_in n d (is_of_end r.says) r.point >>= λ x.
-    demand (are_in_order (bounds_of d.start r.says).least (bounds_of d.start r.says).most) (out_of_range n) >>= λ ordered.
-    moments_in n d r.since >>= λ moments.
-    label_of n d r.label >>= λ label.
-    demand (list_all (are_sized_from (bounds_of d.start r.says)) (since_origin r.says moments)) (out_of_range n) >>= λ sized.
+    point_in n d (is_of_end r.says) r.point >>? λ x.
+    holds_or (are_in_order (bounds_of d.start r.says).least (bounds_of d.start r.says).most) (out_of_range n) >>? λ ordered.
+    moments_in n d r.since >>? λ moments.
+    label_meant n d r.label >>? λ label.
+    holds_or (list_all (are_sized_from (bounds_of d.start r.says)) (since_origin r.says moments)) (out_of_range n) >>? λ sized.
     Ok (with_rule x (bounds_of d.start r.says) label (since_origin r.says moments) m)
 
 -- the meaning with the label of a step
 abbrev pub with_label : List ℕ → Label → Meaning → Meaning
 with_label name label m = if is_origin name then record m { origin_label = label } else record m { labels = m.labels ++ (label ∷ []) }
 
-abbrev pub mean_step : ℕ → Declared → Step → Meaning → Result Meaning Refusal
-mean_step n d s m = label_of n d s.label >>= λ label. Ok (with_label s.name label m)
+abbrev pub mean_step : ℕ → Declared → PlanStep → Meaning → Result Meaning PlanRefusal
+mean_step n d s m = label_meant n d s.label >>? λ label. Ok (with_label s.name label m)
 
 -- the meaning with the labels of a task's start and end
-abbrev pub with_labels : Label → Meaning → Meaning
-with_labels label m = record m { labels = (m.labels ++ (label ∷ [])) ++ (label ∷ []) }
+abbrev pub with_task_labels : Label → Meaning → Meaning
+with_task_labels label m = record m { labels = (m.labels ++ (label ∷ [])) ++ (label ∷ []) }
 
 -- a task's end is in the range after its start, whatever the label
-abbrev pub mean_task : ℕ → Declared → Step → Range → Meaning → Result Meaning Refusal
+abbrev pub mean_task : ℕ → Declared → PlanStep → Range → Meaning → Result Meaning PlanRefusal
 mean_task n d s r m =
-    label_of n d s.label >>= λ label.
-    or_refused (number_of d.names s.name) (no_name n s.name) >>= λ x.
-    demand (list_all (are_sized_from (bounds_of None (Between r))) ((x, pos 0) ∷ [])) (out_of_range n) >>= λ sized.
-    Ok (with_rule (x + 1) (bounds_of None (Between r)) empty ((x, pos 0) ∷ []) (with_labels label m))
+    label_meant n d s.label >>? λ label.
+    some_or (number_of d.names s.name) (no_name n s.name) >>? λ x.
+    holds_or (list_all (are_sized_from (bounds_of None (Between r))) ((x, pos 0) ∷ [])) (out_of_range n) >>? λ sized.
+    Ok (with_rule (x + 1) (bounds_of None (Between r)) empty ((x, pos 0) ∷ []) (with_task_labels label m))
 
-abbrev pub mean : ℕ → Declared → Meaning → Line → Result Meaning Refusal
+abbrev pub mean : ℕ → Declared → Meaning → PlanLine → Result Meaning PlanRefusal
 mean n d m nothing = Ok m
 mean n d m (deadline t) = Ok m
 mean n d m (start t) = Ok m
@@ -222,10 +221,10 @@ mean n d m (task s r) = mean_task n d s r m
 mean n d m (rule r) = mean_rule n d r m
 
 -- what is meant once the line of a text was read, which is number n
-abbrev pub meant_line : ℕ → Declared → Meaning → List ℕ → Result Meaning Refusal
-meant_line n d m text = line_of n text >>= mean n d m
+abbrev pub meant_line : ℕ → Declared → Meaning → List ℕ → Result Meaning PlanRefusal
+meant_line n d m text = line_of_text n text >>? mean n d m
 
 -- what the lines from number n on mean, after those before them
-unfoldable pub meant_after : ℕ → Declared → Meaning → List (List ℕ) → Result Meaning Refusal
+unfoldable pub meant_after : ℕ → Declared → Meaning → List (List ℕ) → Result Meaning PlanRefusal
 meant_after n d m [] = Ok m
-meant_after n d m (line ∷ lines) = meant_line n d m line >>= λ more. meant_after (n + 1) d more lines
+meant_after n d m (line ∷ lines) = meant_line n d m line >>? λ more. meant_after (n + 1) d more lines

@@ -1,13 +1,14 @@
 -- What sentences say, in the words of moments.
-use Rattle.std.specs.Prelude.{ℕ, ◌≡◌, List, Option, Some, None, ℤ, pos, ◌+ℤ◌, ◌≤ℤ◌}
+use Rattle.std.specs.Prelude.{ℕ, ◌≡◌, ◌↔◌, List, Option, Some, None, ℤ, pos, ◌+ℤ◌, ◌≤ℤ◌}
 use Rattle.std.specs.List.{All}
+use Rattle.cstn_label.specs.Labels.{Label}
 use Rattle.cstn_net.specs.Strategies.{Schedule, Meets}
 use Rattle.cstn_graphml.specs.DrawnGraph.{DrawnConstraint}
 use Rattle.cstn_graphml.specs.Networks.{constraint_drawn}
 use Rattle.cstn_sentences.specs.declared.lines.Says.{Says}
 use Rattle.cstn_sentences.specs.declared.lines.Says.TheVariants.{At, By, Between, ByAfter, Within, NotBefore, Together}
 use Rattle.cstn_sentences.specs.declared.lines.Span.{Span}
-use Rattle.cstn_sentences.specs.Meaning.{Moment_after, on_clock}
+use Rattle.cstn_sentences.specs.Meaning.{Moment_after, on_clock, bounds_of, constraints_of}
 
 -- the tick of a moment in a schedule: so many ticks after its time-point
 abbrev pub tick_of : Schedule → Moment_after → ℤ
@@ -51,3 +52,7 @@ IsSaid first at x Together ms = All (λ m. pos (at x) ≡ tick_of at m) ms
 -- the schedule meets each of these constraints
 abbrev pub MeetsEach : Schedule → List DrawnConstraint → Type 0
 MeetsEach at cs = All (λ c. Meets at (constraint_drawn c)) cs
+
+-- what the form of a rule asks of x, counted from a moment: under any label, its constraints are met exactly where this holds
+abbrev pub FormAsks : Option ℤ → Schedule → ℕ → Says → Moment_after → Type 0 → Type 0
+FormAsks first at x says m holds = (label : Label) → (MeetsEach at (constraints_of x (bounds_of first says) label m) ↔ holds)

@@ -11,12 +11,12 @@ use Rattle.cstn_graphml.specs.Document.{Parts}
 use Rattle.cstn_graphml.specs.Networks.{labelled_of, IsUnfit, IsMislabelled, IsFit}
 use Rattle.cstn_sentences.specs.declared.errors.PlanError.{PlanError}
 use Rattle.cstn_sentences.specs.declared.errors.PlanError.TheVariants.{Long, Wrong, Range, Twice, NoName, NoLetter, NoDeadline, Net, Lift, Memory}
-use Rattle.cstn_sentences.specs.Refusals.{Refusal}
-use Rattle.cstn_sentences.specs.Answers.{Fails}
+use Rattle.cstn_sentences.specs.Refusals.{PlanRefusal}
+use Rattle.cstn_sentences.specs.Answers.{FailsPlan}
 use Rattle.cstn_sentences.specs.Plans.{plan}
 
 -- the plan has these parts: this is their labelled network, and these are the names of its time-points
-pub record IsPlan (told : Result Parts Refusal) (labelled : Labelled) (names : List (List ℕ)) : Type 0 where
+pub record IsFitPlan (told : Result Parts PlanRefusal) (labelled : Labelled) (names : List (List ℕ)) : Type 0 where
   pub parts : Parts
   pub told_are : told ≡ Ok parts
   pub fit : IsFit parts
@@ -24,49 +24,49 @@ pub record IsPlan (told : Result Parts Refusal) (labelled : Labelled) (names : L
   pub names_are : names ≡ parts.names
 
 -- the plan has these parts, but they make no network
-pub record IsUnfitPlan (told : Result Parts Refusal) (error : NetError) (names : List (List ℕ)) : Type 0 where
+pub record IsUnfitPlan (told : Result Parts PlanRefusal) (error : NetError) (names : List (List ℕ)) : Type 0 where
   pub parts : Parts
   pub told_are : told ≡ Ok parts
   pub unfit : IsUnfit parts error
   pub names_are : names ≡ parts.names
 
 -- the plan has these parts, and they make a network, but no labelled one
-pub record IsMislabelledPlan (told : Result Parts Refusal) (error : LiftError) (names : List (List ℕ)) : Type 0 where
+pub record IsMislabelledPlan (told : Result Parts PlanRefusal) (error : LiftError) (names : List (List ℕ)) : Type 0 where
   pub parts : Parts
   pub told_are : told ≡ Ok parts
   pub mislabelled : IsMislabelled parts error
   pub names_are : names ≡ parts.names
 
 -- the plan is refused by its lines, by the network or by its labels, with exactly this refusal; want of memory may come at any point
-abbrev pub RefusesPlan : Result Parts Refusal → PlanError → Type 0
-RefusesPlan told Long = Fails Long told
-RefusesPlan told (Wrong line word) = Fails (Wrong line word) told
-RefusesPlan told (Range line) = Fails (Range line) told
-RefusesPlan told (Twice line text) = Fails (Twice line text) told
-RefusesPlan told (NoName line name) = Fails (NoName line name) told
-RefusesPlan told (NoLetter line word) = Fails (NoLetter line word) told
-RefusesPlan told NoDeadline = Fails NoDeadline told
+abbrev pub RefusesPlan : Result Parts PlanRefusal → PlanError → Type 0
+RefusesPlan told Long = FailsPlan Long told
+RefusesPlan told (Wrong line word) = FailsPlan (Wrong line word) told
+RefusesPlan told (Range line) = FailsPlan (Range line) told
+RefusesPlan told (Twice line text) = FailsPlan (Twice line text) told
+RefusesPlan told (NoName line name) = FailsPlan (NoName line name) told
+RefusesPlan told (NoLetter line word) = FailsPlan (NoLetter line word) told
+RefusesPlan told NoDeadline = FailsPlan NoDeadline told
 RefusesPlan told (Net error names) = IsUnfitPlan told error names
 RefusesPlan told (Lift error names) = IsMislabelledPlan told error names
 RefusesPlan told (Memory e) = Unit {0}
 
 -- a labelled network with the names of its time-points, or a refusal
-abbrev pub Answer : Type 0
-Answer = Result (Labelled × List (List ℕ)) PlanError
+abbrev pub PlanAnswer : Type 0
+PlanAnswer = Result (Labelled × List (List ℕ)) PlanError
 
 -- The answer to a text, with the deadline handed in or none. Want of memory is no answer.
-abbrev pub IsAnswerTo : Result Parts Refusal → Answer → Type 0
-IsAnswerTo told (Ok read) = IsPlan told read.0 read.1
-IsAnswerTo told (Err error) = RefusesPlan told error × ((e : AllocError) → error ≢ Memory e)
+abbrev pub IsPlanAnswerTo : Result Parts PlanRefusal → PlanAnswer → Type 0
+IsPlanAnswerTo told (Ok read) = IsFitPlan told read.0 read.1
+IsPlanAnswerTo told (Err error) = RefusesPlan told error × ((e : AllocError) → error ≢ Memory e)
 
-abbrev pub IsAnswer : List ℕ → Option ℕ → Answer → Type 0
-IsAnswer text deadline answer = IsAnswerTo (plan text deadline) answer
+abbrev pub IsPlanAnswer : List ℕ → Option ℕ → PlanAnswer → Type 0
+IsPlanAnswer text deadline answer = IsPlanAnswerTo (plan text deadline) answer
 
 -- ---- the parts of an answer
 
 -- the refusal of a plan for what the builder refused: want of memory by itself, any other fault with the names
-abbrev pub IsNetTold : NetError → List (List ℕ) → PlanError → Type 0
-IsNetTold fault names error =
+abbrev pub IsPlanNetTold : NetError → List (List ℕ) → PlanError → Type 0
+IsPlanNetTold fault names error =
     ((e : AllocError) × (fault ≡ NoMemory e) × (error ≡ Memory e)) ⊎ (((e : AllocError) → fault ≢ NoMemory e) × (error ≡ Net fault names))
 
 -- labels are refused for a fault of theirs, or for want of memory

@@ -13,7 +13,7 @@ use Rattle.cstn_sentences.specs.declared.lines.Observed.{Observed}
 use Rattle.cstn_sentences.specs.declared.lines.Says.{Says}
 use Rattle.cstn_sentences.specs.declared.lines.Says.TheVariants.{At, By, Between, ByAfter, Within, NotBefore, Together}
 use Rattle.cstn_sentences.specs.Spelling.{spelling}
-use Rattle.cstn_sentences.specs.Lines.{Step, Rule}
+use Rattle.cstn_sentences.specs.Lines.{PlanStep, Rule}
 use Rattle.cstn_sentences.specs.Grammar.{Words}
 
 abbrev pub span_word : Span → List ℕ
@@ -68,7 +68,7 @@ abbrev pub observed_words : Option Observed → Words
 observed_words None = []
 observed_words (Some o) = codes "observes" ∷ letter_words o.word o.letter ++ reaction_words o.reaction
 
-abbrev pub step_words : Step → Words
+abbrev pub step_words : PlanStep → Words
 step_words s = codes "step" ∷ spelling s.name ∷ observed_words s.observed ++ label_words s.label
 
 -- what a rule says of its time-point, up to what it counts from
@@ -88,10 +88,10 @@ abbrev pub deadline_words : Span → Words
 deadline_words t = codes "deadline" ∷ span_word t ∷ []
 
 -- words, each behind a space
-abbrev pub spaced : Words → List ℕ
-spaced words = flat_map (λ w. 32 ∷ w) words
+abbrev pub spaced_words : Words → List ℕ
+spaced_words words = flat_map (λ w. 32 ∷ w) words
 
 -- the text of a line, with its LF
 abbrev pub line_text : Words → List ℕ
 line_text [] = 10 ∷ []
-line_text (word ∷ words) = word ++ spaced words ++ (10 ∷ [])
+line_text (word ∷ words) = word ++ spaced_words words ++ (10 ∷ [])

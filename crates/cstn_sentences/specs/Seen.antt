@@ -6,10 +6,10 @@ use Rattle.cstn_sentences.specs.declared.rests.Rest.{Rest as LentRest}
 use Rattle.cstn_sentences.specs.Grammar.{Rest}
 
 -- what was returned, seen by a view, is what is told; want of memory may come at any point
-abbrev pub Gives : {A B : Type 0} → (A → B) → Result A LineFault → Result B ℕ → Type 0
-Gives view (Ok x) told = told ≡ Ok (view x)
-Gives view (Err (Wrong left)) told = told ≡ Err left
-Gives view (Err (Memory e)) told = Unit {0}
+abbrev pub GivesRead : {A B : Type 0} → (A → B) → Result A LineFault → Result B ℕ → Type 0
+GivesRead view (Ok x) told = told ≡ Ok (view x)
+GivesRead view (Err (Wrong left)) told = told ≡ Err left
+GivesRead view (Err (Memory e)) told = Unit {0}
 
 abbrev pub the_rest : LentRest → Rest
 the_rest r = record { since = r.since.items; label = r.label.items; expects = r.expects }

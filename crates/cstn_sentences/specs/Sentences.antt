@@ -16,7 +16,7 @@ use Rattle.cstn_sentences.specs.declared.lines.Literal.{Literal}
 use Rattle.cstn_sentences.specs.declared.lines.Observed.{Observed}
 use Rattle.cstn_sentences.specs.declared.lines.Says.{Says}
 use Rattle.cstn_sentences.specs.declared.lines.Says.TheVariants.{At, By, Between, ByAfter, Within, NotBefore, Together}
-use Rattle.cstn_sentences.specs.Lines.{Step, Rule}
+use Rattle.cstn_sentences.specs.Lines.{PlanStep, Rule}
 use Rattle.cstn_sentences.specs.Grammar.{Words}
 use Rattle.cstn_sentences.specs.Printed.{joined_words, reference_words, deadline_words, step_words, rule_words, line_text}
 
@@ -40,16 +40,16 @@ asserted No = Some false
 asserted Unknown = None
 
 -- the literal of a proposition by its mark, if there is one
-abbrev pub literal : ℕ → Mark → List Literal
-literal letter mark = option_to_list (option_map (λ holds. record { prop = letter ∷ []; holds = holds }) (asserted mark))
+abbrev pub literal_of_mark : ℕ → Mark → List Literal
+literal_of_mark letter mark = option_to_list (option_map (λ holds. record { prop = letter ∷ []; holds = holds }) (asserted mark))
 
 -- the literals of the propositions below n, in ascending order
 unfoldable pub literals_below : Label → ℕ → List Literal
 literals_below a zero = []
-literals_below a (suc n) = literals_below a n ++ literal (letter_of n) (a n)
+literals_below a (suc n) = literals_below a n ++ literal_of_mark (letter_of n) (a n)
 
-abbrev pub literals : Label → List Literal
-literals a = literals_below a 52
+abbrev pub literals_of_label : Label → List Literal
+literals_of_label a = literals_below a 52
 
 -- what is observed of a proposition with a reaction of n ticks, by its letter
 abbrev pub observed_after : ℕ → ℕ → Observed
@@ -59,15 +59,15 @@ abbrev pub observed_of : (ℕ → ℕ) → ℕ → Observed
 observed_of reaction p = observed_after (reaction p) p
 
 -- what the time-point observes, if it observes anything
-abbrev pub observed_at : Network → ℕ → Option Observed
-observed_at net x = option_map (observed_of net.reaction) (slice_index_or net.observes x None)
+abbrev pub step_observed : Network → ℕ → Option Observed
+step_observed net x = option_map (observed_of net.reaction) (slice_index_or net.observes x None)
 
 -- the step of a time-point
-abbrev pub step_of : Labelled → List (List ℕ) → ℕ → Step
+abbrev pub step_of : Labelled → List (List ℕ) → ℕ → PlanStep
 step_of m names x = record {
   name = slice_index_or names x [];
-  observed = observed_at m.base x;
-  label = literals (label_in m.labels x);
+  observed = step_observed m.base x;
+  label = literals_of_label (label_in m.labels x);
 }
 
 -- each time-point but the origin has a step, and the origin where it observes something
@@ -75,7 +75,7 @@ abbrev pub has_step : Network → ℕ → Bool
 has_step net x = not (x == 0) || is_some (slice_index_or net.observes x None)
 
 -- the steps of the first n time-points
-unfoldable pub steps_below : Labelled → List (List ℕ) → ℕ → List Step
+unfoldable pub steps_below : Labelled → List (List ℕ) → ℕ → List PlanStep
 steps_below m names zero = []
 steps_below m names (suc n) = steps_below m names n ++ (if has_step m.base n then step_of m names n ∷ [] else [])
 
@@ -118,7 +118,7 @@ rule_of names x says y label = record {
   point = record { name = slice_index_or names x []; side = Alone };
   says = says;
   since = since_of names y;
-  label = literals label;
+  label = literals_of_label label;
 }
 
 -- the time-point that a rule counts from; none is written for the origin
@@ -168,8 +168,8 @@ rules_after names (suc skip) (c ∷ cs) = rules_after names skip cs
 -- ---- the text
 
 -- the lines of the steps of the first n time-points
-abbrev pub steps_text : Labelled → List (List ℕ) → ℕ → List ℕ
-steps_text m names n = flat_map (λ s. line_text (step_words s)) (steps_below m names n)
+abbrev pub step_lines_text : Labelled → List (List ℕ) → ℕ → List ℕ
+step_lines_text m names n = flat_map (λ s. line_text (step_words s)) (steps_below m names n)
 
 -- the lines of constraints
 abbrev pub rules_text : List (List ℕ) → List Constraint → List ℕ
@@ -178,4 +178,4 @@ rules_text names cs = flat_map (λ r. line_text (rule_words r)) (rules_after nam
 -- The sentences of a labelled network with these names: its deadline, its steps by number, and its constraints by id.
 abbrev pub sentences : Labelled → List (List ℕ) → List ℕ
 sentences m names =
-    line_text (deadline_words (ticks (pos m.base.deadline))) ++ steps_text m names (count m.base) ++ rules_text names m.base.constraints
+    line_text (deadline_words (ticks (pos m.base.deadline))) ++ step_lines_text m names (count m.base) ++ rules_text names m.base.constraints

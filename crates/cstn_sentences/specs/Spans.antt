@@ -26,13 +26,13 @@ minutes_read hours minutes =
     when (length minutes == 2) minutes >>= digits_read >>= λ m.
     when (nat_le h 9999 && nat_le m 59) (60 * h + m)
 
-abbrev pub after : Bool → ℕ → Span
-after clock n = record { ticks = pos n; clock = clock }
+abbrev pub span_of_ticks : Bool → ℕ → Span
+span_of_ticks clock n = record { ticks = pos n; clock = clock }
 
 -- a time: a number of ticks, or `H:MM`
 abbrev pub time_by : List ℕ → Option (List ℕ × List ℕ) → Option Span
-time_by word None = option_map (after false) (ticks_read word)
-time_by word (Some parts) = option_map (after true) (minutes_read parts.0 parts.1)
+time_by word None = option_map (span_of_ticks false) (ticks_read word)
+time_by word (Some parts) = option_map (span_of_ticks true) (minutes_read parts.0 parts.1)
 
 abbrev pub time_read : List ℕ → Option Span
 time_read word = time_by word (cut_at 58 word)

@@ -69,13 +69,13 @@ abbrev pub bare_name : List ℕ → Option (List ℕ)
 bare_name word = option_and_then (λ name. when (not (needs_quotes name)) name) (name_read word)
 
 -- the name of a word, if it is one's spelling
-abbrev pub name_of : List ℕ → Option (List ℕ)
-name_of word = if begins_with 34 word then quoted_name word else bare_name word
+abbrev pub name_spelled : List ℕ → Option (List ℕ)
+name_spelled word = if begins_with 34 word then quoted_name word else bare_name word
 
 -- a letter
-abbrev pub is_letter : List ℕ → Bool
-is_letter [] = false
-is_letter (b ∷ bytes) = is_ascii_alphabetic b && length bytes == 0
+abbrev pub is_letter_word : List ℕ → Bool
+is_letter_word [] = false
+is_letter_word (b ∷ bytes) = is_ascii_alphabetic b && length bytes == 0
 
 abbrev pub begins_with_letter : List ℕ → Bool
 begins_with_letter [] = false
@@ -88,5 +88,5 @@ is_word word =
     && list_all (λ b. is_ascii_alphanumeric b || b == 95 || b == 45) word && not (is_keyword word)
 
 -- a proposition is a letter or a word
-abbrev pub is_prop : List ℕ → Bool
-is_prop word = is_letter word || is_word word
+abbrev pub is_prop_word : List ℕ → Bool
+is_prop_word word = is_letter_word word || is_word word

@@ -14,8 +14,8 @@ without_mark text = if begins (239 ∷ 187 ∷ 191 ∷ []) text then drop 3 text
 abbrev pub cut_lines : Parts → List (List ℕ)
 cut_lines parts = parts.0 ++ (parts.1 ∷ [])
 
-abbrev pub lines_of : List ℕ → List (List ℕ)
-lines_of text = cut_lines (parts_at 10 (without_mark text))
+abbrev pub plan_lines : List ℕ → List (List ℕ)
+plan_lines text = cut_lines (parts_at 10 (without_mark text))
 
 -- how many bytes the word at the front has: up to white space, or, where it begins with `"`, to the next `"` or to the end
 abbrev pub word_len : List ℕ → ℕ
@@ -30,14 +30,14 @@ word_at [] = []
 word_at (b ∷ bytes) = if is_white b || b == 35 then [] else take (word_len (b ∷ bytes)) (b ∷ bytes) ∷ []
 
 -- how many bytes behind the first one belong to what stands at the front: a word, or a comment up to the end of the line
-abbrev pub passed : List ℕ → ℕ
-passed [] = 0
-passed (b ∷ bytes) = if is_white b then 0 else if b == 35 then length bytes else word_len (b ∷ bytes) - 1
+abbrev pub passed_bytes : List ℕ → ℕ
+passed_bytes [] = 0
+passed_bytes (b ∷ bytes) = if is_white b then 0 else if b == 35 then length bytes else word_len (b ∷ bytes) - 1
 
 -- the words of these bytes, of which the first `skip` are passed over
 unfoldable pub words_after : ℕ → List ℕ → List (List ℕ)
 words_after skip [] = []
-words_after zero (b ∷ bytes) = word_at (b ∷ bytes) ++ words_after (passed (b ∷ bytes)) bytes
+words_after zero (b ∷ bytes) = word_at (b ∷ bytes) ++ words_after (passed_bytes (b ∷ bytes)) bytes
 words_after (suc skip) (b ∷ bytes) = words_after skip bytes
 
 -- the words of a line
@@ -52,3 +52,7 @@ is_closed (b ∷ bytes) = not (b == 34) || list_any (λ c. c == 34) bytes
 -- a line of UTF-8 that isn't too long, and in which each quote has its end
 abbrev pub is_of_words : List ℕ → Bool
 is_of_words line = nat_le (length line) most_line && is_utf8 line && list_all is_closed (words_of line)
+
+-- a line that is of words, and has none
+abbrev pub is_wordless : List ℕ → Bool
+is_wordless line = length (words_of line) == 0 && is_of_words line

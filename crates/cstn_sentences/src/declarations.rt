@@ -4,17 +4,18 @@ ghost use Rattle.std.specs.Prelude.{◌≡◌, ◌≤◌, [], None, false, IfOk,
 ghost use Rattle.std.specs.List.{list_any};
 ghost use Rattle.cstn_graphml.specs.DrawnGraphSeen.{observed_seen};
 ghost use Rattle.cstn_text.specs.Names.{IsName, number_of};
-ghost use Rattle.cstn_sentences.specs.Answers.{Tells};
-ghost use Rattle.cstn_sentences.specs.Declarations.{with_point, with_step, nothing_declared, is_declared, is_origin, end_of, observation_of, letter_for, has_word, with_word_for, with_word, with_observed};
-ghost use Rattle.cstn_sentences.specs.Declarations.{are_new, words_with, declare_step, is_task, declare_task, declare, declared_line, declared_after};
-ghost use Rattle.cstn_sentences.specs.Lines.{deadline, start, the_step, the_line};
+ghost use Rattle.cstn_sentences.specs.Answers.{TellsPlan};
+ghost use Rattle.cstn_sentences.specs.Declarations.{with_point, with_step, nothing_declared, is_declared, is_origin, end_name};
+ghost use Rattle.cstn_sentences.specs.Declarations.{step_observation, letter_for, has_word, with_word_for, with_word, with_observed};
+ghost use Rattle.cstn_sentences.specs.Declarations.{are_new_literals, words_with, declare_step, is_task, declare_task, declare, declared_line, declared_after};
+ghost use Rattle.cstn_sentences.specs.Lines.{deadline, start, the_plan_step, the_plan_line};
 ghost use Rattle.cstn_sentences.specs.SeenDeclared.{the_declared};
-ghost use Rattle.cstn_sentences.specs.Words.{lines_of};
+ghost use Rattle.cstn_sentences.specs.Words.{plan_lines};
 
 use crate::errors::PlanError;
-use crate::judged::line_of;
+use crate::judged::line_of_text;
 use crate::lines::{Line, Literal, Name, Observed, Span, Step, Word};
-use crate::words::without_mark;
+use crate::words::{is_wordless, without_mark};
 use cstn_graphml::Observation;
 use cstn_label::Prop;
 use cstn_text::{NameError, NameKey, Names, cut_at};
@@ -75,8 +76,8 @@ fn is_declared(name: &str, d: &Declared) -> bool
 }
 
 /// The name of the end of a task.
-fn end_of(alloc: Global, name: &str) -> Result<String, AllocError>
-    ensures { IfOk result (λ text. string_bytes text ≡ end_of name.now) }
+fn end_name(alloc: Global, name: &str) -> Result<String, AllocError>
+    ensures { IfOk result (λ text. string_bytes text ≡ end_name name.now) }
 {
     let mut text = String::from_str(alloc, name)?;
     text.push_str(".end")?;
@@ -84,8 +85,8 @@ fn end_of(alloc: Global, name: &str) -> Result<String, AllocError>
 }
 
 /// The observation of what a step observes.
-fn observation_of(observed: &Option<Observed>) -> Option<Observation>
-    ensures { observed_seen result ≡ observation_of observed.now }
+fn step_observation(observed: &Option<Observed>) -> Option<Observation>
+    ensures { observed_seen result ≡ step_observation observed.now }
 {
     let Some(o) = observed else {
         return None;
@@ -118,15 +119,15 @@ fn has_word(letter: u8, words: &[Meant]) -> bool
     words.iter().any(|m| m.letter == letter)
 }
 
-/// The words with this one for the letter.
-fn with_word(
+/// Puts in a word for the letter.
+fn put_word(
     alloc: Global,
     n: u32,
     word: &[u8],
     letter: u8,
-    words: Vec<Meant>,
-) -> Result<Vec<Meant>, PlanError>
-    ensures { Tells (λ w. w.items) result (with_word_for n word.now letter words.items (letter_for word.now words.items)) }
+    words: &mut Vec<Meant>,
+) -> Result<(), PlanError>
+    ensures { TellsPlan (λ u. words.new.items) result (with_word_for n word.now letter words.old.items (letter_for word.now words.old.items)) }
 {
     if let Some(other) = letter_for(word, words.as_slice()) {
         if other != letter {
@@ -135,7 +136,7 @@ fn with_word(
                 text: Word::new(alloc, word)?,
             });
         }
-        return Ok(words);
+        return Ok(());
     }
     if has_word(letter, words.as_slice()) {
         return Err(PlanError::Twice {
@@ -144,25 +145,25 @@ fn with_word(
         });
     }
     let word = Word::new(alloc, word)?;
-    let mut words = words;
     words.push(Meant { word, letter })?;
-    Ok(words)
+    Ok(())
 }
 
-fn with_observed(
+/// Puts in the word of what a step observes, if it has one.
+fn put_observed(
     alloc: Global,
     n: u32,
     observed: &Option<Observed>,
-    words: Vec<Meant>,
-) -> Result<Vec<Meant>, PlanError>
-    ensures { Tells (λ w. w.items) result (with_observed n observed.now words.items) }
+    words: &mut Vec<Meant>,
+) -> Result<(), PlanError>
+    ensures { TellsPlan (λ u. words.new.items) result (with_observed n observed.now words.old.items) }
 {
     let Some(o) = observed else {
-        return Ok(words);
+        return Ok(());
     };
     match &o.word {
-        None => Ok(words),
-        Some(word) => with_word(alloc, n, word.as_bytes(), o.letter, words),
+        None => Ok(()),
+        Some(word) => put_word(alloc, n, word.as_bytes(), o.letter, words),
     }
 }
 
@@ -173,9 +174,9 @@ fn stands_in(word: &[u8], literals: &[Literal]) -> bool
 }
 
 /// Whether no word stands twice in a label.
-#[tactic(auto, unfolding(crate::specs::Declarations::are_new))]
-fn are_new(alloc: Global, n: u32, label: &[Literal]) -> Result<(), PlanError>
-    ensures { Tells (λ u. u) result (are_new n [] label.now) }
+#[tactic(auto, unfolding(crate::specs::Declarations::are_new_literals))]
+fn are_new_literals(alloc: Global, n: u32, label: &[Literal]) -> Result<(), PlanError>
+    ensures { TellsPlan (λ u. u) result (are_new_literals n [] label.now) }
 {
     let mut seen = 0;
     let mut left = label;
@@ -192,32 +193,26 @@ fn are_new(alloc: Global, n: u32, label: &[Literal]) -> Result<(), PlanError>
     Ok(())
 }
 
-fn words_with(
-    alloc: Global,
-    n: u32,
-    step: &Step,
-    words: Vec<Meant>,
-) -> Result<Vec<Meant>, PlanError>
-    ensures { Tells (λ w. w.items) result (words_with n (the_step step.now) words.items) }
+/// Puts in the word of a step, whose label has no word twice.
+fn put_words(alloc: Global, n: u32, step: &Step, words: &mut Vec<Meant>) -> Result<(), PlanError>
+    ensures { TellsPlan (λ u. words.new.items) result (words_with n (the_plan_step step.now) words.old.items) }
 {
-    let words = with_observed(alloc, n, &step.observed, words)?;
-    are_new(alloc, n, step.label.as_slice())?;
-    Ok(words)
+    put_observed(alloc, n, &step.observed, words)?;
+    are_new_literals(alloc, n, step.label.as_slice())
 }
 
 /// Puts in a time-point more, whose name wasn't declared.
-fn with_point(
+fn put_point(
     name: &str,
     begins: bool,
     observed: Option<Observation>,
-    d: Declared,
-) -> Result<Declared, AllocError>
-    requires new { number_of d.names name.now ≡ None }
+    d: &mut Declared,
+) -> Result<(), AllocError>
+    requires new { number_of d.old.names name.now ≡ None }
     requires some { 1 ≤ length name.now }
     requires few { length name.now ≤ 64 }
-    ensures { IfOk result (λ r. the_declared r ≡ with_point name.now begins (observed_seen observed) (the_declared d)) }
+    ensures { OnOk result (the_declared d.new ≡ with_point name.now begins (observed_seen observed) (the_declared d.old)) }
 {
-    let mut d = d;
     if d.names.count() == u32::MAX {
         return Err(AllocError);
     }
@@ -225,7 +220,7 @@ fn with_point(
         Ok(_) => {
             d.begins_task.push(begins)?;
             d.observes.push(observed)?;
-            Ok(d)
+            Ok(())
         }
         Err(NameError::Memory(e)) => Err(e),
         Err(NameError::Shape) => unreachable!(),
@@ -233,49 +228,38 @@ fn with_point(
     }
 }
 
-/// What is declared, with these words for letters.
-fn with_words(words: Vec<Meant>, d: Declared) -> Declared
-    ensures { the_declared result ≡ record (the_declared d) { words = words.items } }
-{
-    let mut d = d;
-    d.words = words;
-    d
-}
-
 /// Puts in a step whose name wasn't declared.
-fn with_step(name: &str, observed: Option<Observation>, d: Declared) -> Result<Declared, AllocError>
-    requires new { is_declared name.now (the_declared d) ≡ false }
+fn put_step(name: &str, observed: Option<Observation>, d: &mut Declared) -> Result<(), AllocError>
+    requires new { is_declared name.now (the_declared d.old) ≡ false }
     requires named { IsName name.now }
-    ensures { IfOk result (λ r. the_declared r ≡ with_step name.now (observed_seen observed) (the_declared d)) }
+    ensures { OnOk result (the_declared d.new ≡ with_step name.now (observed_seen observed) (the_declared d.old)) }
 {
     if name == "Z" {
-        let mut d = d;
         d.origin = Some(observed);
-        return Ok(d);
+        return Ok(());
     }
-    with_point(name, false, observed, d)
+    put_point(name, false, observed, d)
 }
 
-fn declare_step(alloc: Global, n: u32, step: &Step, d: Declared) -> Result<Declared, PlanError>
-    ensures { Tells the_declared result (declare_step n (the_step step.now) (the_declared d)) }
+fn declare_step(alloc: Global, n: u32, step: &Step, d: &mut Declared) -> Result<(), PlanError>
+    ensures { TellsPlan (λ u. the_declared d.new) result (declare_step n (the_plan_step step.now) (the_declared d.old)) }
 {
     let name = step.name.as_str();
-    if is_declared(name, &d) {
+    if is_declared(name, d) {
         return Err(PlanError::Twice {
             line: n,
             text: Word::new(alloc, name.as_bytes())?,
         });
     }
-    let mut d = d;
-    let words = words_with(alloc, n, step, d.words)?;
-    d.words = words;
-    Ok(with_step(name, observation_of(&step.observed), d)?)
+    put_words(alloc, n, step, &mut d.words)?;
+    put_step(name, step_observation(&step.observed), d)?;
+    Ok(())
 }
 
 /// Whether neither the task nor its end was declared, it isn't the origin, and its name has at most 60 bytes.
 fn is_task(alloc: Global, n: u32, name: &Name, end: &str, d: &Declared) -> Result<(), PlanError>
-    requires { end.now ≡ end_of name.now }
-    ensures told { Tells (λ u. u) result (is_task n name.now (the_declared d.now)) }
+    requires { end.now ≡ end_name name.now }
+    ensures told { TellsPlan (λ u. u) result (is_task n name.now (the_declared d.now)) }
     ensures new { OnOk result (is_declared name.now (the_declared d.now) ≡ false) }
     ensures ends { OnOk result (is_declared end.now (the_declared d.now) ≡ false) }
     ensures other { OnOk result (is_origin name.now ≡ false) }
@@ -303,22 +287,20 @@ fn is_task(alloc: Global, n: u32, name: &Name, end: &str, d: &Declared) -> Resul
     Ok(())
 }
 
-fn declare_task(alloc: Global, n: u32, step: &Step, d: Declared) -> Result<Declared, PlanError>
-    ensures { Tells the_declared result (declare_task n (the_step step.now) (the_declared d)) }
+fn declare_task(alloc: Global, n: u32, step: &Step, d: &mut Declared) -> Result<(), PlanError>
+    ensures { TellsPlan (λ u. the_declared d.new) result (declare_task n (the_plan_step step.now) (the_declared d.old)) }
 {
     let name = step.name.as_str();
-    let end = end_of(alloc, name)?;
-    is_task(alloc, n, &step.name, end.as_str(), &d)?;
-    let mut d = d;
-    let words = words_with(alloc, n, step, d.words)?;
-    d.words = words;
-    let d = with_point(name, true, None, d)?;
-    let observed = observation_of(&step.observed);
-    Ok(with_point(end.as_str(), false, observed, d)?)
+    let end = end_name(alloc, name)?;
+    is_task(alloc, n, &step.name, end.as_str(), d)?;
+    put_words(alloc, n, step, &mut d.words)?;
+    put_point(name, true, None, d)?;
+    put_point(end.as_str(), false, step_observation(&step.observed), d)?;
+    Ok(())
 }
 
-fn declare_deadline(alloc: Global, n: u32, span: Span, d: Declared) -> Result<Declared, PlanError>
-    ensures { Tells the_declared result (declare n (the_declared d) (deadline span)) }
+fn declare_deadline(alloc: Global, n: u32, span: Span, d: &mut Declared) -> Result<(), PlanError>
+    ensures { TellsPlan (λ u. the_declared d.new) result (declare n (the_declared d.old) (deadline span)) }
 {
     let None = d.deadline else {
         return Err(PlanError::Twice {
@@ -326,13 +308,12 @@ fn declare_deadline(alloc: Global, n: u32, span: Span, d: Declared) -> Result<De
             text: Word::new(alloc, b"deadline")?,
         });
     };
-    let mut d = d;
     d.deadline = Some(span);
-    Ok(d)
+    Ok(())
 }
 
-fn declare_start(alloc: Global, n: u32, span: Span, d: Declared) -> Result<Declared, PlanError>
-    ensures { Tells the_declared result (declare n (the_declared d) (start span)) }
+fn declare_start(alloc: Global, n: u32, span: Span, d: &mut Declared) -> Result<(), PlanError>
+    ensures { TellsPlan (λ u. the_declared d.new) result (declare n (the_declared d.old) (start span)) }
 {
     let None = d.start else {
         return Err(PlanError::Twice {
@@ -340,48 +321,48 @@ fn declare_start(alloc: Global, n: u32, span: Span, d: Declared) -> Result<Decla
             text: Word::new(alloc, b"start")?,
         });
     };
-    let mut d = d;
     d.start = Some(span.ticks);
-    Ok(d)
+    Ok(())
 }
 
 /// What is declared once line `n` was read.
-fn declare(alloc: Global, n: u32, d: Declared, line: &Line) -> Result<Declared, PlanError>
-    ensures { Tells the_declared result (declare n (the_declared d) (the_line line.now)) }
+fn declare(alloc: Global, n: u32, line: &Line, d: &mut Declared) -> Result<(), PlanError>
+    ensures { TellsPlan (λ u. the_declared d.new) result (declare n (the_declared d.old) (the_plan_line line.now)) }
 {
     match line {
-        Line::Nothing => Ok(d),
+        Line::Nothing => Ok(()),
         Line::Deadline(span) => declare_deadline(alloc, n, *span, d),
         Line::Start(span) => declare_start(alloc, n, *span, d),
         Line::Step(step) => declare_step(alloc, n, step, d),
         Line::Task(step, _) => declare_task(alloc, n, step, d),
-        Line::Rule(rule) => {
-            are_new(alloc, n, rule.label.as_slice())?;
-            Ok(d)
-        }
+        Line::Rule(rule) => are_new_literals(alloc, n, rule.label.as_slice()),
     }
 }
 
-fn declare_text(alloc: Global, n: u32, d: Declared, text: &[u8]) -> Result<Declared, PlanError>
-    ensures { Tells the_declared result (declared_line n (the_declared d) text.now) }
+fn declare_text(alloc: Global, n: u32, text: &[u8], d: &mut Declared) -> Result<(), PlanError>
+    ensures { TellsPlan (λ u. the_declared d.new) result (declared_line n (the_declared d.old) text.now) }
 {
-    let line = line_of(alloc, n, text)?;
-    declare(alloc, n, d, &line)
+    if is_wordless(text) {
+        return Ok(());
+    }
+    let line = line_of_text(alloc, n, text)?;
+    declare(alloc, n, &line, d)
 }
 
 /// What the lines of a text declare, whose names are hashed with the key. The text has at most 8,388,608 bytes.
 #[tactic(auto, unfolding(crate::specs::Declarations::declared_after))]
 pub fn declare_lines(alloc: Global, key: NameKey, text: &[u8]) -> Result<Declared, PlanError>
     requires { length text.now ≤ 8388608 }
-    ensures { Tells the_declared result (declared_after 1 nothing_declared (lines_of text.now)) }
+    ensures { TellsPlan the_declared result (declared_after 1 nothing_declared (plan_lines text.now)) }
 {
     let mut d = nothing_declared(alloc, key)?;
     let mut left = without_mark(text);
     let mut n = 1;
     while let Some((line, rest)) = cut_at(left, b'\n') {
-        d = declare_text(alloc, n, d, line)?;
+        declare_text(alloc, n, line, &mut d)?;
         n += 1;
         left = rest;
     }
-    declare_text(alloc, n, d, left)
+    declare_text(alloc, n, left, &mut d)?;
+    Ok(d)
 }

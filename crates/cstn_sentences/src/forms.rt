@@ -3,21 +3,23 @@
 ghost use Rattle.std.specs.Prelude.{◌≡◌, length};
 ghost use Rattle.cstn_sentences.specs.declared.faults.LineFault.TheVariants.{Wrong};
 ghost use Rattle.cstn_sentences.specs.Words.{words_of};
-ghost use Rattle.cstn_sentences.specs.Spelling.{name_of};
+ghost use Rattle.cstn_sentences.specs.Spelling.{name_spelled};
 ghost use Rattle.cstn_sentences.specs.Spans.{time_read, span_read, range_read};
-ghost use Rattle.cstn_sentences.specs.Lines.{the_step, the_line};
-ghost use Rattle.cstn_sentences.specs.Grammar.{one, past, begins_by, ended, letter_of, clock_read, reaction_read, word_read, observed_prop, with_reaction, observed_read};
-ghost use Rattle.cstn_sentences.specs.Grammar.{step_read, side_read, rule_by, by_read, rule_read, start_read, task_read, line_read, within_read, between_read, at_read, sided_read, deadline_read};
+ghost use Rattle.cstn_sentences.specs.Lines.{the_plan_step, the_plan_line};
+ghost use Rattle.cstn_sentences.specs.Grammar.{one, past_keyword, begins_by, ended_line, letter_read, clock_read, reaction_read};
+ghost use Rattle.cstn_sentences.specs.Grammar.{word_letter_read, observed_prop_read, with_reaction_read, observed_read};
+ghost use Rattle.cstn_sentences.specs.Grammar.{step_rest_read, side_read, rule_by, by_read, point_rule_read, start_line_read, task_read};
+ghost use Rattle.cstn_sentences.specs.Grammar.{plan_line_read, within_read, between_read, at_range_read, sided_read, deadline_read};
 ghost use Rattle.cstn_sentences.specs.Grammar.{named_step, named_rule};
-ghost use Rattle.cstn_sentences.specs.Seen.{Gives};
+ghost use Rattle.cstn_sentences.specs.Seen.{GivesRead};
 
 use crate::faults::LineFault;
 use crate::lines::{
     Expects, Line, Name, Observed, Point, Range, Rule, Says, Side, Span, Step, Word,
 };
-use crate::rests::{nothing_yet, read_rest};
+use crate::rests::{read_rest, rest_begun};
 use crate::spans::{read_range, read_span, read_time};
-use crate::spelling::{is_letter, is_word, read_name_word};
+use crate::spelling::{is_letter_word, is_word, read_name_word};
 use crate::words::{count_words, next_word};
 use std::alloc::Global;
 
@@ -31,8 +33,8 @@ fn wrong(left: &[u8]) -> LineFault
 }
 
 /// The words behind a keyword.
-fn past<'a>(keyword: &[u8], left: &'a [u8]) -> Result<&'a [u8], LineFault>
-    ensures { Gives (λ rest. words_of rest.now) result (past keyword.now (words_of left.now)) }
+fn past_keyword<'a>(keyword: &[u8], left: &'a [u8]) -> Result<&'a [u8], LineFault>
+    ensures { GivesRead (λ rest. words_of rest.now) result (past_keyword keyword.now (words_of left.now)) }
 {
     let Some((word, rest)) = next_word(left) else {
         return Err(LineFault::Wrong { left: 0 });
@@ -53,8 +55,8 @@ fn begins_by(keyword: &[u8], left: &[u8]) -> bool
     }
 }
 
-fn ended(line: Line, left: &[u8]) -> Result<Line, LineFault>
-    ensures { Gives the_line result (ended (the_line line) (words_of left.now)) }
+fn ended_line(line: Line, left: &[u8]) -> Result<Line, LineFault>
+    ensures { GivesRead the_plan_line result (ended_line (the_plan_line line) (words_of left.now)) }
 {
     let None = next_word(left) else {
         return Err(wrong(left));
@@ -63,7 +65,7 @@ fn ended(line: Line, left: &[u8]) -> Result<Line, LineFault>
 }
 
 fn time(left: &[u8]) -> Result<(Span, &[u8]), LineFault>
-    ensures { Gives (λ r. (r.0, words_of r.1.now)) result (one time_read (words_of left.now)) }
+    ensures { GivesRead (λ r. (r.0, words_of r.1.now)) result (one time_read (words_of left.now)) }
 {
     let Some((word, rest)) = next_word(left) else {
         return Err(LineFault::Wrong { left: 0 });
@@ -75,7 +77,7 @@ fn time(left: &[u8]) -> Result<(Span, &[u8]), LineFault>
 }
 
 fn span(left: &[u8]) -> Result<(Span, &[u8]), LineFault>
-    ensures { Gives (λ r. (r.0, words_of r.1.now)) result (one span_read (words_of left.now)) }
+    ensures { GivesRead (λ r. (r.0, words_of r.1.now)) result (one span_read (words_of left.now)) }
 {
     let Some((word, rest)) = next_word(left) else {
         return Err(LineFault::Wrong { left: 0 });
@@ -87,7 +89,7 @@ fn span(left: &[u8]) -> Result<(Span, &[u8]), LineFault>
 }
 
 fn range(left: &[u8]) -> Result<(Range, &[u8]), LineFault>
-    ensures { Gives (λ r. (r.0, words_of r.1.now)) result (one range_read (words_of left.now)) }
+    ensures { GivesRead (λ r. (r.0, words_of r.1.now)) result (one range_read (words_of left.now)) }
 {
     let Some((word, rest)) = next_word(left) else {
         return Err(LineFault::Wrong { left: 0 });
@@ -110,7 +112,7 @@ fn read_clock(word: &[u8]) -> Option<Span>
 }
 
 fn clock(left: &[u8]) -> Result<(Span, &[u8]), LineFault>
-    ensures { Gives (λ r. (r.0, words_of r.1.now)) result (one clock_read (words_of left.now)) }
+    ensures { GivesRead (λ r. (r.0, words_of r.1.now)) result (one clock_read (words_of left.now)) }
 {
     let Some((word, rest)) = next_word(left) else {
         return Err(LineFault::Wrong { left: 0 });
@@ -122,7 +124,7 @@ fn clock(left: &[u8]) -> Result<(Span, &[u8]), LineFault>
 }
 
 fn name(alloc: Global, left: &[u8]) -> Result<(Name, &[u8]), LineFault>
-    ensures { Gives (λ r. (r.0, words_of r.1.now)) result (one name_of (words_of left.now)) }
+    ensures { GivesRead (λ r. (r.0, words_of r.1.now)) result (one name_spelled (words_of left.now)) }
 {
     let Some((word, rest)) = next_word(left) else {
         return Err(LineFault::Wrong { left: 0 });
@@ -134,9 +136,9 @@ fn name(alloc: Global, left: &[u8]) -> Result<(Name, &[u8]), LineFault>
 }
 
 fn read_letter(word: &[u8]) -> Option<u8>
-    ensures { result ≡ letter_of word.now }
+    ensures { result ≡ letter_read word.now }
 {
-    if !is_letter(word) {
+    if !is_letter_word(word) {
         return None;
     }
     match word {
@@ -146,7 +148,7 @@ fn read_letter(word: &[u8]) -> Option<u8>
 }
 
 fn letter(left: &[u8]) -> Result<(u8, &[u8]), LineFault>
-    ensures { Gives (λ r. (r.0, words_of r.1.now)) result (one letter_of (words_of left.now)) }
+    ensures { GivesRead (λ r. (r.0, words_of r.1.now)) result (one letter_read (words_of left.now)) }
 {
     let Some((word, rest)) = next_word(left) else {
         return Err(LineFault::Wrong { left: 0 });
@@ -159,10 +161,10 @@ fn letter(left: &[u8]) -> Result<(u8, &[u8]), LineFault>
 
 /// The reaction behind `after`, 1 where none is written.
 fn reaction(left: &[u8]) -> Result<(Span, &[u8]), LineFault>
-    ensures { Gives (λ r. (r.0, words_of r.1.now)) result (reaction_read (words_of left.now)) }
+    ensures { GivesRead (λ r. (r.0, words_of r.1.now)) result (reaction_read (words_of left.now)) }
 {
     if begins_by(b"after", left) {
-        let left = past(b"after", left)?;
+        let left = past_keyword(b"after", left)?;
         return time(left);
     }
     Ok((
@@ -180,17 +182,17 @@ fn word_as<'a>(
     word: &[u8],
     left: &'a [u8],
 ) -> Result<(Option<Word>, u8, &'a [u8]), LineFault>
-    ensures { Gives (λ r. ((r.0, r.1), words_of r.2.now)) result (word_read word.now (words_of left.now)) }
+    ensures { GivesRead (λ r. ((r.0, r.1), words_of r.2.now)) result (word_letter_read word.now (words_of left.now)) }
 {
-    let left = past(b"as", left)?;
+    let left = past_keyword(b"as", left)?;
     let (letter, left) = letter(left)?;
     let word = Word::new(alloc, word)?;
     Ok((Some(word), letter, left))
 }
 
 /// A letter, or a word with its letter.
-fn observed_prop(alloc: Global, left: &[u8]) -> Result<(Option<Word>, u8, &[u8]), LineFault>
-    ensures { Gives (λ r. ((r.0, r.1), words_of r.2.now)) result (observed_prop (words_of left.now)) }
+fn observed_prop_read(alloc: Global, left: &[u8]) -> Result<(Option<Word>, u8, &[u8]), LineFault>
+    ensures { GivesRead (λ r. ((r.0, r.1), words_of r.2.now)) result (observed_prop_read (words_of left.now)) }
 {
     let Some((word, rest)) = next_word(left) else {
         return Err(LineFault::Wrong { left: 0 });
@@ -206,13 +208,13 @@ fn observed_prop(alloc: Global, left: &[u8]) -> Result<(Option<Word>, u8, &[u8])
 
 /// What is observed behind `observes`, if that stands there.
 fn observed(alloc: Global, left: &[u8]) -> Result<(Option<Observed>, &[u8]), LineFault>
-    ensures { Gives (λ r. (r.0, words_of r.1.now)) result (observed_read (words_of left.now)) }
+    ensures { GivesRead (λ r. (r.0, words_of r.1.now)) result (observed_read (words_of left.now)) }
 {
     if !begins_by(b"observes", left) {
         return Ok((None, left));
     }
-    let left = past(b"observes", left)?;
-    let (word, letter, left) = observed_prop(alloc, left)?;
+    let left = past_keyword(b"observes", left)?;
+    let (word, letter, left) = observed_prop_read(alloc, left)?;
     let (reaction, left) = reaction(left)?;
     let observed = Observed {
         word,
@@ -224,10 +226,10 @@ fn observed(alloc: Global, left: &[u8]) -> Result<(Option<Observed>, &[u8]), Lin
 
 /// A step with this name.
 fn step(alloc: Global, name: Name, left: &[u8]) -> Result<Step, LineFault>
-    ensures { Gives the_step result (step_read name (words_of left.now)) }
+    ensures { GivesRead the_plan_step result (step_rest_read name (words_of left.now)) }
 {
     let (observed, left) = observed(alloc, left)?;
-    let rest = read_rest(alloc, nothing_yet(alloc, Expects::If), left)?;
+    let rest = read_rest(alloc, rest_begun(alloc, Expects::If), left)?;
     Ok(Step {
         name,
         observed,
@@ -237,9 +239,9 @@ fn step(alloc: Global, name: Name, left: &[u8]) -> Result<Step, LineFault>
 
 /// A time-point behind `start of` or `end of`.
 fn side(alloc: Global, side: Side, left: &[u8]) -> Result<(Point, &[u8]), LineFault>
-    ensures { Gives (λ r. (r.0, words_of r.1.now)) result (side_read side (words_of left.now)) }
+    ensures { GivesRead (λ r. (r.0, words_of r.1.now)) result (side_read side (words_of left.now)) }
 {
-    let left = past(b"of", left)?;
+    let left = past_keyword(b"of", left)?;
     let (name, left) = name(alloc, left)?;
     Ok((Point { name, side }, left))
 }
@@ -252,9 +254,9 @@ fn rule_by(
     expects: Expects,
     left: &[u8],
 ) -> Result<Line, LineFault>
-    ensures { Gives the_line result (rule_by point says expects (words_of left.now)) }
+    ensures { GivesRead the_plan_line result (rule_by point says expects (words_of left.now)) }
 {
-    let rest = read_rest(alloc, nothing_yet(alloc, expects), left)?;
+    let rest = read_rest(alloc, rest_begun(alloc, expects), left)?;
     Ok(Line::Rule(Rule {
         point,
         says,
@@ -265,11 +267,11 @@ fn rule_by(
 
 /// A rule behind `by`: a span, and then `after`, without which the span is a time.
 fn by(alloc: Global, point: Point, left: &[u8]) -> Result<Line, LineFault>
-    ensures { Gives the_line result (by_read point (words_of left.now)) }
+    ensures { GivesRead the_plan_line result (by_read point (words_of left.now)) }
 {
     let (span, left) = span(left)?;
     if begins_by(b"after", left) {
-        let left = past(b"after", left)?;
+        let left = past_keyword(b"after", left)?;
         return rule_by(alloc, point, Says::ByAfter(span), Expects::Since, left);
     }
     if span.ticks < 0 {
@@ -280,25 +282,25 @@ fn by(alloc: Global, point: Point, left: &[u8]) -> Result<Line, LineFault>
 
 /// A rule behind `within`.
 fn within(alloc: Global, point: Point, left: &[u8]) -> Result<Line, LineFault>
-    ensures { Gives the_line result (within_read point (words_of left.now)) }
+    ensures { GivesRead the_plan_line result (within_read point (words_of left.now)) }
 {
     let (span, left) = time(left)?;
-    let left = past(b"after", left)?;
+    let left = past_keyword(b"after", left)?;
     rule_by(alloc, point, Says::Within(span), Expects::Since, left)
 }
 
 /// A rule that begins with a range.
 fn between(alloc: Global, point: Point, left: &[u8]) -> Result<Line, LineFault>
-    ensures { Gives the_line result (between_read point (words_of left.now)) }
+    ensures { GivesRead the_plan_line result (between_read point (words_of left.now)) }
 {
     let (range, left) = range(left)?;
-    let left = past(b"after", left)?;
+    let left = past_keyword(b"after", left)?;
     rule_by(alloc, point, Says::Between(range), Expects::Since, left)
 }
 
 /// A rule behind `at`.
 fn at(alloc: Global, point: Point, left: &[u8]) -> Result<Line, LineFault>
-    ensures { Gives the_line result (at_read point (words_of left.now)) }
+    ensures { GivesRead the_plan_line result (at_range_read point (words_of left.now)) }
 {
     let (range, left) = range(left)?;
     rule_by(alloc, point, Says::At(range), Expects::If, left)
@@ -306,7 +308,7 @@ fn at(alloc: Global, point: Point, left: &[u8]) -> Result<Line, LineFault>
 
 /// A rule of a time-point, by the words behind that.
 fn rule(alloc: Global, point: Point, left: &[u8]) -> Result<Line, LineFault>
-    ensures { Gives the_line result (rule_read point (words_of left.now)) }
+    ensures { GivesRead the_plan_line result (point_rule_read point (words_of left.now)) }
 {
     let Some((word, rest)) = next_word(left) else {
         return Err(LineFault::Wrong { left: 0 });
@@ -331,32 +333,32 @@ fn rule(alloc: Global, point: Point, left: &[u8]) -> Result<Line, LineFault>
 
 /// `start of` and a rule, or `start` and a time of the clock.
 fn start(alloc: Global, left: &[u8]) -> Result<Line, LineFault>
-    ensures { Gives the_line result (start_read (words_of left.now)) }
+    ensures { GivesRead the_plan_line result (start_line_read (words_of left.now)) }
 {
     if begins_by(b"of", left) {
         return sided(alloc, Side::First, left);
     }
     let (span, left) = clock(left)?;
-    ended(Line::Start(span), left)
+    ended_line(Line::Start(span), left)
 }
 
 /// A rule of one end of a task.
 fn sided(alloc: Global, end: Side, left: &[u8]) -> Result<Line, LineFault>
-    ensures { Gives the_line result (sided_read end (words_of left.now)) }
+    ensures { GivesRead the_plan_line result (sided_read end (words_of left.now)) }
 {
     let (point, left) = side(alloc, end, left)?;
     rule(alloc, point, left)
 }
 
 fn deadline(left: &[u8]) -> Result<Line, LineFault>
-    ensures { Gives the_line result (deadline_read (words_of left.now)) }
+    ensures { GivesRead the_plan_line result (deadline_read (words_of left.now)) }
 {
     let (span, left) = time(left)?;
-    ended(Line::Deadline(span), left)
+    ended_line(Line::Deadline(span), left)
 }
 
 fn named_step(alloc: Global, left: &[u8]) -> Result<Line, LineFault>
-    ensures { Gives the_line result (named_step (words_of left.now)) }
+    ensures { GivesRead the_plan_line result (named_step (words_of left.now)) }
 {
     let (name, left) = name(alloc, left)?;
     Ok(Line::Step(step(alloc, name, left)?))
@@ -364,7 +366,7 @@ fn named_step(alloc: Global, left: &[u8]) -> Result<Line, LineFault>
 
 /// A task: its name, its length, and then as for a step.
 fn task(alloc: Global, left: &[u8]) -> Result<Line, LineFault>
-    ensures { Gives the_line result (task_read (words_of left.now)) }
+    ensures { GivesRead the_plan_line result (task_read (words_of left.now)) }
 {
     let (name, left) = name(alloc, left)?;
     let (range, left) = range(left)?;
@@ -373,7 +375,7 @@ fn task(alloc: Global, left: &[u8]) -> Result<Line, LineFault>
 
 /// A rule that begins with a name.
 fn named_rule(alloc: Global, left: &[u8]) -> Result<Line, LineFault>
-    ensures { Gives the_line result (named_rule (words_of left.now)) }
+    ensures { GivesRead the_plan_line result (named_rule (words_of left.now)) }
 {
     let (name, left) = name(alloc, left)?;
     let side = Side::Alone;
@@ -382,7 +384,7 @@ fn named_rule(alloc: Global, left: &[u8]) -> Result<Line, LineFault>
 
 /// The line of the words that are left.
 pub fn read_line(alloc: Global, left: &[u8]) -> Result<Line, LineFault>
-    ensures { Gives the_line result (line_read (words_of left.now)) }
+    ensures { GivesRead the_plan_line result (plan_line_read (words_of left.now)) }
 {
     let Some((word, rest)) = next_word(left) else {
         return Ok(Line::Nothing);

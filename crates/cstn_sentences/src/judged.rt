@@ -1,11 +1,11 @@
 //! The line of a text, and the numbers that are in range.
 
-ghost use Rattle.std.specs.Prelude.{◌≡◌};
-ghost use Rattle.cstn_sentences.specs.Answers.{Tells};
-ghost use Rattle.cstn_sentences.specs.Grammar.{line_read};
-ghost use Rattle.cstn_sentences.specs.Judged.{is_sized, are_sized, is_in_order, is_range, is_timely, is_said, is_numbered, at_word, line_of};
-ghost use Rattle.cstn_sentences.specs.Lines.{the_line};
-ghost use Rattle.cstn_sentences.specs.Seen.{Gives};
+ghost use Rattle.std.specs.Prelude.{◌≡◌, Err};
+ghost use Rattle.cstn_sentences.specs.Answers.{FailsPlan, TellsPlan};
+ghost use Rattle.cstn_sentences.specs.Grammar.{plan_line_read};
+ghost use Rattle.cstn_sentences.specs.Judged.{is_sized, are_sized, is_in_order, is_range, is_timely, is_said, is_line_in_range, at_word, line_of_text};
+ghost use Rattle.cstn_sentences.specs.Lines.{the_plan_line};
+ghost use Rattle.cstn_sentences.specs.Seen.{GivesRead};
 ghost use Rattle.cstn_sentences.specs.Words.{words_of};
 
 use crate::errors::PlanError;
@@ -81,8 +81,8 @@ fn is_said(says: Says) -> bool
 }
 
 /// Whether the numbers of a line are in range.
-fn is_numbered(line: &Line) -> bool
-    ensures { result ≡ is_numbered (the_line line.now) }
+fn is_line_in_range(line: &Line) -> bool
+    ensures { result ≡ is_line_in_range (the_plan_line line.now) }
 {
     match line {
         Line::Nothing => true,
@@ -94,31 +94,30 @@ fn is_numbered(line: &Line) -> bool
     }
 }
 
-/// What was read of line `n`, where the words that are left at a wrong one give its number.
-fn at_word(n: u32, text: &[u8], read: Result<Line, LineFault>) -> Result<Line, PlanError>
-    requires { Gives the_line read (line_read (words_of text.now)) }
-    ensures { Tells the_line result (at_word n (words_of text.now) (line_read (words_of text.now))) }
+/// The refusal of line `n`, where the words that are left at a wrong one give its number.
+fn refusal(n: u32, text: &[u8], fault: LineFault) -> PlanError
+    requires { GivesRead the_plan_line (Err fault) (plan_line_read (words_of text.now)) }
+    ensures { FailsPlan result (at_word n (words_of text.now) (plan_line_read (words_of text.now))) }
 {
-    match read {
-        Ok(line) => Ok(line),
-        Err(LineFault::Wrong { left }) => Err(PlanError::Wrong {
+    match fault {
+        LineFault::Wrong { left } => PlanError::Wrong {
             line: n,
             word: (count_words(text) + 1).saturating_sub(left),
-        }),
-        Err(LineFault::Memory(e)) => Err(PlanError::Memory(e)),
+        },
+        LineFault::Memory(e) => PlanError::Memory(e),
     }
 }
 
 /// The line of a text, which is number `n`.
-pub fn line_of(alloc: Global, n: u32, text: &[u8]) -> Result<Line, PlanError>
-    ensures { Tells the_line result (line_of n text.now) }
+pub fn line_of_text(alloc: Global, n: u32, text: &[u8]) -> Result<Line, PlanError>
+    ensures { TellsPlan the_plan_line result (line_of_text n text.now) }
 {
     if !is_of_words(text) {
         return Err(PlanError::Wrong { line: n, word: 0 });
     }
-    let line = at_word(n, text, read_line(alloc, text))?;
-    if !is_numbered(&line) {
-        return Err(PlanError::Range { line: n });
+    match read_line(alloc, text) {
+        Ok(line) if is_line_in_range(&line) => Ok(line),
+        Ok(_) => Err(PlanError::Range { line: n }),
+        Err(fault) => Err(refusal(n, text, fault)),
     }
-    Ok(line)
 }

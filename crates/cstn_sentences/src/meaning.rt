@@ -1,29 +1,31 @@
 //! What the lines mean.
 
-ghost use Rattle.std.specs.Prelude.{◌≡◌, ◌<◌, ◌≤◌, ◌-◌, ◌^◌, ◌++◌, ◌∷◌, [], false, true, IfOk, IfSome, OnOk, length, map, flat_map, option_map, option_to_list, slice_index_or, pos, ◌+ℤ◌};
+ghost use Rattle.std.specs.Prelude.{◌≡◌, ◌<◌, ◌≤◌, ◌-◌, ◌^◌, ◌++◌, ◌∷◌, [], false, true, IfOk, IfSome, OnOk, length};
+ghost use Rattle.std.specs.Prelude.{map, flat_map, option_map, option_to_list, slice_index_or, pos, ◌+ℤ◌};
 ghost use Rattle.std.specs.List.{list_all};
 ghost use Rattle.cstn_label.specs.Labels.{empty};
 ghost use Rattle.cstn_label.specs.Read.{marks};
 ghost use Rattle.cstn_text.specs.Names.{number_of};
 ghost use Rattle.cstn_graphml.specs.DrawnGraphSeen.{drawn_seen};
-ghost use Rattle.cstn_sentences.specs.Answers.{Tells};
+ghost use Rattle.cstn_sentences.specs.Answers.{TellsPlan};
 ghost use Rattle.cstn_sentences.specs.Judged.{is_sized};
-ghost use Rattle.cstn_sentences.specs.Lines.{the_step, the_rule, the_line};
-ghost use Rattle.cstn_sentences.specs.Meaning.{nothing_meant, letter_in, prop_in, said, label_with, side_of, point_in, outcome_in, moment_in, moments_in};
+ghost use Rattle.cstn_sentences.specs.Lines.{the_plan_step, the_rule, the_plan_line};
+ghost use Rattle.cstn_sentences.specs.Meaning.{nothing_meant, letter_in, prop_in, mark_said, label_meant_after};
+ghost use Rattle.cstn_sentences.specs.Meaning.{side_of, point_in, outcome_in, moment_in, moments_in};
 ghost use Rattle.cstn_sentences.specs.Meaning.{since_origin, is_sized_from, are_sized_from, at_least, at_most, constraints_of, with_rule, mean_rule};
-ghost use Rattle.cstn_sentences.specs.Meaning.{with_label, mean_step, with_labels, mean_task, mean, meant_line, meant_after};
+ghost use Rattle.cstn_sentences.specs.Meaning.{with_label, mean_step, with_task_labels, mean_task, mean, meant_line, meant_after};
 ghost use Rattle.cstn_sentences.specs.SeenDeclared.{the_declared};
 ghost use Rattle.cstn_sentences.specs.SeenMeaning.{the_meaning, Knows};
-ghost use Rattle.cstn_sentences.specs.Words.{lines_of};
+ghost use Rattle.cstn_sentences.specs.Words.{plan_lines};
 
 use crate::bounds::{Bounds, are_in_order, bounds_of, is_of_end};
 use crate::declarations::{Declared, Meant, letter_for};
 use crate::errors::PlanError;
-use crate::judged::line_of;
+use crate::judged::line_of_text;
 use crate::lines::{Line, Literal, Point, Range, Reference, Rule, Says, Side, Step, Word};
 use crate::observers::Observers;
-use crate::spelling::is_letter;
-use crate::words::without_mark;
+use crate::spelling::is_letter_word;
+use crate::words::{is_wordless, without_mark};
 use cstn_graphml::DrawnConstraint;
 use cstn_label::{Label, Mark, Prop};
 use cstn_text::{Names, cut_at};
@@ -44,7 +46,7 @@ fn letter_in(words: &[Meant], prop: &[u8]) -> Option<u8>
     match prop {
         [] => None,
         [letter, ..] => {
-            if is_letter(prop) {
+            if is_letter_word(prop) {
                 return Some(*letter);
             }
             letter_for(prop, words)
@@ -53,7 +55,7 @@ fn letter_in(words: &[Meant], prop: &[u8]) -> Option<u8>
 }
 
 fn prop_in(alloc: Global, n: u32, words: &[Meant], prop: &Word) -> Result<Prop, PlanError>
-    ensures { Tells (λ p. p.index) result (prop_in n words.now prop.now) }
+    ensures { TellsPlan (λ p. p.index) result (prop_in n words.now prop.now) }
 {
     let Some(letter) = letter_in(words, prop.as_bytes()) else {
         return Err(PlanError::NoLetter {
@@ -70,20 +72,20 @@ fn prop_in(alloc: Global, n: u32, words: &[Meant], prop: &Word) -> Result<Prop, 
     Ok(found)
 }
 
-fn said(holds: bool) -> Mark
-    ensures { result ≡ said holds }
+fn mark_said(holds: bool) -> Mark
+    ensures { result ≡ mark_said holds }
 {
     if holds { Mark::Yes } else { Mark::No }
 }
 
 /// The label of literals, each of another proposition.
-fn label_of(
+fn label_meant(
     alloc: Global,
     n: u32,
     words: &[Meant],
     literals: &[Literal],
 ) -> Result<Label, PlanError>
-    ensures { Tells marks result (label_with n words.now empty literals.now) }
+    ensures { TellsPlan marks result (label_meant_after n words.now empty literals.now) }
 {
     let mut label = Label::empty();
     let mut left = literals;
@@ -95,7 +97,7 @@ fn label_of(
                 text: Word::new(alloc, literal.prop.as_bytes())?,
             });
         };
-        label = label.with(p, said(literal.holds));
+        label = label.with(p, mark_said(literal.holds));
         left = rest;
     }
     Ok(label)
@@ -151,7 +153,7 @@ fn point_in(
     is_end: bool,
     point: &Point,
 ) -> Result<u32, PlanError>
-    ensures { Tells (λ x. x) result (point_in n (the_declared d.now) is_end point.now) }
+    ensures { TellsPlan (λ x. x) result (point_in n (the_declared d.now) is_end point.now) }
 {
     let Some(k) = number_in(&d.names, point.name.as_str()) else {
         return Err(PlanError::NoName {
@@ -177,7 +179,7 @@ fn outcome_in(
     prop: &Word,
 ) -> Result<(u32, i64), PlanError>
     requires { Knows (the_declared d.now) observers.now }
-    ensures { Tells (λ m. m) result (outcome_in n (the_declared d.now) prop.now) }
+    ensures { TellsPlan (λ m. m) result (outcome_in n (the_declared d.now) prop.now) }
 {
     let p = prop_in(alloc, n, d.words.as_slice(), prop)?;
     let Some((x, reaction)) = observers.first(p) else {
@@ -197,7 +199,7 @@ fn moment_in(
     reference: &Reference,
 ) -> Result<(u32, i64), PlanError>
     requires { Knows (the_declared d.now) observers.now }
-    ensures { Tells (λ m. m) result (moment_in n (the_declared d.now) reference.now) }
+    ensures { TellsPlan (λ m. m) result (moment_in n (the_declared d.now) reference.now) }
 {
     match reference {
         Reference::Moment(point) => {
@@ -217,7 +219,7 @@ fn moments_in(
     since: &[Reference],
 ) -> Result<Vec<(u32, i64)>, PlanError>
     requires { Knows (the_declared d.now) observers.now }
-    ensures { Tells (λ ms. ms.items) result (moments_in n (the_declared d.now) since.now) }
+    ensures { TellsPlan (λ ms. ms.items) result (moments_in n (the_declared d.now) since.now) }
 {
     let mut moments = Vec::with_capacity(alloc, since.len())?;
     let mut left = since;
@@ -394,32 +396,16 @@ fn put_rule(
     Ok(())
 }
 
-/// The meaning with a rule more: x is in these bounds, counted from each moment.
-fn with_rule(
-    x: u32,
-    bounds: Bounds,
-    label: Label,
-    moments: &[(u32, i64)],
-    m: Meaning,
-) -> Result<Meaning, AllocError>
-    requires { list_all (are_sized_from bounds) moments.now ≡ true }
-    ensures { IfOk result (λ r. the_meaning r ≡ with_rule x bounds (marks label) moments.now (the_meaning m)) }
-{
-    let mut m = m;
-    put_rule(x, bounds, label, moments, &mut m.constraints)?;
-    Ok(m)
-}
-
 fn mean_rule(
     alloc: Global,
     n: u32,
     d: &Declared,
     observers: &Observers,
     rule: &Rule,
-    m: Meaning,
-) -> Result<Meaning, PlanError>
+    m: &mut Meaning,
+) -> Result<(), PlanError>
     requires { Knows (the_declared d.now) observers.now }
-    ensures { Tells the_meaning result (mean_rule n (the_declared d.now) (the_rule rule.now) (the_meaning m)) }
+    ensures { TellsPlan (λ u. the_meaning m.new) result (mean_rule n (the_declared d.now) (the_rule rule.now) (the_meaning m.old)) }
 {
     let x = point_in(alloc, n, d, is_of_end(rule.says), &rule.point)?;
     let bounds = bounds_of(d.start, rule.says);
@@ -427,25 +413,25 @@ fn mean_rule(
         return Err(PlanError::Range { line: n });
     }
     let moments = moments_in(alloc, n, d, observers, rule.since.as_slice())?;
-    let label = label_of(alloc, n, d.words.as_slice(), rule.label.as_slice())?;
+    let label = label_meant(alloc, n, d.words.as_slice(), rule.label.as_slice())?;
     let moments = since_origin(alloc, rule.says, moments)?;
     if !are_all_sized(bounds, moments.as_slice()) {
         return Err(PlanError::Range { line: n });
     }
-    Ok(with_rule(x, bounds, label, moments.as_slice(), m)?)
+    put_rule(x, bounds, label, moments.as_slice(), &mut m.constraints)?;
+    Ok(())
 }
 
-/// The meaning with the label of a step more.
-fn with_label(name: &str, label: Label, m: Meaning) -> Result<Meaning, AllocError>
-    ensures { IfOk result (λ r. the_meaning r ≡ with_label name.now (marks label) (the_meaning m)) }
+/// Puts in the label of a step.
+fn put_label(name: &str, label: Label, m: &mut Meaning) -> Result<(), AllocError>
+    ensures { OnOk result (the_meaning m.new ≡ with_label name.now (marks label) (the_meaning m.old)) }
 {
-    let mut m = m;
     if name == "Z" {
         m.origin_label = label;
-        return Ok(m);
+        return Ok(());
     }
     m.labels.push(label)?;
-    Ok(m)
+    Ok(())
 }
 
 fn mean_step(
@@ -453,22 +439,22 @@ fn mean_step(
     n: u32,
     d: &Declared,
     step: &Step,
-    m: Meaning,
-) -> Result<Meaning, PlanError>
-    ensures { Tells the_meaning result (mean_step n (the_declared d.now) (the_step step.now) (the_meaning m)) }
+    m: &mut Meaning,
+) -> Result<(), PlanError>
+    ensures { TellsPlan (λ u. the_meaning m.new) result (mean_step n (the_declared d.now) (the_plan_step step.now) (the_meaning m.old)) }
 {
-    let label = label_of(alloc, n, d.words.as_slice(), step.label.as_slice())?;
-    Ok(with_label(step.name.as_str(), label, m)?)
+    let label = label_meant(alloc, n, d.words.as_slice(), step.label.as_slice())?;
+    put_label(step.name.as_str(), label, m)?;
+    Ok(())
 }
 
-/// The meaning with the labels of a task's start and end more.
-fn with_labels(label: Label, m: Meaning) -> Result<Meaning, AllocError>
-    ensures { IfOk result (λ r. the_meaning r ≡ with_labels (marks label) (the_meaning m)) }
+/// Puts in the labels of a task's start and end.
+fn put_task_labels(label: Label, m: &mut Meaning) -> Result<(), AllocError>
+    ensures { OnOk result (the_meaning m.new ≡ with_task_labels (marks label) (the_meaning m.old)) }
 {
-    let mut m = m;
     m.labels.push(label)?;
     m.labels.push(label)?;
-    Ok(m)
+    Ok(())
 }
 
 fn mean_task(
@@ -477,11 +463,11 @@ fn mean_task(
     d: &Declared,
     step: &Step,
     range: Range,
-    m: Meaning,
-) -> Result<Meaning, PlanError>
-    ensures { Tells the_meaning result (mean_task n (the_declared d.now) (the_step step.now) range (the_meaning m)) }
+    m: &mut Meaning,
+) -> Result<(), PlanError>
+    ensures { TellsPlan (λ u. the_meaning m.new) result (mean_task n (the_declared d.now) (the_plan_step step.now) range (the_meaning m.old)) }
 {
-    let label = label_of(alloc, n, d.words.as_slice(), step.label.as_slice())?;
+    let label = label_meant(alloc, n, d.words.as_slice(), step.label.as_slice())?;
     let Some(x) = number_in(&d.names, step.name.as_str()) else {
         return Err(PlanError::NoName {
             line: n,
@@ -493,8 +479,15 @@ fn mean_task(
     if !are_all_sized(bounds, start.as_slice()) {
         return Err(PlanError::Range { line: n });
     }
-    let m = with_labels(label, m)?;
-    Ok(with_rule(x + 1, bounds, Label::empty(), start.as_slice(), m)?)
+    put_task_labels(label, m)?;
+    put_rule(
+        x + 1,
+        bounds,
+        Label::empty(),
+        start.as_slice(),
+        &mut m.constraints,
+    )?;
+    Ok(())
 }
 
 /// What is meant once a line was read.
@@ -504,15 +497,15 @@ fn mean(
     d: &Declared,
     observers: &Observers,
     line: &Line,
-    m: Meaning,
-) -> Result<Meaning, PlanError>
+    m: &mut Meaning,
+) -> Result<(), PlanError>
     requires { Knows (the_declared d.now) observers.now }
-    ensures { Tells the_meaning result (mean n (the_declared d.now) (the_meaning m) (the_line line.now)) }
+    ensures { TellsPlan (λ u. the_meaning m.new) result (mean n (the_declared d.now) (the_meaning m.old) (the_plan_line line.now)) }
 {
     match line {
-        Line::Nothing => Ok(m),
-        Line::Deadline(_) => Ok(m),
-        Line::Start(_) => Ok(m),
+        Line::Nothing => Ok(()),
+        Line::Deadline(_) => Ok(()),
+        Line::Start(_) => Ok(()),
         Line::Step(step) => mean_step(alloc, n, d, step, m),
         Line::Task(step, range) => mean_task(alloc, n, d, step, *range, m),
         Line::Rule(rule) => mean_rule(alloc, n, d, observers, rule, m),
@@ -525,12 +518,15 @@ fn mean_text(
     d: &Declared,
     observers: &Observers,
     text: &[u8],
-    m: Meaning,
-) -> Result<Meaning, PlanError>
+    m: &mut Meaning,
+) -> Result<(), PlanError>
     requires { Knows (the_declared d.now) observers.now }
-    ensures { Tells the_meaning result (meant_line n (the_declared d.now) (the_meaning m) text.now) }
+    ensures { TellsPlan (λ u. the_meaning m.new) result (meant_line n (the_declared d.now) (the_meaning m.old) text.now) }
 {
-    let line = line_of(alloc, n, text)?;
+    if is_wordless(text) {
+        return Ok(());
+    }
+    let line = line_of_text(alloc, n, text)?;
     mean(alloc, n, d, observers, &line, m)
 }
 
@@ -554,15 +550,16 @@ pub fn mean_lines(
 ) -> Result<Meaning, PlanError>
     requires short { length text.now ≤ 8388608 }
     requires knows { Knows (the_declared d.now) observers.now }
-    ensures { Tells the_meaning result (meant_after 1 (the_declared d.now) nothing_meant (lines_of text.now)) }
+    ensures { TellsPlan the_meaning result (meant_after 1 (the_declared d.now) nothing_meant (plan_lines text.now)) }
 {
     let mut m = nothing_meant(alloc);
     let mut left = without_mark(text);
     let mut n = 1;
     while let Some((line, rest)) = cut_at(left, b'\n') {
-        m = mean_text(alloc, n, d, observers, line, m)?;
+        mean_text(alloc, n, d, observers, line, &mut m)?;
         n += 1;
         left = rest;
     }
-    mean_text(alloc, n, d, observers, left, m)
+    mean_text(alloc, n, d, observers, left, &mut m)?;
+    Ok(m)
 }

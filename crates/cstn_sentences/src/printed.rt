@@ -3,8 +3,8 @@
 ghost use Rattle.std.specs.Prelude.{◌≡◌, ◌++◌, ◌∷◌, [], OnOk, Some, pos};
 ghost use Rattle.cstn_label.specs.Read.{marks};
 ghost use Rattle.cstn_label.specs.Letters.{letter_of};
-ghost use Rattle.cstn_sentences.specs.Printed.{spaced, span_word, range_word, most_word, says_words, label_words, said_words, observed_words};
-ghost use Rattle.cstn_sentences.specs.Sentences.{ticks, asserted, literals, observed_after};
+ghost use Rattle.cstn_sentences.specs.Printed.{spaced_words, span_word, range_word, most_word, says_words, label_words, said_words, observed_words};
+ghost use Rattle.cstn_sentences.specs.Sentences.{ticks, asserted, literals_of_label, observed_after};
 
 use crate::lines::{Range, Says, Span};
 use cstn_label::{Label, Mark, Prop};
@@ -12,14 +12,14 @@ use itoa::Buffer;
 use std::alloc::AllocError;
 
 pub(crate) fn push_word(text: &mut Vec<u8>, word: &[u8]) -> Result<(), AllocError>
-    ensures { OnOk result (text.new.items ≡ text.old.items ++ spaced (word.now ∷ [])) }
+    ensures { OnOk result (text.new.items ≡ text.old.items ++ spaced_words (word.now ∷ [])) }
 {
     text.push(b' ')?;
     text.extend_from_slice(word)
 }
 
 pub(crate) fn push_span(text: &mut Vec<u8>, span: Span) -> Result<(), AllocError>
-    ensures { OnOk result (text.new.items ≡ text.old.items ++ spaced (span_word span ∷ [])) }
+    ensures { OnOk result (text.new.items ≡ text.old.items ++ spaced_words (span_word span ∷ [])) }
 {
     text.push(b' ')?;
     push_ticks(text, span)
@@ -33,7 +33,7 @@ fn push_ticks(text: &mut Vec<u8>, span: Span) -> Result<(), AllocError>
 }
 
 fn push_range(text: &mut Vec<u8>, range: Range) -> Result<(), AllocError>
-    ensures { OnOk result (text.new.items ≡ text.old.items ++ spaced (range_word range ∷ [])) }
+    ensures { OnOk result (text.new.items ≡ text.old.items ++ spaced_words (range_word range ∷ [])) }
 {
     push_span(text, range.least)?;
     push_most(text, range)
@@ -54,7 +54,7 @@ fn push_most(text: &mut Vec<u8>, range: Range) -> Result<(), AllocError>
 
 // Writes what a rule says of its time-point.
 pub(crate) fn push_says(text: &mut Vec<u8>, says: Says) -> Result<(), AllocError>
-    ensures { OnOk result (text.new.items ≡ text.old.items ++ spaced (says_words says)) }
+    ensures { OnOk result (text.new.items ≡ text.old.items ++ spaced_words (says_words says)) }
 {
     match says {
         Says::At(range) => {
@@ -81,7 +81,7 @@ pub(crate) fn push_says(text: &mut Vec<u8>, says: Says) -> Result<(), AllocError
 }
 
 fn push_by(text: &mut Vec<u8>, span: Span) -> Result<(), AllocError>
-    ensures { OnOk result (text.new.items ≡ text.old.items ++ spaced (says_words (Says.By span))) }
+    ensures { OnOk result (text.new.items ≡ text.old.items ++ spaced_words (says_words (Says.By span))) }
 {
     push_word(text, b"by")?;
     push_span(text, span)
@@ -89,7 +89,7 @@ fn push_by(text: &mut Vec<u8>, span: Span) -> Result<(), AllocError>
 
 // Writes what a step observes.
 pub(crate) fn push_observed(text: &mut Vec<u8>, p: Prop, reaction: u32) -> Result<(), AllocError>
-    ensures { OnOk result (text.new.items ≡ text.old.items ++ spaced (observed_words (Some (observed_after reaction p.index)))) }
+    ensures { OnOk result (text.new.items ≡ text.old.items ++ spaced_words (observed_words (Some (observed_after reaction p.index)))) }
 {
     push_word(text, b"observes")?;
     push_letter(text, p)?;
@@ -102,7 +102,7 @@ pub(crate) fn push_observed(text: &mut Vec<u8>, p: Prop, reaction: u32) -> Resul
 
 // Writes a label behind `if`, and nothing for the empty one.
 pub(crate) fn push_label(text: &mut Vec<u8>, label: Label) -> Result<(), AllocError>
-    ensures { OnOk result (text.new.items ≡ text.old.items ++ spaced (label_words (literals (marks label)))) }
+    ensures { OnOk result (text.new.items ≡ text.old.items ++ spaced_words (label_words (literals_of_label (marks label)))) }
 {
     let mut joint: &[u8] = b"if";
     for index in 0..52 {
@@ -127,7 +127,7 @@ fn asserted(mark: Mark) -> Option<bool>
 }
 
 fn push_literal(text: &mut Vec<u8>, joint: &[u8], p: Prop, holds: bool) -> Result<(), AllocError>
-    ensures { OnOk result (text.new.items ≡ text.old.items ++ spaced (joint.now ∷ said_words holds (letter_of p.index ∷ []))) }
+    ensures { OnOk result (text.new.items ≡ text.old.items ++ spaced_words (joint.now ∷ said_words holds (letter_of p.index ∷ []))) }
 {
     push_word(text, joint)?;
     if !holds {
@@ -137,13 +137,13 @@ fn push_literal(text: &mut Vec<u8>, joint: &[u8], p: Prop, holds: bool) -> Resul
 }
 
 fn push_letter(text: &mut Vec<u8>, p: Prop) -> Result<(), AllocError>
-    ensures { OnOk result (text.new.items ≡ text.old.items ++ spaced ((letter_of p.index ∷ []) ∷ [])) }
+    ensures { OnOk result (text.new.items ≡ text.old.items ++ spaced_words ((letter_of p.index ∷ []) ∷ [])) }
 {
     push_word(text, &[p.letter()])
 }
 
 pub(crate) fn push_number(text: &mut Vec<u8>, n: u32) -> Result<(), AllocError>
-    ensures { OnOk result (text.new.items ≡ text.old.items ++ spaced (span_word (ticks (pos n)) ∷ [])) }
+    ensures { OnOk result (text.new.items ≡ text.old.items ++ spaced_words (span_word (ticks (pos n)) ∷ [])) }
 {
     let mut digits = Buffer::new();
     push_word(text, digits.format(n).as_bytes())

@@ -8,8 +8,8 @@ ghost use Rattle.cstn_graphml.specs.DrawnGraphSeen.{graph_seen};
 ghost use Rattle.cstn_graphml.specs.Kept.{kept};
 ghost use Rattle.cstn_sentences.specs.Drawn.{graph_of};
 ghost use Rattle.cstn_sentences.specs.Meaning.{on_clock};
-ghost use Rattle.cstn_sentences.specs.Planned.{IsPlan, RefusesPlan, IsNetTold, IsOfLabels, IsLabelTold};
-ghost use Rattle.cstn_sentences.specs.Plans.{plan, deadline_in, parts_of};
+ghost use Rattle.cstn_sentences.specs.Planned.{IsFitPlan, RefusesPlan, IsPlanNetTold, IsOfLabels, IsLabelTold};
+ghost use Rattle.cstn_sentences.specs.Plans.{plan, deadline_in, plan_parts};
 ghost use Rattle.cstn_sentences.specs.SeenDeclared.{the_declared};
 ghost use Rattle.cstn_sentences.specs.SeenMeaning.{the_meaning};
 
@@ -67,7 +67,7 @@ fn graph_of(alloc: Global, d: Declared, m: Meaning) -> DrawnGraph
 
 /// The refusal of a plan for what the builder refused: want of memory by itself, any other fault with the names.
 fn refusal(error: NetError, names: Names) -> PlanError
-    ensures { IsNetTold error names result }
+    ensures { IsPlanNetTold error names result }
 {
     match error {
         NetError::Memory(e) => PlanError::Memory(e),
@@ -95,8 +95,8 @@ fn answer(
     m: Meaning,
 ) -> Result<(Labelled, Names), PlanError>
     requires { IsDrawnGraph (graph_of (the_declared d) (the_meaning m)) }
-    ensures accepted { IfOk result (λ r. IsPlan (Ok (parts_of deadline (the_declared d) (the_meaning m))) (the_labelled r.0) r.1) }
-    ensures refused { IfErr result (RefusesPlan (Ok (parts_of deadline (the_declared d) (the_meaning m)))) }
+    ensures accepted { IfOk result (λ r. IsFitPlan (Ok (plan_parts deadline (the_declared d) (the_meaning m))) (the_labelled r.0) r.1) }
+    ensures refused { IfErr result (RefusesPlan (Ok (plan_parts deadline (the_declared d) (the_meaning m)))) }
 {
     let graph = graph_of(alloc, d, m);
     match build_network(alloc, deadline, &graph) {
@@ -115,7 +115,7 @@ pub fn read(
     text: &[u8],
     deadline: Option<u32>,
 ) -> Result<(Labelled, Names), PlanError>
-    ensures accepted { IfOk result (λ r. IsPlan (plan text.now deadline) (the_labelled r.0) r.1) }
+    ensures accepted { IfOk result (λ r. IsFitPlan (plan text.now deadline) (the_labelled r.0) r.1) }
     ensures refused { IfErr result (RefusesPlan (plan text.now deadline)) }
 {
     if text.len() > MAX_PLAN {

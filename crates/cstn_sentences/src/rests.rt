@@ -4,14 +4,14 @@ ghost use Rattle.std.specs.Prelude.{◌≡◌, ◌++◌, ◌∷◌, [], IfOk, op
 ghost use Rattle.cstn_markup.specs.Bytes.{when};
 ghost use Rattle.cstn_sentences.specs.declared.lines.Reference.TheVariants.{Outcome};
 ghost use Rattle.cstn_sentences.specs.Words.{words_of};
-ghost use Rattle.cstn_sentences.specs.Spelling.{is_prop};
+ghost use Rattle.cstn_sentences.specs.Spelling.{is_prop_word};
 ghost use Rattle.cstn_sentences.specs.declared.lines.Expects.TheVariants.{Since, AndOrIf, Asserted};
-ghost use Rattle.cstn_sentences.specs.Grammar.{is, nothing_yet, expecting, with_reference, with_literal, with_point, after_word, may_end, rest_read};
-ghost use Rattle.cstn_sentences.specs.Seen.{Gives, the_rest};
+ghost use Rattle.cstn_sentences.specs.Grammar.{is, rest_begun, expecting, with_reference, with_literal_read, with_point, after_word, may_end, rest_read};
+ghost use Rattle.cstn_sentences.specs.Seen.{GivesRead, the_rest};
 
 use crate::faults::LineFault;
 use crate::lines::{Expects, Literal, Point, Reference, Side, Word};
-use crate::spelling::{is_prop, read_name_word};
+use crate::spelling::{is_prop_word, read_name_word};
 use crate::words::{count_words, next_word};
 use std::alloc::{AllocError, Global};
 
@@ -24,8 +24,8 @@ pub struct Rest {
 }
 
 /// Nothing yet of the rest of a line.
-pub fn nothing_yet(alloc: Global, expects: Expects) -> Rest
-    ensures { the_rest result ≡ nothing_yet expects }
+pub fn rest_begun(alloc: Global, expects: Expects) -> Rest
+    ensures { the_rest result ≡ rest_begun expects }
 {
     Rest {
         since: Vec::new(alloc),
@@ -56,15 +56,15 @@ fn with_reference(reference: Reference, rest: Rest) -> Result<Rest, AllocError>
     })
 }
 
-fn with_literal(
+fn with_literal_read(
     alloc: Global,
     holds: bool,
     word: &[u8],
     rest: Rest,
 ) -> Result<Option<Rest>, AllocError>
-    ensures { IfOk result (λ r. option_map the_rest r ≡ when (is_prop word.now) (with_literal holds word.now (the_rest rest))) }
+    ensures { IfOk result (λ r. option_map the_rest r ≡ when (is_prop_word word.now) (with_literal_read holds word.now (the_rest rest))) }
 {
-    if !is_prop(word) {
+    if !is_prop_word(word) {
         return Ok(None);
     }
     let prop = Word::new(alloc, word)?;
@@ -93,9 +93,9 @@ fn with_point(
 }
 
 fn with_outcome(alloc: Global, word: &[u8], rest: Rest) -> Result<Option<Rest>, AllocError>
-    ensures { IfOk result (λ r. option_map the_rest r ≡ when (is_prop word.now) (with_reference (Outcome word.now) (the_rest rest))) }
+    ensures { IfOk result (λ r. option_map the_rest r ≡ when (is_prop_word word.now) (with_reference (Outcome word.now) (the_rest rest))) }
 {
-    if !is_prop(word) {
+    if !is_prop_word(word) {
         return Ok(None);
     }
     let prop = Word::new(alloc, word)?;
@@ -142,7 +142,7 @@ fn after_asserted(alloc: Global, word: &[u8], rest: Rest) -> Result<Option<Rest>
     if word == b"not".as_slice() {
         return Ok(Some(expecting(Expects::Negated, rest)));
     }
-    with_literal(alloc, true, word, rest)
+    with_literal_read(alloc, true, word, rest)
 }
 
 /// The rest after one word more; none where the word may not stand there.
@@ -158,7 +158,7 @@ fn after_word(alloc: Global, word: &[u8], rest: Rest) -> Result<Option<Rest>, Al
         Expects::AndOrIf => Ok(after_and_or_if(word, rest)),
         Expects::If => Ok(expecting_if(word, b"if", Expects::Asserted, rest)),
         Expects::Asserted => after_asserted(alloc, word, rest),
-        Expects::Negated => with_literal(alloc, false, word, rest),
+        Expects::Negated => with_literal_read(alloc, false, word, rest),
         Expects::And => Ok(expecting_if(word, b"and", Expects::Asserted, rest)),
     }
 }
@@ -183,7 +183,7 @@ fn may_end(expects: Expects) -> bool
 /// Reads the words that are left as the rest of a line.
 #[tactic(auto, unfolding(crate::specs::Grammar::rest_read))]
 pub fn read_rest(alloc: Global, rest: Rest, left: &[u8]) -> Result<Rest, LineFault>
-    ensures { Gives the_rest result (rest_read (the_rest rest) (words_of left.now)) }
+    ensures { GivesRead the_rest result (rest_read (the_rest rest) (words_of left.now)) }
 {
     let mut rest = rest;
     let mut left = left;

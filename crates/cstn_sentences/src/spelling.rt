@@ -5,8 +5,9 @@ ghost use Rattle.std.specs.Char.{is_ascii_alphanumeric};
 ghost use Rattle.std.specs.Fmt.{digit_glyph};
 ghost use Rattle.std.specs.List.{list_all};
 ghost use Rattle.cstn_text.specs.PrintedNames.{is_plain_byte, hex_value, escaped_byte, printed_byte, unprinted};
-ghost use Rattle.cstn_sentences.specs.Spelling.{begins_line, is_of_rule, is_between, is_keyword, begins_with, needs_quotes, quoted_byte, quoted, between_quotes, begins_with_letter, has_space_or_quote};
-ghost use Rattle.cstn_sentences.specs.Spelling.{is_quoted_as, quoted_as, quoted_name, bare_name, name_of, is_letter, is_word, is_prop};
+ghost use Rattle.cstn_sentences.specs.Spelling.{begins_line, is_of_rule, is_between, is_keyword, begins_with, needs_quotes};
+ghost use Rattle.cstn_sentences.specs.Spelling.{quoted_byte, quoted, between_quotes, begins_with_letter, has_space_or_quote};
+ghost use Rattle.cstn_sentences.specs.Spelling.{is_quoted_as, quoted_as, quoted_name, bare_name, name_spelled, is_letter_word, is_word, is_prop_word};
 
 use crate::lines::Name;
 use cstn_text::read_name;
@@ -242,7 +243,7 @@ fn read_quoted_name(alloc: Global, word: &[u8]) -> Result<Option<Name>, AllocErr
 
 /// The name that a word spells, if it spells one.
 pub fn read_name_word(alloc: Global, word: &[u8]) -> Result<Option<Name>, AllocError>
-    ensures { IfOk result (λ name. name ≡ name_of word.now) }
+    ensures { IfOk result (λ name. name ≡ name_spelled word.now) }
 {
     if begins_with(b'"', word) {
         return read_quoted_name(alloc, word);
@@ -251,8 +252,8 @@ pub fn read_name_word(alloc: Global, word: &[u8]) -> Result<Option<Name>, AllocE
 }
 
 /// Whether a word is a letter.
-pub fn is_letter(word: &[u8]) -> bool
-    ensures { result ≡ is_letter word.now }
+pub fn is_letter_word(word: &[u8]) -> bool
+    ensures { result ≡ is_letter_word word.now }
 {
     match word {
         [] => false,
@@ -288,8 +289,8 @@ pub fn is_word(word: &[u8]) -> bool
 }
 
 /// Whether a word is a proposition.
-pub fn is_prop(word: &[u8]) -> bool
-    ensures { result ≡ is_prop word.now }
+pub fn is_prop_word(word: &[u8]) -> bool
+    ensures { result ≡ is_prop_word word.now }
 {
-    is_letter(word) || is_word(word)
+    is_letter_word(word) || is_word(word)
 }

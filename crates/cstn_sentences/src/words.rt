@@ -3,7 +3,7 @@
 ghost use Rattle.std.specs.Prelude.{◌≡◌, ◌<◌, ◌≤◌, ◌∷◌, ◌==◌, not, [], length, IfSome, MatchOption};
 ghost use Rattle.std.specs.List.{prefix_len, list_all};
 ghost use Rattle.cstn_markup.specs.Bytes.{is_white};
-ghost use Rattle.cstn_sentences.specs.Words.{without_mark, word_len, words_of, is_closed, is_of_words};
+ghost use Rattle.cstn_sentences.specs.Words.{without_mark, word_len, words_of, is_closed, is_of_words, is_wordless};
 
 use cstn_markup::{is_white, past_white};
 
@@ -117,4 +117,14 @@ pub fn is_of_words(line: &[u8]) -> bool
         return false;
     };
     are_closed(line)
+}
+
+/// Whether a line is of words, and has none.
+pub fn is_wordless(line: &[u8]) -> bool
+    ensures { result ≡ is_wordless line.now }
+{
+    match next_word(line) {
+        None => is_of_words(line),
+        Some(_) => false,
+    }
 }

@@ -7,8 +7,10 @@ ghost use Rattle.cstn_net.specs.Networks.{count, IsValue};
 ghost use Rattle.cstn_net.specs.Read.{the_network, the_constraint, IsInRange};
 ghost use Rattle.cstn_lift.specs.Read.{the_labelled};
 ghost use Rattle.cstn_sentences.specs.Spelling.{spelling};
-ghost use Rattle.cstn_sentences.specs.Printed.{spaced, observed_words, deadline_words, step_words, rule_words, line_text};
-ghost use Rattle.cstn_sentences.specs.Sentences.{since_words, observed_at, ticks, from_to, from_on, step_of, steps_text, rules_text, is_same_label, is_range, are_turned, are_one_range, is_pair, rule_of, since_says, range_says, least_says, counted_from, pair_rule, has_step, alone_rule, sentences};
+ghost use Rattle.cstn_sentences.specs.Printed.{spaced_words, observed_words, deadline_words, step_words, rule_words, line_text};
+ghost use Rattle.cstn_sentences.specs.Sentences.{since_words, step_observed, ticks, from_to, from_on, step_of, step_lines_text, rules_text};
+ghost use Rattle.cstn_sentences.specs.Sentences.{is_same_label, is_range, are_turned, are_one_range, is_pair, rule_of, since_says, range_says};
+ghost use Rattle.cstn_sentences.specs.Sentences.{least_says, counted_from, pair_rule, has_step, alone_rule, sentences};
 ghost use Rattle.cstn_sentences.specs.NumbersSeen.{number_seen};
 
 use crate::lines::{Range, Says, Span};
@@ -48,7 +50,7 @@ fn push_deadline(text: &mut Vec<u8>, deadline: u32) -> Result<(), AllocError>
 
 fn push_steps(text: &mut Vec<u8>, net: &Labelled, names: &Names) -> Result<(), AllocError>
     requires { length names.now ≡ count (the_network net.now.base) }
-    ensures { OnOk result (text.new.items ≡ text.old.items ++ steps_text (the_labelled net.now) names.now (count (the_network net.now.base))) }
+    ensures { OnOk result (text.new.items ≡ text.old.items ++ step_lines_text (the_labelled net.now) names.now (count (the_network net.now.base))) }
 {
     let base = net.base();
     for x in 0..base.count() {
@@ -83,7 +85,7 @@ fn push_step(text: &mut Vec<u8>, net: &Labelled, names: &Names, x: NodeId) -> Re
 // Writes what a time-point observes, if it observes anything.
 fn push_observation(text: &mut Vec<u8>, net: &Network, x: NodeId) -> Result<(), AllocError>
     requires { x.0 < count (the_network net.now) }
-    ensures { OnOk result (text.new.items ≡ text.old.items ++ spaced (observed_words (observed_at (the_network net.now) x.0))) }
+    ensures { OnOk result (text.new.items ≡ text.old.items ++ spaced_words (observed_words (step_observed (the_network net.now) x.0))) }
 {
     match net.observes(x) {
         None => Ok(()),
@@ -261,7 +263,7 @@ fn push_name_of(text: &mut Vec<u8>, names: &Names, x: NodeId) -> Result<(), Allo
 // Writes what a rule counts from, if that is written.
 fn push_since(text: &mut Vec<u8>, names: &Names, y: Option<NodeId>) -> Result<(), AllocError>
     requires { IfSome y (λ y. y.0 < length names.now) }
-    ensures { OnOk result (text.new.items ≡ text.old.items ++ spaced (since_words names.now (number_seen y))) }
+    ensures { OnOk result (text.new.items ≡ text.old.items ++ spaced_words (since_words names.now (number_seen y))) }
 {
     let Some(y) = y else {
         return Ok(());

@@ -1,17 +1,15 @@
 -- Which files were asked for.
-use Rattle.std.proofs.Common.{◌≡◌, ◌≤◌, ◌-◌, ℕ, suc, List, [], ◌∷◌, ◌++◌, length, take, refl, ap, sym, ◌∙◌, subst, arith, append_assoc, inl, inr}
-use Rattle.std.specs.Prelude.{Option, None, Some, Result, Ok, Err}
-use Rattle.std.proofs.lemmas.List.{append-nil, take-append-le, take-take}
+use Rattle.std.proofs.Common.{◌≡◌, ◌≤◌, ◌-◌, ℕ, suc, List, [], ◌∷◌, length, take, refl, ap, sym, ◌∙◌, subst, arith}
+use Rattle.std.specs.Prelude.{Option}
+use Rattle.std.proofs.lemmas.List.{take-take}
 use Rattle.cstn_io.specs.Asked.{and_names}
-use Rattle.cstn_request.specs.Asked.{AsksOnce}
+use Rattle.cstn_request.specs.Asked.{WereRead, AskedFirst}
 use Rattle.cstn_request.specs.Files.{AreThere}
-use Rattle.cstn_request.specs.Requests.{Asked, Request, of_text, host, files_of}
+use Rattle.cstn_request.specs.Requests.{AskedFile, Request, of_text, host, files_of}
 use Rattle.cstn_request.specs.declared.words.TextVerb.{TextVerb}
 use Rattle.cstn_request.proofs.Contents.{none_there, two_there}
 use Rattle.cstn_request.specs.Read.{the_request}
 use Rattle.cstn_request.specs.declared.words.Request.{Request as RequestWords}
-use Rattle.cstn_request.specs.declared.reading.Unread.{Unread}
-use Rattle.cstn_request.specs.declared.reading.Unread.TheVariants.{Told, ReadFault, Memory}
 use Rattle.cstn_reply.specs.Texts.{Said}
 use Rattle.cstn_reply.specs.Statuses.{status_of}
 use Rattle.cstn_reply.specs.Read.{the_said}
@@ -21,70 +19,16 @@ use Rattle.cstn_reply.specs.declared.output.Outcome.TheVariants.{Document, Scrip
 use Rattle.cstn_reply.specs.declared.status.Status.{Status}
 use Rattle.cstn_reply.specs.declared.status.Status.TheVariants.{Good as IsGood, Bad as IsBad, Words as IsWords, Document as IsRefusedStatus, Full as IsFull, ReadFault as HasReadFault, WriteFault as HasWriteFault, Memory as NoMemory, Unfinished as IsUnfinished, Script as IsScript, Wide as IsWide}
 use Rattle.cstn_top.specs.Plans.{Plan, says}
-use Rattle.cstn_top.specs.Meanings.{files_read, WereRead, AskedFirst, RefusedIsThere}
-use Rattle.cstn_top.specs.Begun.{IsRefusedAt}
+use Rattle.cstn_top.specs.Meanings.{files_read, RefusedIsThere}
+use Rattle.cstn_request.specs.Several.{HasRefusedFile}
 use Rattle.cstn_top.specs.Prepared.{Planned, AsksEnough}
 use Rattle.cstn_top.specs.Questions.{TellsInstead}
-use Rattle.cstn_top.proofs.Hosts.{first_there, host_told, host_refused}
-
--- no further name
-pub and_none : (told : Option (List (List ℕ))) → told ≡ and_names told []
-and_none None = refl
-and_none (Some names) = ap (λ (xs : List (List ℕ)). Some xs) (sym (append-nil names))
-
--- further names, and then others
-pub and_more : (before mid after : Option (List (List ℕ))) (names more : List (List ℕ)) → mid ≡ and_names before names → after ≡ and_names mid more → after ≡ and_names before (names ++ more)
-and_more None mid after names more is later = rw (later, is) refl
-and_more (Some xs) mid after names more is later = rw (later, is, append_assoc xs names more) refl
-
-take_front : (names rest : List (List ℕ)) → take (length names) (names ++ rest) ≡ names
-take_front [] rest = refl
-take_front (name ∷ names) rest = ap (λ (xs : List (List ℕ)). name ∷ xs) (take_front names rest)
-
-take_next : (names : List (List ℕ)) (name : List ℕ) (rest : List (List ℕ)) → take (suc (length names)) (names ++ name ∷ rest) ≡ names ++ name ∷ []
-take_next [] name rest = refl
-take_next (first ∷ names) name rest = ap (λ (xs : List (List ℕ)). first ∷ xs) (take_next names name rest)
+use Rattle.cstn_top.proofs.Hosts.{host_told, host_refused}
+use Rattle.cstn_request.proofs.Asking.{first_there, and_none, and_more, first_more, first_more_some, one_less}
 
 take_whole : (names : List (List ℕ)) → take (length names) names ≡ names
 take_whole [] = refl
 take_whole (name ∷ names) = ap (λ (xs : List (List ℕ)). name ∷ xs) (take_whole names)
-
-one_less : (n : ℕ) → suc n - 1 ≡ n
-one_less n = omega arith
-
-module _ (told : Option (List ℕ → Option (List ℕ))) (before mid after : Option (List (List ℕ))) (names : List (List ℕ)) (is : mid ≡ and_names before names) (there : AreThere told names) where
-  -- one more name was asked for, of files of which those before are there
-  pub first_more : (name : List ℕ) (rest : List (List ℕ)) → after ≡ and_names mid (name ∷ []) → AskedFirst told before after (names ++ name ∷ rest)
-  first_more name rest more = record {
-    count = suc (length names);
-    asked = and_more before mid after names (name ∷ []) is more ∙ ap (and_names before) (sym (take_next names name rest));
-    earlier = subst (λ (n : ℕ). AreThere told (take n (names ++ name ∷ rest))) (sym (one_less (length names)))
-        (subst (AreThere told) (sym (take_front names (name ∷ rest))) there);
-  }
-
-  -- no further name was asked for
-  pub first_none : (rest : List (List ℕ)) → after ≡ mid → AskedFirst told before after (names ++ rest)
-  first_none rest same = record {
-    count = length names;
-    asked = same ∙ is ∙ ap (and_names before) (sym (take_front names rest));
-    earlier = subst (AreThere told) (sym (take-append-le (length names - 1) names rest (omega arith))) (first_there told names (length names - 1) there);
-  }
-
-  -- one more file was to be read
-  pub first_once : {T : Type 0} (name : List ℕ) (rest : List (List ℕ)) (r : Result T Unread) → AsksOnce name mid after r → AskedFirst told before after (names ++ name ∷ rest)
-  first_once name rest (Ok x) asks = first_more name rest asks
-  first_once name rest (Err (Told said)) asks = first_more name rest asks
-  first_once name rest (Err ReadFault) asks = first_more name rest asks
-  first_once name rest (Err Memory) (inl more) = first_more name rest more
-  first_once name rest (Err Memory) (inr same) = first_none (name ∷ rest) same
-
--- a file was to be read before any other
-pub only_once : {T : Type 0} (told : Option (List ℕ → Option (List ℕ))) (before after : Option (List (List ℕ))) (name : List ℕ) (rest : List (List ℕ)) (r : Result T Unread) → AreThere told [] → AsksOnce name before after r → AskedFirst told before after (name ∷ rest)
-only_once told before after name rest r there asks = first_once told before before after [] (and_none before) there name rest r asks
-
--- of a file that is refused the name was asked for
-pub once_told : (T : Type 0) (name : List ℕ) (before after : Option (List (List ℕ))) (x : Unread) (said : SaidText) → x ≡ Told said → AsksOnce {T = T} name before after (Err x) → after ≡ and_names before (name ∷ [])
-once_told T name before after x said is asks = subst (λ (u : Unread). AsksOnce {T = T} name before after (Err u)) is asks
 
 -- all names were asked for
 pub all_first : (told : Option (List ℕ → Option (List ℕ))) (before after : Option (List (List ℕ))) (names : List (List ℕ)) → after ≡ and_names before names → AreThere told names → AskedFirst told before after names
@@ -147,10 +91,6 @@ enough_refused request told before after said outcome first some = record {
       subst (λ (o : Outcome). length (files_read (status_of o) (files_of request)) ≤ first.count) (sym at_once) (omega (arith, at_most_one (files_of request), some));
 }
 
--- the same of equal names
-pub first_names : (told : Option (List ℕ → Option (List ℕ))) (before after : Option (List (List ℕ))) (names others : List (List ℕ)) → names ≡ others → AskedFirst told before after names → AskedFirst told before after others
-first_names told before after names others same is = subst (AskedFirst told before after) same is
-
 -- the same of an equal request
 pub once_as : (before after : Option (List (List ℕ))) (r other : RequestWords) → r ≡ other → after ≡ and_names before (files_of (the_request other)) → after ≡ and_names before (files_of (the_request r))
 once_as before after r other same is = subst (λ (q : RequestWords). after ≡ and_names before (files_of (the_request q))) (sym same) is
@@ -174,18 +114,18 @@ one_instead request told before after said file files plan asked there refused =
 }
 
 -- likewise where a document is refused, and the text isn't read
-pub first_instead : (verb : TextVerb) (asked : Asked) (proof : List ℕ) (told : Option (List ℕ → Option (List ℕ))) (before after : Option (List (List ℕ))) (said : SaidText) → said.outcome ≡ Document → Planned (of_text verb asked proof) told (says (the_said said)) → after ≡ and_names before (asked.file ∷ []) → AreThere told (asked.file ∷ []) →
+pub first_instead : (verb : TextVerb) (asked : AskedFile) (proof : List ℕ) (told : Option (List ℕ → Option (List ℕ))) (before after : Option (List (List ℕ))) (said : SaidText) → said.outcome ≡ Document → Planned (of_text verb asked proof) told (says (the_said said)) → after ≡ and_names before (asked.file ∷ []) → AreThere told (asked.file ∷ []) →
     TellsInstead (of_text verb asked proof) told before after said
-unfolding first_more
 first_instead verb asked proof told before after said outcome plan once there = record {
   plan = plan;
   refused = λ live other output at. (plan.contents, plan.are, record { asked = once; there = there });
   asked = enough_refused (of_text verb asked proof) told before after (the_said said) outcome
-      (first_more told before before after [] (and_none before) (none_there told) asked.file (proof ∷ []) once) (omega arith);
+      (first_more told before before after [] (and_none before) (none_there told) asked.file (proof ∷ []) once)
+      (first_more_some told before before after [] (and_none before) (none_there told) asked.file (proof ∷ []) once);
 }
 
 -- and where the text is too long
-pub text_instead : (verb : TextVerb) (asked : Asked) (proof : List ℕ) (told : Option (List ℕ → Option (List ℕ))) (before mid after : Option (List (List ℕ))) (said : SaidText) → said.outcome ≡ Script → Planned (of_text verb asked proof) told (says (the_said said)) → mid ≡ and_names before (asked.file ∷ []) → after ≡ and_names mid (proof ∷ []) → AreThere told (asked.file ∷ []) → AreThere told (proof ∷ []) →
+pub text_instead : (verb : TextVerb) (asked : AskedFile) (proof : List ℕ) (told : Option (List ℕ → Option (List ℕ))) (before mid after : Option (List (List ℕ))) (said : SaidText) → said.outcome ≡ Script → Planned (of_text verb asked proof) told (says (the_said said)) → mid ≡ and_names before (asked.file ∷ []) → after ≡ and_names mid (proof ∷ []) → AreThere told (asked.file ∷ []) → AreThere told (proof ∷ []) →
     TellsInstead (of_text verb asked proof) told before after said
 text_instead verb asked proof told before mid after said outcome plan once then there later = record {
   plan = plan;
@@ -196,15 +136,15 @@ text_instead verb asked proof told before mid after said outcome plan once then 
 }
 
 -- and where a document of a host is
-pub host_instead : (told : Option (List ℕ → Option (List ℕ))) (before after : Option (List (List ℕ))) (cap : ℕ) (deadline : Option ℕ) (files : List (List ℕ)) (said : SaidText) → IsRefusedAt told before after deadline files said → TellsInstead (host files deadline cap) told before after said
+pub host_instead : (told : Option (List ℕ → Option (List ℕ))) (before after : Option (List (List ℕ))) (cap : ℕ) (deadline : Option ℕ) (files : List (List ℕ)) (said : SaidText) → HasRefusedFile told before after deadline files said → TellsInstead (host files deadline cap) told before after said
 host_instead told before after cap deadline files said is = record {
   plan = host_told told before after cap deadline files said is;
   refused = host_refused told before after cap deadline files said is;
-  asked = enough_refused (host files deadline cap) told before after (the_said said) is.outcome (record { count = suc is.file.place; asked = is.file.read.asked; earlier = before_it }) (omega arith);
+  asked = enough_refused (host files deadline cap) told before after (the_said said) is.outcome (record { count = suc (length is.file.earlier); asked = is.file.read.asked; earlier = before_it }) (omega arith);
 }
   where
-    fewer : take is.file.place (take (suc is.file.place) files) ≡ take (suc is.file.place - 1) files
-    fewer = take-take is.file.place (suc is.file.place) files (omega arith) ∙ ap (λ (n : ℕ). take n files) (sym (one_less is.file.place))
+    fewer : take (length is.file.earlier) (take (suc (length is.file.earlier)) files) ≡ take (suc (length is.file.earlier) - 1) files
+    fewer = take-take (length is.file.earlier) (suc (length is.file.earlier)) files (omega arith) ∙ ap (λ (n : ℕ). take n files) (sym (one_less (length is.file.earlier)))
 
-    before_it : AreThere told (take (suc is.file.place - 1) files)
-    before_it = subst (AreThere told) fewer (first_there told (take (suc is.file.place) files) is.file.place is.file.read.there)
+    before_it : AreThere told (take (suc (length is.file.earlier) - 1) files)
+    before_it = subst (AreThere told) fewer (first_there told (take (suc (length is.file.earlier)) files) (length is.file.earlier) is.file.read.there)

@@ -14,8 +14,8 @@ use Rattle.cstn_check.specs.Growth.{log_of, load_of, live_bounds}
 use Rattle.cstn_check.specs.declared.verdicts.Verdict.{Verdict}
 use Rattle.cstn_check.specs.declared.verdicts.Verdict.TheVariants.{Yes}
 use Rattle.cstn_reply.specs.Texts.{Said, yes_line}
-use Rattle.cstn_top.specs.Plans.{Plan, says, ComesTo, wanting_session}
-use Rattle.cstn_top.specs.Answers.{on_verdict, unless_said}
+use Rattle.cstn_top.specs.Plans.{Plan, says, ComesTo, unless_said, wanting_session}
+use Rattle.cstn_top.specs.Answers.{plan_on_verdict}
 use Rattle.cstn_top.specs.commands.Host.{on_verdicts, attended}
 use Rattle.cstn_top.specs.Prepared.{the_plan, FitsKind}
 use Rattle.cstn_top.specs.Kinds.{a_host}
@@ -29,7 +29,8 @@ use Rattle.cstn_run.specs.hosted.Hosts.{no_plan}
 use Rattle.cstn_run.specs.hosted.Sessions.{File, HostSession, begun as begun_session, host_turn, host_wants, host_ending}
 use Rattle.cstn_run.specs.hosted.Files.{Named, the_file, yes_lines}
 use Rattle.cstn_run.specs.hosted.SessionRead.{the_planned, the_files, the_names, the_host_session, IsHostSession}
-use Rattle.cstn_top.specs.Begun.{HasBegun, the_named, IsBegin, IsSound}
+use Rattle.cstn_top.specs.Begun.{AreYes, HasBegun, the_named, IsBegin}
+use Rattle.cstn_request.specs.Several.{IsSoundNetwork}
 use Rattle.cstn_request.specs.declared.reading.NamedNetwork.{NamedNetwork}
 use Rattle.cstn_top.specs.declared.commands.Prepared.{Prepared}
 use Rattle.cstn_top.specs.declared.commands.Prepared.TheVariants.{Says, Runs, Edits, Follows, Hosts}
@@ -76,6 +77,16 @@ hosted_more plans names plan texts is short =
         by_cases true is' = before k (below is')
         by_cases false is' = at_last k (let most = above is' in omega (arith, inside, most))
 
+yes_more : (cap : ℕ) (all : List Named) (one : Named) → AreYes cap all → verdict cap one.net ≡ Yes (load_of one.net) → AreYes cap (all ++ one ∷ [])
+yes_more cap [] one are yes' = (yes', tt)
+yes_more cap (named ∷ rest) one are yes' = (are.0, yes_more cap rest one are.1 yes')
+
+-- what is said of networks after others whose verdicts are yes is what is said of them alone
+after_all : (cap : ℕ) (after_yes : Plan) (all rest : List Named) → AreYes cap all → on_verdicts cap after_yes (all ++ rest) ≡ on_verdicts cap after_yes rest
+after_all cap after_yes [] rest are = refl
+after_all cap after_yes (named ∷ all) rest are =
+    ap (λ (v : Verdict). plan_on_verdict cap named.names named.net (on_verdicts cap after_yes (all ++ rest)) v) are.0 ∙ after_all cap after_yes all rest are.1
+
 -- nothing was checked yet
 pub begun_none : (cap : ℕ) (begun : Begun) → begun.opening.items ≡ [] → begun.plans.items ≡ [] → begun.names.items ≡ [] → HasBegun cap [] begun
 begun_none cap begun opening plans names = record {
@@ -83,7 +94,7 @@ begun_none cap begun opening plans names = record {
   files = ap (λ (ps : List PlanParts). the_files ps (the_names begun.names.items)) plans;
   many = ap length plans;
   hosted = record { as_many = ap (λ ns. length (the_names ns)) names ∙ sym (ap length plans); short = λ k inside. absurd (let none = ap length plans in omega (arith, inside, none)) };
-  verdicts = λ after_yes rest. refl;
+  verdicts = tt;
 }
 
 -- one more network with the verdict yes
@@ -108,10 +119,7 @@ begun_more cap all old new net check_net names load plan so_far yes' load_is sam
           ∙ sym (map-append the_file all (one ∷ []));
       many = let was = so_far.many in let more = length-append old.plans.items (plan ∷ []) in let all_more = length-append all (one ∷ []) in let is = ap length plans_are in omega (arith, was, more, all_more, is);
       hosted = subst (λ (ps : List PlanParts). IsHostSession ps (the_names new.names.items)) (sym plans_are) (subst (λ (ns : List (List (List ℕ))). IsHostSession (old.plans.items ++ plan ∷ []) ns) (sym names_are) (hosted_more old.plans.items (the_names old.names.items) plan (map printed_name names) so_far.hosted short));
-      verdicts = λ after_yes rest.
-          ap (λ (ns : List Named). on_verdicts cap after_yes ns) (append_assoc all (one ∷ []) rest)
-          ∙ so_far.verdicts after_yes (one ∷ rest)
-          ∙ ap (λ (v : Verdict). on_verdict cap names (the_network net) (on_verdicts cap after_yes rest) v) yes';
+      verdicts = yes_more cap all one so_far.verdicts yes';
     }
 
 nothing_more : {A : Type 0} (xs : List A) → xs ++ [] ≡ xs
@@ -123,10 +131,10 @@ all_taken all front [] is none = is ∙ nothing_more front
 all_taken all front (d ∷ ds) is none = absurd (omega (arith, none))
 
 -- where all documents are sound, each is
-pub sound_at : (all front later : List NamedNetwork) (document : NamedNetwork) → All IsSound all → all ≡ front ++ document ∷ later → IsSound document
+pub sound_at : (all front later : List NamedNetwork) (document : NamedNetwork) → All IsSoundNetwork all → all ≡ front ++ document ∷ later → IsSoundNetwork document
 sound_at all front later document sound is =
     let more = length-append front (document ∷ later) in
-    subst IsSound (ap (λ (ds : List NamedNetwork). slice_index_or ds (length front) document) is ∙ get_or-append_seam front document later document)
+    subst IsSoundNetwork (ap (λ (ds : List NamedNetwork). slice_index_or ds (length front) document) is ∙ get_or-append_seam front document later document)
     (sound (length front) document (omega (arith, more, ap length is)))
 
 -- the session after yes of all networks
@@ -138,7 +146,7 @@ pub told_at : (cap : ℕ) (all front later : List NamedNetwork) (document : Name
 told_at cap all front later document begun said all_is so_far decided =
     let same : attended cap (map the_named all) ≡ says (the_said said) =
     ap (λ (ns : List Named). on_verdicts cap (attending (map the_named all)) ns) (ap (map the_named) all_is ∙ map-append the_named front (document ∷ later))
-    ∙ so_far.verdicts (attending (map the_named all)) (the_named document ∷ map the_named later)
+    ∙ after_all cap (attending (map the_named all)) (map the_named front) (the_named document ∷ map the_named later) so_far.verdicts
     ∙ ap (λ (o : Option Said). unless_said o (on_verdicts cap (attending (map the_named all)) (map the_named later))) decided in
     subst (λ (p : Plan). ComesTo p (says (the_said said))) (sym same) (record { output = λ live s is. is; talks = λ may. may; fault = λ may taken. refl; stops = λ told said is. is })
 
@@ -154,7 +162,7 @@ all_begun cap all front begun (Ok (Hosts opening hosted)) all_is so_far is =
     let same : attended cap (map the_named all) ≡ wanting_session host_wants host_turn host_ending opening.items (the_host_session hosted) =
     ap (λ (ds : List NamedNetwork). attended cap (map the_named ds)) all_is
     ∙ ap (λ (ns : List Named). on_verdicts cap (attending named) ns) (sym (nothing_more named))
-    ∙ so_far.verdicts (attending named) []
+    ∙ after_all cap (attending named) named [] so_far.verdicts
     ∙ ap (λ (o : List ℕ). wanting_session host_wants host_turn host_ending o (begun_session (map the_file named))) (sym (ap (λ (v : Vec ℕ Global). v.items) is.0 ∙ so_far.opening))
     ∙ ap (λ (w : HostSession). wanting_session host_wants host_turn host_ending opening.items w) (sym (is.1 ∙ ap begun_session so_far.files)) in
     subst (λ (p : Plan). ComesTo p (wanting_session host_wants host_turn host_ending opening.items (the_host_session hosted))) (sym same) (record { output = λ live s is. is; talks = λ may. may; fault = λ may taken. refl; stops = λ told said is. is })

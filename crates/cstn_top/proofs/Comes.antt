@@ -1,8 +1,9 @@
 -- What is said of a document that was opened, as a plan.
 use Rattle.std.proofs.Common.{◌≡◌, ℕ, ◌≤◌, ◌<◌, List, length, refl, ap, sym, ◌∙◌, subst, inl, inr, arith}
-use Rattle.std.specs.Prelude.{nat_lt, if◌then◌else◌, Option, Result, Ok, Err, codes}
+use Rattle.std.specs.Prelude.{nat_lt, Bool, true, false, Option, Result, Ok, Err, IfOk, codes}
 use Rattle.cstn_net.specs.Networks.{Network}
 use Rattle.cstn_net.specs.Read.{the_network}
+use Rattle.cstn_text.specs.Limits.{most_text}
 use Rattle.cstn_lift.specs.Labelled.{Labelled}
 use Rattle.cstn_lift.specs.Read.{the_labelled}
 use Rattle.cstn_element.specs.Results.{Refusal}
@@ -14,43 +15,44 @@ use Rattle.cstn_reply.specs.Read.{the_said}
 use Rattle.cstn_reply.specs.declared.output.Said.{Said as SaidText}
 use Rattle.cstn_reply.specs.declared.output.Outcome.TheVariants.{Document}
 use Rattle.cstn_request.specs.Limits.{most_document}
-use Rattle.cstn_request.specs.Documents.{AreUnlabelled, IsRefusalOf, IsSaidOf, IsLabelsTold, IsSaidPlainly}
-use Rattle.cstn_request.specs.Opened.{IsLabelledOf, IsLoweredOf, IsPlainOf, IsRefusal, IsPlainRefusal}
+use Rattle.cstn_request.specs.Documents.{AreUnlabelled, IsRefusalOfParts, IsSaidOf, IsLabelsTold, IsSaidPlainly}
+use Rattle.cstn_request.specs.Opened.{IsLabelledOf, IsLoweredOf, IsPlainOf, IsDocumentRefusal, IsPlainRefusal}
 use Rattle.cstn_request.specs.declared.reading.NamedNetwork.{NamedNetwork}
 use Rattle.cstn_request.specs.declared.reading.NamedLabelled.{NamedLabelled}
-use Rattle.cstn_top.specs.Plans.{Plan, Form, a_document, says, judges, unlabelled, IsOutput, ComesTo}
-use Rattle.cstn_top.specs.Answers.{Answer, LabelledAnswer, of_plain, of_lowered, judged, on_labelled, on_document}
+use Rattle.cstn_top.specs.Plans.{Plan, says, either_plan, ComesTo}
+use Rattle.cstn_top.specs.Answers.{NetworkAnswer, LabelledAnswer, Form, a_document, judges, unlabelled, of_plain, of_lowered, judged, on_labelled, on_document, IsByText}
 
-within : (n m : ℕ) (plan other : Plan) → m ≤ n → (if nat_lt n m then plan else other) ≡ other
-within n m plan other le = grind arith
+at_most : (n m : ℕ) → m ≤ n → nat_lt n m ≡ false
+at_most n m le = grind arith
 
-beyond : (n m : ℕ) (plan other : Plan) → n < m → (if nat_lt n m then plan else other) ≡ plan
-beyond n m plan other lt = grind arith
+above : (n m : ℕ) → n < m → nat_lt n m ≡ true
+above n m lt = grind arith
 
 -- what is said of a document that isn't too long
 short_document : (answer : LabelledAnswer) (bytes : List ℕ) (deadline : Option ℕ) → length bytes ≤ most_document → on_labelled answer bytes deadline ≡ judged answer (document bytes deadline)
-short_document answer bytes deadline short = within most_document (length bytes) (says (say Document (codes "document long"))) (judged answer (document bytes deadline)) short
+short_document answer bytes deadline short =
+    ap (λ (long : Bool). either_plan long (says (say Document (codes "document long"))) (judged answer (document bytes deadline))) (at_most most_document (length bytes) short)
 
-short_output : (answer : LabelledAnswer) (bytes : List ℕ) (deadline : Option ℕ) (live : List ℕ) (said : Said) → length bytes ≤ most_document → IsOutput (judged answer (document bytes deadline)) live said → IsOutput (on_labelled answer bytes deadline) live said
-short_output answer bytes deadline live said short output = subst (λ (plan : Plan). IsOutput plan live said) (sym (short_document answer bytes deadline short)) output
+short_output : (answer : LabelledAnswer) (bytes : List ℕ) (deadline : Option ℕ) (live : List ℕ) (said : Said) → length bytes ≤ most_document → (judged answer (document bytes deadline)).output live said → (on_labelled answer bytes deadline).output live said
+short_output answer bytes deadline live said short output = subst (λ (plan : Plan). plan.output live said) (sym (short_document answer bytes deadline short)) output
 
-judged_output : (answer : LabelledAnswer) (told : Result Parts Refusal) (live : List ℕ) (said : Said) → IsRefusalOf told said → IsOutput (judged answer told) live said
+judged_output : (answer : LabelledAnswer) (told : Result Parts Refusal) (live : List ℕ) (said : Said) → IsRefusalOfParts told said → (judged answer told).output live said
 judged_output answer (Err refusal) live said is = is
 judged_output answer (Ok parts) live said is = inr is
 
-labels_output : (answer : Answer) (told : Result Parts Refusal) (live : List ℕ) (said : Said) → IsLabelsTold told said → IsOutput (judged (of_plain answer) told) live said
+labels_output : (answer : NetworkAnswer) (told : Result Parts Refusal) (live : List ℕ) (said : Said) → IsLabelsTold told said → (judged (of_plain answer) told).output live said
 labels_output answer (Err refusal) live said is = absurd is
 labels_output answer (Ok parts) live said (fit, labelled, is) = inl (fit, inr (labelled, is))
 
 -- what is said of a file that is refused, whatever would be said of a labelled network
-pub refusal_output : (answer : LabelledAnswer) (bytes : List ℕ) (deadline : Option ℕ) (said : Said) → IsSaidOf bytes deadline said → (live : List ℕ) → IsOutput (on_labelled answer bytes deadline) live said
+pub refusal_output : (answer : LabelledAnswer) (bytes : List ℕ) (deadline : Option ℕ) (said : Said) → IsSaidOf bytes deadline said → (live : List ℕ) → (on_labelled answer bytes deadline).output live said
 refusal_output answer bytes deadline said (inl (long, is)) live =
-    subst (λ (plan : Plan). IsOutput plan live said) (sym (beyond most_document (length bytes) (says (say Document (codes "document long"))) (judged answer (document bytes deadline)) long)) is
+    subst (λ (too_long : Bool). (either_plan too_long (says (say Document (codes "document long"))) (judged answer (document bytes deadline))).output live said) (sym (above most_document (length bytes) long)) is
 refusal_output answer bytes deadline said (inr (short, is)) live =
     short_output answer bytes deadline live said short (judged_output answer (document bytes deadline) live said is)
 
 -- likewise where labels are refused, whatever would be said of a network
-pub plain_refusal_output : (answer : Answer) (bytes : List ℕ) (deadline : Option ℕ) (said : Said) → IsSaidPlainly bytes deadline said → (live : List ℕ) → IsOutput (on_document answer bytes deadline) live said
+pub plain_refusal_output : (answer : NetworkAnswer) (bytes : List ℕ) (deadline : Option ℕ) (said : Said) → IsSaidPlainly bytes deadline said → (live : List ℕ) → (on_document answer bytes deadline).output live said
 plain_refusal_output answer bytes deadline said (inl is) live = refusal_output (of_plain answer) bytes deadline said is live
 plain_refusal_output answer bytes deadline said (inr (short, is)) live =
     short_output (of_plain answer) bytes deadline live said short (labels_output answer (document bytes deadline) live said is)
@@ -63,9 +65,9 @@ pub comes_same : (plan other : Plan) → other ≡ plan → ComesTo plan other
 comes_same plan other is = subst (ComesTo plan) (sym is) (comes_itself plan)
 
 -- a plan whose output is always one text comes to that text
-pub comes_to_text : (plan : Plan) (said : Said) → ((live : List ℕ) → IsOutput plan live said) → ComesTo plan (says said)
+pub comes_to_text : (plan : Plan) (said : Said) → ((live : List ℕ) → plan.output live said) → ComesTo plan (says said)
 comes_to_text plan said output = record {
-  output = λ live other is. subst (λ (s : Said). IsOutput plan live s) (sym is) (output live);
+  output = λ live other is. subst (λ (s : Said). plan.output live s) (sym is) (output live);
   talks = λ may. absurd may;
   fault = λ may taken. absurd may;
   stops = λ told said is. absurd is;
@@ -81,7 +83,7 @@ judges_comes parts plan other good comes = record {
 }
 
 -- what is said of a document that was accepted
-pub accepted_comes : (answer : Answer) (bytes : List ℕ) (deadline : Option ℕ) (d : NamedNetwork) (plan : Plan) → IsPlainOf bytes deadline d → ComesTo (answer d.names (the_network d.network)) plan → ComesTo (on_document answer bytes deadline) plan
+pub accepted_comes : (answer : NetworkAnswer) (bytes : List ℕ) (deadline : Option ℕ) (d : NamedNetwork) (plan : Plan) → IsPlainOf bytes deadline d → ComesTo (answer d.names (the_network d.network)) plan → ComesTo (on_document answer bytes deadline) plan
 accepted_comes answer bytes deadline d plan opens comes =
     let is = opens.is in
     let parts : Parts = is.parts in
@@ -93,7 +95,7 @@ accepted_comes answer bytes deadline d plan opens comes =
     subst (λ (p : Plan). ComesTo p plan) (sym same) (judges_comes parts (answer d.names (the_network d.network)) plan is.unlabelled comes)
 
 -- what is said of a document that was refused
-pub told_comes : (answer : Answer) (bytes : List ℕ) (deadline : Option ℕ) (said : SaidText) → IsPlainRefusal bytes deadline said → ComesTo (on_document answer bytes deadline) (says (the_said said))
+pub told_comes : (answer : NetworkAnswer) (bytes : List ℕ) (deadline : Option ℕ) (said : SaidText) → IsPlainRefusal bytes deadline said → ComesTo (on_document answer bytes deadline) (says (the_said said))
 told_comes answer bytes deadline said opens = comes_to_text (on_document answer bytes deadline) (the_said said) (plain_refusal_output answer bytes deadline (the_said said) opens.0)
 
 -- what is said of the parts of a file, where they make a labelled network
@@ -119,11 +121,11 @@ pub labelled_comes : (answer : LabelledAnswer) (bytes : List ℕ) (deadline : Op
 labelled_comes answer bytes deadline d plan opens comes = document_comes answer bytes deadline (the_labelled d.labelled) d.names plan opens.short opens.is comes
 
 -- what is said of the network that a labelled one is lowered to
-pub lowered_comes : (answer : Answer) (bytes : List ℕ) (deadline : Option ℕ) (d : NamedNetwork) (plan : Plan) → IsLoweredOf bytes deadline d → ComesTo (answer d.names (the_network d.network)) plan → ComesTo (on_labelled (of_lowered answer) bytes deadline) plan
+pub lowered_comes : (answer : NetworkAnswer) (bytes : List ℕ) (deadline : Option ℕ) (d : NamedNetwork) (plan : Plan) → IsLoweredOf bytes deadline d → ComesTo (answer d.names (the_network d.network)) plan → ComesTo (on_labelled (of_lowered answer) bytes deadline) plan
 lowered_comes answer bytes deadline d plan opens comes =
     document_comes (of_lowered answer) bytes deadline (the_labelled opens.labelled) d.names plan opens.short opens.is (subst (λ (n : Network). ComesTo (answer d.names n) plan) opens.network comes)
 
-pub refused_comes : (answer : LabelledAnswer) (bytes : List ℕ) (deadline : Option ℕ) (said : SaidText) → IsRefusal bytes deadline said → ComesTo (on_labelled answer bytes deadline) (says (the_said said))
+pub refused_comes : (answer : LabelledAnswer) (bytes : List ℕ) (deadline : Option ℕ) (said : SaidText) → IsDocumentRefusal bytes deadline said → ComesTo (on_labelled answer bytes deadline) (says (the_said said))
 refused_comes answer bytes deadline said opens = comes_to_text (on_labelled answer bytes deadline) (the_said said) (refusal_output answer bytes deadline (the_said said) opens.0)
 
 -- what comes to a plan comes to what that comes to
@@ -134,3 +136,8 @@ comes_through one two three first later = record {
   fault = λ may taken. later.fault may taken ∙ first.fault (later.talks may) taken;
   stops = λ told said is. first.stops told said (later.stops told said is);
 }
+
+-- what is said by a text that isn't too long
+pub short_text : {E : Type 0} (speaks : Said → Type 0) (text : List ℕ) (r : Result SaidText E) → length text ≤ most_text → IfOk r (λ said. speaks (the_said said)) → IfOk r (λ said. IsByText speaks text (the_said said))
+short_text speaks text (Err e) short is = tt
+short_text speaks text (Ok said) short is = inr (short, is)

@@ -1,14 +1,15 @@
 -- How a call ends: what was written is a text of the plan.
-use Rattle.std.proofs.Common.{◌≡◌, ◌≤◌, ◌-◌, ℕ, List, [], ◌++◌, length, refl, sym, ◌∙◌, ap, subst, inl, inr, arith}
+use Rattle.std.proofs.Common.{◌≡◌, ◌≤◌, ◌-◌, ℕ, List, [], length, refl, sym, ◌∙◌, ap, subst, inl, inr, arith}
 use Rattle.std.specs.Prelude.{◌⊎◌, Bool, IsNone, IsSome, Option, None, Some, codes}
 use Rattle.cstn_io.specs.Contents.{IsAllOf}
 use Rattle.cstn_reply.specs.Texts.{line, Said, say}
 use Rattle.cstn_request.specs.Requests.{Request, files_of, names_of}
 use Rattle.cstn_request.specs.Files.{AreContents, AreThere}
-use Rattle.cstn_top.specs.Plans.{Plan, says, replays, certifies, branches, talks, judges, unlabelled, stopped, after_taken, IsOutput, MayTalk, IsText, Ends, ComesTo, Untouched, wanting_session, ended_session}
+use Rattle.cstn_top.specs.Plans.{Plan, says, IsPlanText, PlanEnds, ComesTo, Untouched, wanting_session, ended_session}
 use Rattle.cstn_top.specs.Dispatch.{plan_of, plan_at}
 use Rattle.cstn_top.specs.Prepared.{the_plan, Planned, TellsRefused, AsksEnough}
-use Rattle.cstn_top.specs.Meanings.{HoldsOf, IsStopped, files_read, AskedFirst, AreAsked, RefusedIsThere, ReadsLive, MayStop}
+use Rattle.cstn_top.specs.Meanings.{HoldsOf, IsStopped, files_read, AreAsked, RefusedIsThere, ReadsLive, MayStop}
+use Rattle.cstn_request.specs.Asked.{AskedFirst}
 use Rattle.cstn_reply.specs.Written.{LiveState, ReadsLeadOn, IsTaken, is_output, is_file_fault, is_live_fault, is_memory, is_stopped, IsWritten}
 use Rattle.cstn_reply.specs.Sessions.{Turn}
 use Rattle.cstn_reply.specs.Read.{the_said}
@@ -16,27 +17,27 @@ use Rattle.cstn_top.specs.Told.{Answers}
 use Rattle.cstn_reply.specs.Statuses.{status_of}
 use Rattle.cstn_top.specs.declared.commands.Prepared.{Prepared}
 use Rattle.cstn_top.specs.declared.commands.Prepared.TheVariants.{Says, Runs, Edits, Follows, Hosts}
-use Rattle.cstn_lines.specs.Pieces.{whole_lines}
 use Rattle.cstn_reply.specs.declared.status.Status.{Status}
 use Rattle.cstn_reply.specs.declared.status.Status.TheVariants.{Words as IsWords, Document as IsRefusedStatus, ReadFault, WriteFault, Memory}
 use Rattle.cstn_reply.specs.declared.output.Outcome.{Outcome}
 use Rattle.cstn_reply.specs.declared.output.Outcome.TheVariants.{Words, Document}
 use Rattle.cstn_reply.proofs.Contents.{given, all_given}
 use Rattle.cstn_request.proofs.Contents.{some_contents, none_there}
-use Rattle.cstn_top.proofs.Answered.{IsAnswer, answered}
-use Rattle.cstn_top.proofs.Asking.{and_none, read_most, no_files}
-use Rattle.cstn_top.proofs.Hosts.{first_there}
+use Rattle.cstn_top.proofs.Outcomes.{IsAnswer}
+use Rattle.cstn_top.proofs.Answered.{answered}
+use Rattle.cstn_top.proofs.Asking.{read_most, no_files}
+use Rattle.cstn_request.proofs.Asking.{and_none, first_there}
 use Rattle.cstn_top.proofs.Talks.{reads}
 use Rattle.cstn_lines.proofs.StepLemmas.{no_bytes}
 
 -- how a call ends, for contents of the files that its words name
 abbrev pub Answered : {S : Type 0} → Option Request → Option (List ℕ → Option (List ℕ)) → S → S → LiveState → LiveState → Option (List ℕ) → Option (List ℕ) → Status → Type 0
-Answered words told source now before after old new result = (contents : List (List ℕ)) × AreContents told (names_of words) contents × Ends (plan_of words contents) before after old new result × Untouched (plan_of words contents) source now
+Answered words told source now before after old new result = (contents : List (List ℕ)) × AreContents told (names_of words) contents × PlanEnds (plan_of words contents) before after old new result × Untouched (plan_of words contents) source now
 
-says_text : (plan : Plan) (said : Said) (seen : LiveState) → ((live : List ℕ) → IsOutput plan live said) → IsText plan seen seen (status_of said.outcome) said.text
+says_text : (plan : Plan) (said : Said) (seen : LiveState) → ((live : List ℕ) → plan.output live said) → IsPlanText plan seen seen (status_of said.outcome) said.text
 says_text plan said seen output = is_output (given seen.left) said (all_given seen.left seen.left [] (no_bytes seen.left)) (output (given seen.left)) (inl refl)
 
-memory_text : (plan : Plan) (seen : LiveState) → IsText plan seen seen Memory (line (codes "memory"))
+memory_text : (plan : Plan) (seen : LiveState) → IsPlanText plan seen seen Memory (line (codes "memory"))
 memory_text plan seen = is_memory refl
 
 -- the words are no request
@@ -59,51 +60,51 @@ memory_end words told source seen old new result written =
     (fs.0, fs.1, (Memory, line (codes "memory"), memory_text (plan_of words fs.0) seen, written), inr refl)
 
 -- a text was written
-pub text_end : (said : Said) (text : List ℕ) (seen : LiveState) (old new : Option (List ℕ)) (status result : Status) → text ≡ said.text → status ≡ status_of said.outcome → IsWritten old new text status result → Ends (says said) seen seen old new result
+pub text_end : (said : Said) (text : List ℕ) (seen : LiveState) (old new : Option (List ℕ)) (status result : Status) → text ≡ said.text → status ≡ status_of said.outcome → IsWritten old new text status result → PlanEnds (says said) seen seen old new result
 text_end said text seen old new status result same at written =
     (status_of said.outcome, said.text, says_text (says said) said seen (λ live. refl), subst (λ (s : Status). IsWritten old new said.text s result) at (subst (λ (xs : List ℕ). IsWritten old new xs status result) same written))
 
 -- a session with an equal opening ends likewise, and so does what equals what was prepared
-pub opened_ends : {S : Type 0} (wants : List ℕ → Bool) (turn : S → List ℕ → Turn S) (ending : S → Said) (state : S) (opening other : List ℕ) (before after : LiveState) (old new : Option (List ℕ)) (result : Status) → other ≡ opening → Ends (wanting_session wants turn ending other state) before after old new result → Ends (wanting_session wants turn ending opening state) before after old new result
-opened_ends wants turn ending state opening other before after old new result same ends = subst (λ (o : List ℕ). Ends (wanting_session wants turn ending o state) before after old new result) same ends
+pub opened_ends : {S : Type 0} (wants : List ℕ → Bool) (turn : S → List ℕ → Turn S) (ending : S → Said) (state : S) (opening other : List ℕ) (before after : LiveState) (old new : Option (List ℕ)) (result : Status) → other ≡ opening → PlanEnds (wanting_session wants turn ending other state) before after old new result → PlanEnds (wanting_session wants turn ending opening state) before after old new result
+opened_ends wants turn ending state opening other before after old new result same ends = subst (λ (o : List ℕ). PlanEnds (wanting_session wants turn ending o state) before after old new result) same ends
 
-pub opened_ended : {S : Type 0} (turn : S → List ℕ → Turn S) (ending : S → Said) (state : S) (opening other : List ℕ) (before after : LiveState) (old new : Option (List ℕ)) (result : Status) → other ≡ opening → Ends (ended_session turn ending other state) before after old new result → Ends (ended_session turn ending opening state) before after old new result
-opened_ended turn ending state opening other before after old new result same ends = subst (λ (o : List ℕ). Ends (ended_session turn ending o state) before after old new result) same ends
+pub opened_ended : {S : Type 0} (turn : S → List ℕ → Turn S) (ending : S → Said) (state : S) (opening other : List ℕ) (before after : LiveState) (old new : Option (List ℕ)) (result : Status) → other ≡ opening → PlanEnds (ended_session turn ending other state) before after old new result → PlanEnds (ended_session turn ending opening state) before after old new result
+opened_ended turn ending state opening other before after old new result same ends = subst (λ (o : List ℕ). PlanEnds (ended_session turn ending o state) before after old new result) same ends
 
-pub ends_as : (p q : Prepared) (before after : LiveState) (old new : Option (List ℕ)) (result : Status) → p ≡ q → Ends (the_plan q) before after old new result → Ends (the_plan p) before after old new result
-ends_as p q before after old new result same ends = subst (λ (x : Prepared). Ends (the_plan x) before after old new result) (sym same) ends
+pub ends_as : (p q : Prepared) (before after : LiveState) (old new : Option (List ℕ)) (result : Status) → p ≡ q → PlanEnds (the_plan q) before after old new result → PlanEnds (the_plan p) before after old new result
+ends_as p q before after old new result same ends = subst (λ (x : Prepared). PlanEnds (the_plan x) before after old new result) (sym same) ends
 
 -- reads that go on by one plan go on by a plan that comes to it
-reads_as : (plan other : Plan) (taken : List ℕ) (before after : ℕ) → ComesTo plan other → MayTalk other → ReadsLeadOn (after_taken other) taken before after → ReadsLeadOn (after_taken plan) taken before after
+reads_as : (plan other : Plan) (taken : List ℕ) (before after : ℕ) → ComesTo plan other → other.talks → ReadsLeadOn other.heard taken before after → ReadsLeadOn plan.heard taken before after
 reads_as plan other taken before after comes may reads = record {
   first = reads.first;
   last = reads.last;
   parts = reads.parts;
-  leads = subst (λ (o : Option (List ℕ)). IsSome o) (comes.fault may (whole_lines reads.first)) reads.leads;
+  leads = subst (λ (o : Option (List ℕ)). IsSome o) (comes.fault may reads.first) reads.leads;
   few = reads.few;
 }
 
-taken_as : (plan other : Plan) (before after : LiveState) → ComesTo plan other → MayTalk other → IsTaken (after_taken other) before after → IsTaken (after_taken plan) before after
+taken_as : (plan other : Plan) (before after : LiveState) → ComesTo plan other → other.talks → IsTaken other.heard before after → IsTaken plan.heard before after
 taken_as plan other before after comes may (inl same) = inl same
 taken_as plan other before after comes may (inr (taken, left, reads)) = inr (taken, left, reads_as plan other taken before.reads after.reads comes may reads)
 
 -- where a plan comes to another one, each text of the other is one of it
-carried : (plan other : Plan) (before after : LiveState) (status : Status) (text : List ℕ) → ComesTo plan other → MayTalk other → IsText other before after status text → IsText plan before after status text
+carried : (plan other : Plan) (before after : LiveState) (status : Status) (text : List ℕ) → ComesTo plan other → other.talks → IsPlanText other before after status text → IsPlanText plan before after status text
 carried plan other before after status text comes may (is_output live said all output took) = is_output live said all (comes.output live said output) (taken_as plan other before after comes may took)
 carried plan other before after status text comes may (is_file_fault same) = is_file_fault same
 carried plan other before after status text comes may (is_live_fault taken said left rose heard reads) =
-    is_live_fault taken said left rose (sym (comes.fault may (whole_lines taken)) ∙ heard) (reads_as plan other taken before.reads after.reads comes may reads)
+    is_live_fault taken said left rose (sym (comes.fault may taken) ∙ heard) (reads_as plan other taken before.reads after.reads comes may reads)
 carried plan other before after status text comes may (is_memory same) = is_memory same
 carried plan other before after status text comes may (is_stopped said stops took) = is_stopped said (comes.stops before.left said stops) (taken_as plan other before after comes may took)
 
 -- a session was held
-talks_end : {S : Type 0} (words : Option Request) (r : Request) (told : Option (List ℕ → Option (List ℕ))) (source now : S) (plan : Plan) (before after : LiveState) (old new : Option (List ℕ)) (result : Status) → Some r ≡ words → Planned r told plan → MayTalk plan → Ends plan before after old new result → Answered words told source now before after old new result
+talks_end : {S : Type 0} (words : Option Request) (r : Request) (told : Option (List ℕ → Option (List ℕ))) (source now : S) (plan : Plan) (before after : LiveState) (old new : Option (List ℕ)) (result : Status) → Some r ≡ words → Planned r told plan → plan.talks → PlanEnds plan before after old new result → Answered words told source now before after old new result
 talks_end words r told source now plan before after old new result there planned may ends =
     subst (λ (w : Option Request). Answered w told source now before after old new result) there
     (planned.contents, planned.are, (ends.0, ends.1, carried (plan_at r planned.contents) plan before after ends.0 ends.1 planned.comes may ends.2, ends.3), inl (planned.comes.talks may))
 
 -- where the live source is as it was, each text of a plan that says a text is one of a plan that comes to it
-said_alone : (plan : Plan) (said : Said) (before after : LiveState) (status : Status) (text : List ℕ) → after ≡ before → ComesTo plan (says said) → IsText (says said) before after status text → IsText plan before after status text
+said_alone : (plan : Plan) (said : Said) (before after : LiveState) (status : Status) (text : List ℕ) → after ≡ before → ComesTo plan (says said) → IsPlanText (says said) before after status text → IsPlanText plan before after status text
 said_alone plan said before after status text same comes (is_output live other all output took) = is_output live other all (comes.output live other output) (inl same)
 said_alone plan said before after status text same comes (is_file_fault is) = is_file_fault is
 said_alone plan said before after status text same comes (is_live_fault taken text' left rose heard reads) =
@@ -112,7 +113,7 @@ said_alone plan said before after status text same comes (is_memory is) = is_mem
 said_alone plan said before after status text same comes (is_stopped first stops took) = absurd stops
 
 -- what was prepared was said
-pub spoken : {S : Type 0} (words : Option Request) (r : Request) (told : Option (List ℕ → Option (List ℕ))) (seen : S → LiveState) (source now : S) (p : Prepared) (old new : Option (List ℕ)) (result : Status) → Some r ≡ words → Planned r told (the_plan p) → Ends (the_plan p) (seen source) (seen now) old new result →
+pub spoken : {S : Type 0} (words : Option Request) (r : Request) (told : Option (List ℕ → Option (List ℕ))) (seen : S → LiveState) (source now : S) (p : Prepared) (old new : Option (List ℕ)) (result : Status) → Some r ≡ words → Planned r told (the_plan p) → PlanEnds (the_plan p) (seen source) (seen now) old new result →
     Untouched (the_plan p) source now → Answers words told seen source now old new result
 spoken words r told seen source now (Says said) old new result there planned ends (inl may) = absurd may
 spoken words r told seen source now (Says said) old new result there planned ends (inr same) =
@@ -125,21 +126,21 @@ spoken words r told seen source now (Says said) old new result there planned end
 spoken words r told seen source now (Runs opening guiding) old new result there planned ends touched = talks_end words r told source now _ (seen source) (seen now) old new result there planned tt ends
 spoken words r told seen source now (Edits editing) old new result there planned ends touched = talks_end words r told source now _ (seen source) (seen now) old new result there planned tt ends
 spoken words r told seen source now (Follows opening session') old new result there planned ends touched = talks_end words r told source now _ (seen source) (seen now) old new result there planned tt ends
-spoken words r told seen source now (Hosts opening ward) old new result there planned ends touched = talks_end words r told source now _ (seen source) (seen now) old new result there planned tt ends
+spoken words r told seen source now (Hosts opening hosting) old new result there planned ends touched = talks_end words r told source now _ (seen source) (seen now) old new result there planned tt ends
 
 -- a call ends with the status of an output
 abbrev pub EndsAs : Plan → LiveState → Status → Type 0
-EndsAs plan before status = (live : List ℕ) × IsAllOf before.left live × ((said : Said) × IsOutput plan live said × (status ≡ status_of said.outcome))
+EndsAs plan before status = (live : List ℕ) × IsAllOf before.left live × ((said : Said) × plan.output live said × (status ≡ status_of said.outcome))
 
 -- an output ends with the status of its outcome, and other ends are faults or want of memory
-text_status : (plan : Plan) (before after : LiveState) (status : Status) (text : List ℕ) → IsText plan before after status text → EndsAs plan before status ⊎ IsStopped status
+text_status : (plan : Plan) (before after : LiveState) (status : Status) (text : List ℕ) → IsPlanText plan before after status text → EndsAs plan before status ⊎ IsStopped status
 text_status plan before after status text (is_output live said all output took) = inl (live, all, (said, output, refl))
 text_status plan before after status text (is_file_fault same) = inr (inl refl)
 text_status plan before after status text (is_live_fault taken said left rose heard reads) = inr (inl refl)
 text_status plan before after status text (is_memory same) = inr (inr (inr refl))
 text_status plan before after status text (is_stopped said stops took) = inr (inr (inr refl))
 
-pub end_status : (plan : Plan) (before after : LiveState) (old new : Option (List ℕ)) (result : Status) → Ends plan before after old new result → EndsAs plan before result ⊎ IsStopped result
+pub end_status : (plan : Plan) (before after : LiveState) (old new : Option (List ℕ)) (result : Status) → PlanEnds plan before after old new result → EndsAs plan before result ⊎ IsStopped result
 end_status plan before after old new result ends = by_written ends.3
   where
     by_text : (status : Status) → result ≡ status → EndsAs plan before status ⊎ IsStopped status → EndsAs plan before result ⊎ IsStopped result
@@ -168,7 +169,7 @@ words_is (Some r) told source now before after old new result ends is = absurd (
     by_status (inr stopped) = not_stopped Words (subst IsStopped is stopped)
 
 -- a session was held only by a request that reads the live source
-pub reads_live : (words : Option Request) (r : Request) (told : Option (List ℕ → Option (List ℕ))) (plan : Plan) → Some r ≡ words → Planned r told plan → MayTalk plan → HoldsOf words told ReadsLive
+pub reads_live : (words : Option Request) (r : Request) (told : Option (List ℕ → Option (List ℕ))) (plan : Plan) → Some r ≡ words → Planned r told plan → plan.talks → HoldsOf words told ReadsLive
 reads_live words r told plan there planned may =
     subst (λ (w : Option Request). HoldsOf w told ReadsLive) there (planned.contents, planned.are, reads r planned.contents (planned.comes.talks may))
 
@@ -177,19 +178,17 @@ pub live_is : {S : Type 0} (words : Option Request) (r : Request) (told : Option
 live_is words r told plan source now there planned (inl may) = inl (reads_live words r told plan there planned may)
 live_is words r told plan source now there planned (inr same) = inr same
 
--- a plan that stops at a line comes to a session
-stops_talks : (plan : Plan) (told : Option (List ℕ)) (said : List ℕ) → stopped plan told said → MayTalk plan
-stops_talks (says text) told said is = is
-stops_talks (replays steps net) told said is = is
-stops_talks (certifies names bounds net) told said is = is
-stops_talks (branches names load bounds net) told said is = is
-stops_talks (talks ends opening whole heard wants) told said is = tt
-stops_talks (judges form parts plan) told said is = (is.0, stops_talks plan told said is.1)
-stops_talks (unlabelled labels plan) told said is = (is.0, stops_talks plan told said is.1)
+-- what was prepared stops at a line only of a session
+stops_talks : (p : Prepared) (told : Option (List ℕ)) (said : List ℕ) → (the_plan p).stops told said → (the_plan p).talks
+stops_talks (Says text) told said is = is
+stops_talks (Runs opening session) told said is = tt
+stops_talks (Edits session) told said is = tt
+stops_talks (Follows opening session) told said is = tt
+stops_talks (Hosts opening session) told said is = tt
 
 -- the plan says this and then stops at a line, or else this holds
 abbrev pub StopsOr : Plan → Option (List ℕ) → Type 0 → Type 0
-StopsOr plan live Alone = ((said : List ℕ) × stopped plan live said) ⊎ Alone
+StopsOr plan live Alone = ((said : List ℕ) × plan.stops live said) ⊎ Alone
 
 -- a session with an equal opening stops likewise, and so does what equals what was prepared
 pub opened_stops : {S : Type 0} (wants : List ℕ → Bool) (turn : S → List ℕ → Turn S) (ending : S → Said) (state : S) (opening other : List ℕ) (live : Option (List ℕ)) (Alone : Type 0) → other ≡ opening → StopsOr (wanting_session wants turn ending other state) live Alone → StopsOr (wanting_session wants turn ending opening state) live Alone
@@ -202,11 +201,11 @@ pub stops_as : (live : Option (List ℕ)) (p other : Prepared) (Alone : Type 0) 
 stops_as live p other Alone same stops = subst (λ (q : Prepared). StopsOr (the_plan q) live Alone) (sym same) stops
 
 -- an answer may want memory only where the request reads the live source
-pub memory_is : (words : Option Request) (r : Request) (told : Option (List ℕ → Option (List ℕ))) (live : Option (List ℕ)) (plan : Plan) (Alone : Type 0) → Some r ≡ words → Planned r told plan → StopsOr plan live Alone → HoldsOf words told (MayStop live) ⊎ Alone
-memory_is words r told live plan Alone there planned (inl (said, stops)) =
+pub memory_is : (words : Option Request) (r : Request) (told : Option (List ℕ → Option (List ℕ))) (live : Option (List ℕ)) (p : Prepared) (Alone : Type 0) → Some r ≡ words → Planned r told (the_plan p) → StopsOr (the_plan p) live Alone → HoldsOf words told (MayStop live) ⊎ Alone
+memory_is words r told live p Alone there planned (inl (said, stops)) =
     inl (subst (λ (w : Option Request). HoldsOf w told (MayStop live)) there
-    (planned.contents, planned.are, (reads r planned.contents (planned.comes.talks (stops_talks plan live said stops)), (said, planned.comes.stops live said stops))))
-memory_is words r told live plan Alone there planned (inr alone) = inr alone
+    (planned.contents, planned.are, (reads r planned.contents (planned.comes.talks (stops_talks p live said stops)), (said, planned.comes.stops live said stops))))
+memory_is words r told live p Alone there planned (inr alone) = inr alone
 
 -- a call that was stopped reads no file
 stopped_reads : (told : Option (List ℕ → Option (List ℕ))) (before after : Option (List (List ℕ))) (names : List (List ℕ)) (result : Status) → AskedFirst told before after names → files_read result names ≡ [] → AreAsked told before after result names
@@ -240,7 +239,7 @@ none_asked words told before result none =
     })
 
 -- the files that were read are there
-pub there_is : (words : Option Request) (r : Request) (told : Option (List ℕ → Option (List ℕ))) (asked now : Option (List (List ℕ))) (plan : Plan) (before after : LiveState) (old new : Option (List ℕ)) (result : Status) → Some r ≡ words → Planned r told plan → AsksEnough r told asked now plan → Ends plan before after old new result →
+pub there_is : (words : Option Request) (r : Request) (told : Option (List ℕ → Option (List ℕ))) (asked now : Option (List (List ℕ))) (plan : Plan) (before after : LiveState) (old new : Option (List ℕ)) (result : Status) → Some r ≡ words → Planned r told plan → AsksEnough r told asked now plan → PlanEnds plan before after old new result →
     AreAsked told asked now result (names_of words)
 there_is words r told asked now plan before after old new result there planned asks ends =
     subst (λ (w : Option Request). AreAsked told asked now result (names_of w)) there (by_status (end_status plan before after old new result ends))
@@ -251,7 +250,7 @@ there_is words r told asked now plan before after old new result there planned a
     by_status (inr stopped) = stopped_asks told asked now (files_of r) result asks.first stopped
 
 -- a call that ends with Document tells of a document that is there
-pub refused_is : (words : Option Request) (r : Request) (told : Option (List ℕ → Option (List ℕ))) (asked now : Option (List (List ℕ))) (plan : Plan) (before after : LiveState) (old new : Option (List ℕ)) (result : Status) → Some r ≡ words → TellsRefused told asked now r plan → Ends plan before after old new result →
+pub refused_is : (words : Option Request) (r : Request) (told : Option (List ℕ → Option (List ℕ))) (asked now : Option (List (List ℕ))) (plan : Plan) (before after : LiveState) (old new : Option (List ℕ)) (result : Status) → Some r ≡ words → TellsRefused told asked now r plan → PlanEnds plan before after old new result →
     result ≡ IsRefusedStatus → HoldsOf words told (RefusedIsThere told asked now)
 refused_is words r told asked now plan before after old new result there tells ends is =
     subst (λ (w : Option Request). HoldsOf w told (RefusedIsThere told asked now)) there (by_status (end_status plan before after old new result ends))

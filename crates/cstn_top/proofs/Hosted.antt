@@ -9,8 +9,10 @@ use Rattle.cstn_request.specs.declared.reading.NamedNetwork.{NamedNetwork}
 use Rattle.cstn_top.specs.Plans.{ComesTo}
 use Rattle.cstn_top.specs.commands.Host.{attended, on_documents}
 use Rattle.cstn_top.specs.Questions.{Asks}
-use Rattle.cstn_top.specs.Begun.{the_named, HasRead}
+use Rattle.cstn_top.specs.Begun.{the_named}
+use Rattle.cstn_request.specs.Several.{HasRead}
 use Rattle.cstn_top.specs.declared.commands.questions.Question.TheVariants.{Host}
+use Rattle.cstn_top.proofs.ReadAll.{documents_come}
 
 nothing_more : (xs : List (List ℕ)) → xs ++ [] ≡ xs
 nothing_more xs = grind (arith, common_steps)
@@ -20,6 +22,6 @@ pub host_asked : (told : Option (List ℕ → Option (List ℕ))) (cap : Cap) (d
 host_asked told cap deadline files documents read = record {
   contents = read.contents;
   are = read.are;
-  comes = subst (λ (contents : List (List ℕ)). ComesTo (on_documents (attended cap.entries) deadline [] contents) (attended cap.entries (map the_named documents.items))) (nothing_more read.contents) (read.comes (attended cap.entries) []);
+  comes = subst (λ (contents : List (List ℕ)). ComesTo (on_documents (attended cap.entries) deadline [] contents) (attended cap.entries (map the_named documents.items))) (nothing_more read.contents) (documents_come (attended cap.entries) deadline [] read.contents [] documents.items read.accepted);
   there = read.there;
 }

@@ -17,10 +17,9 @@ use Rattle.cstn_lift.specs.Strategies.{IsEquivalent}
 use Rattle.cstn_lift.proofs.Equivalent.{equivalent}
 use Rattle.cstn_lift.proofs.WellFormed.{lowered_well_formed}
 use Rattle.cstn_reply.specs.Texts.{Said}
-use Rattle.cstn_top.specs.Plans.{IsOutput, MayTalk}
 use Rattle.cstn_top.specs.Answers.{LabelledAnswer, on_labelled}
 use Rattle.cstn_reply.specs.declared.output.Outcome.TheVariants.{Document}
-use Rattle.cstn_request.specs.Documents.{parts_of, HasLabelled, IsNoDocument}
+use Rattle.cstn_request.specs.Documents.{parts_read, HasLabelled, IsNoDocument}
 use Rattle.cstn_top.proofs.DocumentNames.{document_names, document_named}
 use Rattle.cstn_top.proofs.Documents.{IsOfDocument, labelled_says, labelled_talks}
 
@@ -60,13 +59,13 @@ of_parts bytes deadline parts is fit =
 pub labelled_then : (bytes : List ℕ) (deadline : Option ℕ) (one other : List (List ℕ) → Labelled → Type 0) → HasLabelled bytes deadline one → ((names : List (List ℕ)) (m : Labelled) → IsOfLabelled names m → one names m → other names m) → HasLabelled bytes deadline other
 labelled_then bytes deadline one other has follows = by_result (document bytes deadline) refl has
   where
-    by_result : (told : Result Parts DocumentRefusal) → document bytes deadline ≡ told → IsSomeAnd (parts_of told) (λ parts. IsFit parts × one parts.names (labelled_of parts)) → IsSomeAnd (parts_of told) (λ parts. IsFit parts × other parts.names (labelled_of parts))
+    by_result : (told : Result Parts DocumentRefusal) → document bytes deadline ≡ told → IsSomeAnd (parts_read told) (λ parts. IsFit parts × one parts.names (labelled_of parts)) → IsSomeAnd (parts_read told) (λ parts. IsFit parts × other parts.names (labelled_of parts))
     by_result (Err refusal) is h = h
     by_result (Ok parts) is h = (h.0, follows parts.names (labelled_of parts) (of_parts bytes deadline parts is h.0) h.1)
 
 -- no document has a labelled network of which a falsehood holds
 pub none_labelled : (bytes : List ℕ) (deadline : Option ℕ) → HasLabelled bytes deadline (λ names m. ⊥) → ⊥
-none_labelled bytes deadline has = by_found (parts_of (document bytes deadline)) has
+none_labelled bytes deadline has = by_found (parts_read (document bytes deadline)) has
   where
     by_found : (found : Option Parts) → IsSomeAnd found (λ parts. IsFit parts × ⊥) → ⊥
     by_found None h = h
@@ -74,17 +73,17 @@ none_labelled bytes deadline has = by_found (parts_of (document bytes deadline))
 
 -- what is said of a document tells what is told of its labelled network
 pub on_labels : (answer : LabelledAnswer) (bytes : List ℕ) (deadline : Option ℕ) (live : List ℕ) (said : Said) (told : List (List ℕ) → Labelled → Type 0) (Right : Type 0) → (said.outcome ≡ Document → IsNoDocument bytes deadline → Right) →
-    ((names : List (List ℕ)) (m : Labelled) → IsOfLabelled names m → IsOutput (answer names m) live said → told names m) → (HasLabelled bytes deadline told → Right) → IsOutput (on_labelled answer bytes deadline) live said → Right
+    ((names : List (List ℕ)) (m : Labelled) → IsOfLabelled names m → (answer names m).output live said → told names m) → (HasLabelled bytes deadline told → Right) → (on_labelled answer bytes deadline).output live said → Right
 on_labels answer bytes deadline live said told Right refused each so output = by_said (labelled_says answer bytes deadline live said output)
   where
-    by_said : ((said.outcome ≡ Document) × IsNoDocument bytes deadline) ⊎ HasLabelled bytes deadline (λ names m. IsOutput (answer names m) live said) → Right
+    by_said : ((said.outcome ≡ Document) × IsNoDocument bytes deadline) ⊎ HasLabelled bytes deadline (λ names m. (answer names m).output live said) → Right
     by_said (inl is) = refused is.0 is.1
-    by_said (inr has) = so (labelled_then bytes deadline (λ names m. IsOutput (answer names m) live said) told has each)
+    by_said (inr has) = so (labelled_then bytes deadline (λ names m. (answer names m).output live said) told has each)
 
 -- where a session is held over a document, this holds of its labelled network
-pub talks_labelled : (answer : LabelledAnswer) (bytes : List ℕ) (deadline : Option ℕ) (told : List (List ℕ) → Labelled → Type 0) → ((names : List (List ℕ)) (m : Labelled) → IsOfLabelled names m → MayTalk (answer names m) → told names m) → MayTalk (on_labelled answer bytes deadline) → HasLabelled bytes deadline told
-talks_labelled answer bytes deadline told each may = labelled_then bytes deadline (λ names m. MayTalk (answer names m)) told (labelled_talks answer bytes deadline may) each
+pub talks_labelled : (answer : LabelledAnswer) (bytes : List ℕ) (deadline : Option ℕ) (told : List (List ℕ) → Labelled → Type 0) → ((names : List (List ℕ)) (m : Labelled) → IsOfLabelled names m → (answer names m).talks → told names m) → (on_labelled answer bytes deadline).talks → HasLabelled bytes deadline told
+talks_labelled answer bytes deadline told each may = labelled_then bytes deadline (λ names m. (answer names m).talks) told (labelled_talks answer bytes deadline may) each
 
 -- where no session is held over any labelled network, none is held over a document
-pub labels_silent : (answer : LabelledAnswer) (bytes : List ℕ) (deadline : Option ℕ) → ((names : List (List ℕ)) (m : Labelled) → MayTalk (answer names m) → ⊥) → MayTalk (on_labelled answer bytes deadline) → ⊥
+pub labels_silent : (answer : LabelledAnswer) (bytes : List ℕ) (deadline : Option ℕ) → ((names : List (List ℕ)) (m : Labelled) → (answer names m).talks → ⊥) → (on_labelled answer bytes deadline).talks → ⊥
 labels_silent answer bytes deadline never may = none_labelled bytes deadline (talks_labelled answer bytes deadline (λ names m. ⊥) (λ names m is talks. never names m talks) may)

@@ -6,10 +6,8 @@ pub mod Labels
 pub mod Networks
 -- What a request asks, and what is prepared for it.
 pub mod Comes
-pub mod Sayings
 pub mod Opening
 pub mod PlanTexts
-pub mod ReadFiles
 pub mod ReadAll
 pub mod Joining
 pub mod Drills
@@ -26,6 +24,8 @@ pub mod FollowedLines
 -- How sessions end, and with which outcomes.
 pub mod Played
 pub mod Turns
+pub mod Outcomes
+pub mod Verbs
 pub mod Answered
 pub mod Talks
 -- How a call ends, and what it tells.

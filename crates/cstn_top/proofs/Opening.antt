@@ -1,42 +1,41 @@
 -- What a request asks, by what was read of its files.
-use Rattle.std.proofs.Common.{◌≡◌, ℕ, ◌<◌, List, [], ◌∷◌, length, map, Vec, Global, refl, sym, ap, subst, arith}
-use Rattle.std.specs.Prelude.{nat_lt, nat_le, Bool, true, false, if◌then◌else◌, Option, Result, Err, codes}
+use Rattle.std.proofs.Common.{◌≡◌, ℕ, ◌<◌, List, [], ◌∷◌, length, map, Vec, Global, refl, sym, ap, subst, inl, arith}
+use Rattle.std.specs.Prelude.{nat_le, Bool, true, false, Option, Result, Err}
 use Rattle.cstn_net.specs.Networks.{Network}
 use Rattle.cstn_net.specs.Read.{the_network}
-use Rattle.cstn_text.specs.Limits.{most_text}
 use Rattle.cstn_lift.specs.Read.{the_labelled}
-use Rattle.cstn_request.specs.Requests.{Asked, Request, of_network, of_labelled, of_text, of_document, of_plan, drill, version, network_labels, text_labels, files_of}
+use Rattle.cstn_request.specs.Requests.{AskedFile, Request, of_network, of_labelled, of_text, of_document, of_plan, drill, version, network_labels, text_labels, files_of}
 use Rattle.cstn_request.specs.declared.words.Release.{Release}
 use Rattle.cstn_request.specs.declared.words.NetworkVerb.{NetworkVerb}
 use Rattle.cstn_request.specs.declared.words.LabelledVerb.{LabelledVerb}
 use Rattle.cstn_request.specs.declared.words.TextVerb.{TextVerb}
 use Rattle.cstn_request.specs.declared.words.DocumentVerb.{DocumentVerb}
 use Rattle.cstn_log.specs.declared.caps.Cap.{Cap}
-use Rattle.cstn_reply.specs.Texts.{Said, say}
+use Rattle.cstn_reply.specs.Texts.{Said}
 use Rattle.cstn_reply.specs.Statuses.{status_of}
 use Rattle.cstn_reply.specs.Read.{the_said}
 use Rattle.cstn_reply.specs.declared.output.Said.{Said as SaidText}
 use Rattle.cstn_reply.specs.declared.output.Outcome.{Outcome}
-use Rattle.cstn_reply.specs.declared.output.Outcome.TheVariants.{Document, Script}
+use Rattle.cstn_reply.specs.declared.output.Outcome.TheVariants.{Document}
 use Rattle.cstn_reply.specs.declared.status.Status.{Status}
 use Rattle.cstn_reply.specs.declared.status.Status.TheVariants.{Good as IsGood, Bad as IsBad, Words as IsWords, Document as IsRefusedStatus, Full as IsFull, ReadFault, WriteFault, Memory as NoMemory, Unfinished as IsUnfinished, Script as IsScript, Wide as IsWide}
 use Rattle.cstn_graphml.specs.Document.{Parts}
 use Rattle.cstn_sentences.specs.Limits.{most_plan}
 use Rattle.cstn_sentences.specs.Plans.{plan}
-use Rattle.cstn_sentences.specs.Refusals.{Refusal, too_long}
+use Rattle.cstn_sentences.specs.Refusals.{PlanRefusal, too_long}
 use Rattle.cstn_request.specs.Limits.{most_document}
-use Rattle.cstn_request.specs.Files.{file_at, IsContent, AreContents, AreThere}
-use Rattle.cstn_request.specs.Opened.{IsFile, IsAsked, IsLabelledOf, IsNetworkOf, IsRefusal, IsNetworkRefusal, IsTextOf, IsLongText, IsSentencesOf, IsLongPlan}
+use Rattle.cstn_request.specs.Files.{file_bytes, IsContent, AreContents, AreThere}
+use Rattle.cstn_request.specs.Opened.{HasFile, HasAskedFile, IsLabelledOf, IsNetworkOf, IsDocumentRefusal, IsNetworkRefusal, IsProofText, IsLongText, IsSentencesOf, IsLongPlan}
 use Rattle.cstn_request.specs.declared.reading.NamedNetwork.{NamedNetwork}
 use Rattle.cstn_request.specs.declared.reading.NamedLabelled.{NamedLabelled}
 use Rattle.cstn_request.proofs.Contents.{one_content, two_contents, some_content, none_there, two_there}
-use Rattle.cstn_top.specs.Plans.{Plan, says, IsOutput, ComesTo}
-use Rattle.cstn_top.specs.Answers.{Answer, LabelledAnswer, of_lowered, by_labels, on_labelled, by_text}
+use Rattle.cstn_top.specs.Plans.{Plan, says, ComesTo}
+use Rattle.cstn_top.specs.Answers.{NetworkAnswer, LabelledAnswer, of_lowered, by_labels, on_labelled}
 use Rattle.cstn_top.specs.Dispatch.{network_answer, labelled_answer, text_answer, document_answer, plan_at}
 use Rattle.cstn_top.specs.commands.Plan.{planned_of, planned}
 use Rattle.cstn_top.specs.Meanings.{files_read}
 use Rattle.cstn_top.specs.Prepared.{Planned}
-use Rattle.cstn_top.specs.Begun.{IsSound}
+use Rattle.cstn_request.specs.Several.{IsSoundNetwork}
 use Rattle.cstn_top.specs.Questions.{Asks, HasSmallIds, the_question}
 use Rattle.cstn_top.specs.declared.commands.questions.Question.{Question}
 use Rattle.cstn_top.specs.declared.commands.questions.Question.TheVariants.{OfNetwork, OfText, OfPlan, Drill, Version}
@@ -57,43 +56,43 @@ one_read told name IsScript there = there
 one_read told name IsWide there = there
 
 -- a request that is answered by the document of its file alone
-pub record IsOfOne (request : Request) (asked : Asked) (answer : LabelledAnswer) : Type 0 where
+pub record IsOfOne (request : Request) (asked : AskedFile) (answer : LabelledAnswer) : Type 1 where
   pub files : files_of request ≡ asked.file ∷ []
   pub plan : (bytes : List ℕ) → plan_at request (bytes ∷ []) ≡ on_labelled answer bytes asked.deadline
 
-pub of_labelled_verb : (verb : LabelledVerb) (asked : Asked) (cap : ℕ) → IsOfOne (of_labelled verb asked cap) asked (labelled_answer verb cap)
+pub of_labelled_verb : (verb : LabelledVerb) (asked : AskedFile) (cap : ℕ) → IsOfOne (of_labelled verb asked cap) asked (labelled_answer verb cap)
 of_labelled_verb verb asked cap = record { files = refl; plan = λ bytes. refl }
 
-pub of_document_verb : (verb : DocumentVerb) (asked : Asked) → IsOfOne (of_document verb asked) asked (document_answer verb)
+pub of_document_verb : (verb : DocumentVerb) (asked : AskedFile) → IsOfOne (of_document verb asked) asked (document_answer verb)
 of_document_verb verb asked = record { files = refl; plan = λ bytes. refl }
 
 -- ---- one document
 
 -- what is asked of a document with these bytes
-one_asked : (request : Request) (asked : Asked) (answer : LabelledAnswer) (told : Option (List ℕ → Option (List ℕ))) (bytes : List ℕ) (question : Question) → IsOfOne request asked answer → IsContent told asked.file bytes → AreThere told (asked.file ∷ []) → ComesTo (on_labelled answer bytes asked.deadline) (the_question question) → Asks request told question
+one_asked : (request : Request) (asked : AskedFile) (answer : LabelledAnswer) (told : Option (List ℕ → Option (List ℕ))) (bytes : List ℕ) (question : Question) → IsOfOne request asked answer → IsContent told asked.file bytes → AreThere told (asked.file ∷ []) → ComesTo (on_labelled answer bytes asked.deadline) (the_question question) → Asks request told question
 one_asked request asked answer told bytes question one content there comes = record {
   contents = bytes ∷ [];
-  are = λ files e. subst (λ (names : List (List ℕ)). (bytes ∷ []) ≡ map (file_at files) names) (sym one.files) (one_content told asked.file bytes content files e);
+  are = λ files e. subst (λ (names : List (List ℕ)). (bytes ∷ []) ≡ map (file_bytes files) names) (sym one.files) (one_content told asked.file bytes content files e);
   comes = subst (λ (p : Plan). ComesTo p (the_question question)) (sym (one.plan bytes)) comes;
   there = subst (AreThere told) (sym one.files) there;
 }
 
 -- what is said in place of an answer where the document is refused
-one_told : (request : Request) (asked : Asked) (answer : LabelledAnswer) (told : Option (List ℕ → Option (List ℕ))) (bytes : List ℕ) (said : SaidText) → IsOfOne request asked answer → IsContent told asked.file bytes → AreThere told (asked.file ∷ []) → ComesTo (on_labelled answer bytes asked.deadline) (says (the_said said)) → Planned request told (says (the_said said))
+one_told : (request : Request) (asked : AskedFile) (answer : LabelledAnswer) (told : Option (List ℕ → Option (List ℕ))) (bytes : List ℕ) (said : SaidText) → IsOfOne request asked answer → IsContent told asked.file bytes → AreThere told (asked.file ∷ []) → ComesTo (on_labelled answer bytes asked.deadline) (says (the_said said)) → Planned request told (says (the_said said))
 one_told request asked answer told bytes said one content there comes = record {
   contents = bytes ∷ [];
-  are = λ files e. subst (λ (names : List (List ℕ)). (bytes ∷ []) ≡ map (file_at files) names) (sym one.files) (one_content told asked.file bytes content files e);
+  are = λ files e. subst (λ (names : List (List ℕ)). (bytes ∷ []) ≡ map (file_bytes files) names) (sym one.files) (one_content told asked.file bytes content files e);
   comes = subst (λ (p : Plan). ComesTo p (says (the_said said))) (sym (one.plan bytes)) comes;
   there = λ live other output. subst (λ (names : List (List ℕ)). AreThere told (files_read (status_of other.outcome) names)) (sym one.files) (one_read told asked.file (status_of other.outcome) there);
 }
 
 -- what is said of the network of a document, by whether labels are taken
-network_comes : (takes : Bool) (answer : Answer) (bytes : List ℕ) (deadline : Option ℕ) (d : NamedNetwork) (plan : Plan) → IsNetworkOf takes bytes deadline d → ComesTo (answer d.names (the_network d.network)) plan → ComesTo (on_labelled (by_labels takes answer) bytes deadline) plan
+network_comes : (takes : Bool) (answer : NetworkAnswer) (bytes : List ℕ) (deadline : Option ℕ) (d : NamedNetwork) (plan : Plan) → IsNetworkOf takes bytes deadline d → ComesTo (answer d.names (the_network d.network)) plan → ComesTo (on_labelled (by_labels takes answer) bytes deadline) plan
 network_comes true answer bytes deadline d plan opened comes = lowered_comes answer bytes deadline d plan opened comes
 network_comes false answer bytes deadline d plan opened comes = accepted_comes answer bytes deadline d plan opened comes
 
 -- likewise where it is refused
-network_refused : (takes : Bool) (answer : Answer) (bytes : List ℕ) (deadline : Option ℕ) (said : SaidText) → IsNetworkRefusal takes bytes deadline said → ComesTo (on_labelled (by_labels takes answer) bytes deadline) (says (the_said said))
+network_refused : (takes : Bool) (answer : NetworkAnswer) (bytes : List ℕ) (deadline : Option ℕ) (said : SaidText) → IsNetworkRefusal takes bytes deadline said → ComesTo (on_labelled (by_labels takes answer) bytes deadline) (says (the_said said))
 network_refused true answer bytes deadline said refused = refused_comes (of_lowered answer) bytes deadline said refused
 network_refused false answer bytes deadline said refused = told_comes answer bytes deadline said refused
 
@@ -102,26 +101,26 @@ network_outcome true bytes deadline said refused = refused.1
 network_outcome false bytes deadline said refused = refused.1
 
 -- what was read of a document is sound
-pub network_sound : (takes : Bool) (bytes : List ℕ) (deadline : Option ℕ) (d : NamedNetwork) → IsNetworkOf takes bytes deadline d → IsSound d × HasSmallIds takes d
+pub network_sound : (takes : Bool) (bytes : List ℕ) (deadline : Option ℕ) (d : NamedNetwork) → IsNetworkOf takes bytes deadline d → IsSoundNetwork d × HasSmallIds takes d
 network_sound true bytes deadline d opened = (record { well_formed = opened.well_formed; named = opened.names.named }, tt)
 network_sound false bytes deadline d opened = (record { well_formed = opened.well_formed; named = opened.names.named }, opened.ids)
 
-pub network_asked : (verb : NetworkVerb) (asked : Asked) (cap : Cap) (told : Option (List ℕ → Option (List ℕ))) (d : NamedNetwork) → IsAsked told asked (λ bytes deadline. IsNetworkOf (network_labels verb) bytes deadline d) → Asks (of_network verb asked cap.entries) told (OfNetwork verb d cap)
+pub network_asked : (verb : NetworkVerb) (asked : AskedFile) (cap : Cap) (told : Option (List ℕ → Option (List ℕ))) (d : NamedNetwork) → HasAskedFile told asked (λ bytes deadline. IsNetworkOf (network_labels verb) bytes deadline d) → Asks (of_network verb asked cap.entries) told (OfNetwork verb d cap)
 network_asked verb asked cap told d file =
     one_asked (of_network verb asked cap.entries) asked (by_labels (network_labels verb) (network_answer verb cap.entries)) told file.bytes (OfNetwork verb d cap) (record { files = refl; plan = λ bytes. refl }) file.content file.there
     (network_comes (network_labels verb) (network_answer verb cap.entries) file.bytes asked.deadline d (the_question (OfNetwork verb d cap)) file.is (comes_itself (the_question (OfNetwork verb d cap))))
 
-pub network_told : (verb : NetworkVerb) (asked : Asked) (cap : ℕ) (told : Option (List ℕ → Option (List ℕ))) (said : SaidText) → IsAsked told asked (λ bytes deadline. IsNetworkRefusal (network_labels verb) bytes deadline said) → Planned (of_network verb asked cap) told (says (the_said said))
+pub network_told : (verb : NetworkVerb) (asked : AskedFile) (cap : ℕ) (told : Option (List ℕ → Option (List ℕ))) (said : SaidText) → HasAskedFile told asked (λ bytes deadline. IsNetworkRefusal (network_labels verb) bytes deadline said) → Planned (of_network verb asked cap) told (says (the_said said))
 network_told verb asked cap told said file =
     one_told (of_network verb asked cap) asked (by_labels (network_labels verb) (network_answer verb cap)) told file.bytes said (record { files = refl; plan = λ bytes. refl }) file.content file.there
     (network_refused (network_labels verb) (network_answer verb cap) file.bytes asked.deadline said file.is)
 
-pub labelled_asked : (request : Request) (asked : Asked) (answer : LabelledAnswer) (told : Option (List ℕ → Option (List ℕ))) (d : NamedLabelled) (question : Question) → IsOfOne request asked answer → the_question question ≡ answer d.names (the_labelled d.labelled) → IsAsked told asked (λ bytes deadline. IsLabelledOf bytes deadline d) → Asks request told question
+pub labelled_asked : (request : Request) (asked : AskedFile) (answer : LabelledAnswer) (told : Option (List ℕ → Option (List ℕ))) (d : NamedLabelled) (question : Question) → IsOfOne request asked answer → the_question question ≡ answer d.names (the_labelled d.labelled) → HasAskedFile told asked (λ bytes deadline. IsLabelledOf bytes deadline d) → Asks request told question
 labelled_asked request asked answer told d question one is file =
     one_asked request asked answer told file.bytes question one file.content file.there
     (labelled_comes answer file.bytes asked.deadline d (the_question question) file.is (subst (ComesTo (answer d.names (the_labelled d.labelled))) (sym is) (comes_itself (answer d.names (the_labelled d.labelled)))))
 
-pub refused_told : (request : Request) (asked : Asked) (answer : LabelledAnswer) (told : Option (List ℕ → Option (List ℕ))) (said : SaidText) → IsOfOne request asked answer → IsAsked told asked (λ bytes deadline. IsRefusal bytes deadline said) → Planned request told (says (the_said said))
+pub refused_told : (request : Request) (asked : AskedFile) (answer : LabelledAnswer) (told : Option (List ℕ → Option (List ℕ))) (said : SaidText) → IsOfOne request asked answer → HasAskedFile told asked (λ bytes deadline. IsDocumentRefusal bytes deadline said) → Planned request told (says (the_said said))
 refused_told request asked answer told said one file = one_told request asked answer told file.bytes said one file.content file.there (refused_comes answer file.bytes asked.deadline said file.is)
 
 -- ---- a document and a text
@@ -141,15 +140,15 @@ two_read told name other IsScript one two = two_there told name other one two
 two_read told name other IsWide one two = two_there told name other one two
 
 -- a request that is answered by a document and by a text
-pub record IsOfTwo (request : Request) (asked : Asked) (proof : List ℕ) (answers : List ℕ → LabelledAnswer) : Type 0 where
+pub record IsOfTwo (request : Request) (asked : AskedFile) (proof : List ℕ) (answers : List ℕ → LabelledAnswer) : Type 1 where
   pub files : files_of request ≡ asked.file ∷ proof ∷ []
   pub plan : (bytes text : List ℕ) → plan_at request (bytes ∷ text ∷ []) ≡ on_labelled (answers text) bytes asked.deadline
 
-of_text_verb : (verb : TextVerb) (asked : Asked) (proof : List ℕ) → IsOfTwo (of_text verb asked proof) asked proof (λ text. by_labels (text_labels verb) (by_text (text_answer verb) text))
+of_text_verb : (verb : TextVerb) (asked : AskedFile) (proof : List ℕ) → IsOfTwo (of_text verb asked proof) asked proof (λ text. by_labels (text_labels verb) (text_answer verb text))
 of_text_verb verb asked proof = record { files = refl; plan = λ bytes text. refl }
 
 -- what is asked of a document and a text with these bytes
-two_asked : (request : Request) (asked : Asked) (proof : List ℕ) (answers : List ℕ → LabelledAnswer) (told : Option (List ℕ → Option (List ℕ))) (bytes text : List ℕ) (question : Question) → IsOfTwo request asked proof answers → IsContent told asked.file bytes → IsContent told proof text → AreThere told (asked.file ∷ []) → AreThere told (proof ∷ []) → ComesTo (on_labelled (answers text) bytes asked.deadline) (the_question question) → Asks request told question
+two_asked : (request : Request) (asked : AskedFile) (proof : List ℕ) (answers : List ℕ → LabelledAnswer) (told : Option (List ℕ → Option (List ℕ))) (bytes text : List ℕ) (question : Question) → IsOfTwo request asked proof answers → IsContent told asked.file bytes → IsContent told proof text → AreThere told (asked.file ∷ []) → AreThere told (proof ∷ []) → ComesTo (on_labelled (answers text) bytes asked.deadline) (the_question question) → Asks request told question
 two_asked request asked proof answers told bytes text question two content other there later comes = record {
   contents = bytes ∷ text ∷ [];
   are = subst (λ (files : List (List ℕ)). AreContents told files (bytes ∷ text ∷ [])) (sym two.files) (two_contents told asked.file proof bytes text content other);
@@ -158,7 +157,7 @@ two_asked request asked proof answers told bytes text question two content other
 }
 
 -- what is said in place of an answer where the document or the text is refused
-two_told : (request : Request) (asked : Asked) (proof : List ℕ) (answers : List ℕ → LabelledAnswer) (told : Option (List ℕ → Option (List ℕ))) (bytes text : List ℕ) (said : SaidText) → IsOfTwo request asked proof answers → IsContent told asked.file bytes → IsContent told proof text → ComesTo (on_labelled (answers text) bytes asked.deadline) (says (the_said said)) → AreThere told (files_read (status_of (the_said said).outcome) (asked.file ∷ proof ∷ [])) → Planned request told (says (the_said said))
+two_told : (request : Request) (asked : AskedFile) (proof : List ℕ) (answers : List ℕ → LabelledAnswer) (told : Option (List ℕ → Option (List ℕ))) (bytes text : List ℕ) (said : SaidText) → IsOfTwo request asked proof answers → IsContent told asked.file bytes → IsContent told proof text → ComesTo (on_labelled (answers text) bytes asked.deadline) (says (the_said said)) → AreThere told (files_read (status_of (the_said said).outcome) (asked.file ∷ proof ∷ [])) → Planned request told (says (the_said said))
 two_told request asked proof answers told bytes text said two content other comes there = record {
   contents = bytes ∷ text ∷ [];
   are = subst (λ (files : List (List ℕ)). AreContents told files (bytes ∷ text ∷ [])) (sym two.files) (two_contents told asked.file proof bytes text content other);
@@ -171,43 +170,35 @@ two_told request asked proof answers told bytes text said two content other come
 refused_read : (told : Option (List ℕ → Option (List ℕ))) (name other : List ℕ) (outcome : Outcome) → outcome ≡ Document → AreThere told (name ∷ []) → AreThere told (files_read (status_of outcome) (name ∷ other ∷ []))
 refused_read told name other outcome is there = subst (λ (o : Outcome). AreThere told (files_read (status_of o) (name ∷ other ∷ []))) (sym is) there
 
--- what a text of this length is answered by
-by_text_of : (speaks : List ℕ → Answer) (text bytes : List ℕ) (names : List (List ℕ)) (net : Network) → bytes ≡ text → by_text speaks bytes names net ≡ by_text speaks text names net
-by_text_of speaks text bytes names net same = ap (λ (xs : List ℕ). by_text speaks xs names net) same
+-- what is said by the same text is the same
+by_text_of : (verb : TextVerb) (text bytes : List ℕ) (names : List (List ℕ)) (net : Network) → bytes ≡ text → text_answer verb bytes names net ≡ text_answer verb text names net
+by_text_of verb text bytes names net same = ap (λ (xs : List ℕ). text_answer verb xs names net) same
 
-pub text_asked : (verb : TextVerb) (asked : Asked) (proof : List ℕ) (told : Option (List ℕ → Option (List ℕ))) (d : NamedNetwork) (text : Vec ℕ Global) → IsAsked told asked (λ bytes deadline. IsNetworkOf (text_labels verb) bytes deadline d) → IsFile told proof (IsTextOf text.items) → Asks (of_text verb asked proof) told (OfText verb d text)
+pub text_asked : (verb : TextVerb) (asked : AskedFile) (proof : List ℕ) (told : Option (List ℕ → Option (List ℕ))) (d : NamedNetwork) (text : Vec ℕ Global) → HasAskedFile told asked (λ bytes deadline. IsNetworkOf (text_labels verb) bytes deadline d) → HasFile told proof (IsProofText text.items) → Asks (of_text verb asked proof) told (OfText verb d text)
 text_asked verb asked proof told d text file other =
-    two_asked (of_text verb asked proof) asked proof (λ t. by_labels (text_labels verb) (by_text (text_answer verb) t)) told file.bytes other.bytes (OfText verb d text) (of_text_verb verb asked proof) file.content other.content file.there other.there
-    (network_comes (text_labels verb) (by_text (text_answer verb) other.bytes) file.bytes asked.deadline d (the_question (OfText verb d text)) file.is
-    (subst (λ (p : Plan). ComesTo p (the_question (OfText verb d text))) (sym (by_text_of (text_answer verb) text.items other.bytes d.names (the_network d.network) other.is.0)) (comes_itself (the_question (OfText verb d text)))))
+    two_asked (of_text verb asked proof) asked proof (λ t. by_labels (text_labels verb) (text_answer verb t)) told file.bytes other.bytes (OfText verb d text) (of_text_verb verb asked proof) file.content other.content file.there other.there
+    (network_comes (text_labels verb) (text_answer verb other.bytes) file.bytes asked.deadline d (the_question (OfText verb d text)) file.is
+    (subst (λ (p : Plan). ComesTo p (the_question (OfText verb d text))) (sym (by_text_of verb text.items other.bytes d.names (the_network d.network) other.is.0)) (comes_itself (the_question (OfText verb d text)))))
 
 -- the document is refused, and the text isn't read
-pub refused_before_text : (verb : TextVerb) (asked : Asked) (proof : List ℕ) (told : Option (List ℕ → Option (List ℕ))) (said : SaidText) → IsAsked told asked (λ bytes deadline. IsNetworkRefusal (text_labels verb) bytes deadline said) → Planned (of_text verb asked proof) told (says (the_said said))
+pub refused_before_text : (verb : TextVerb) (asked : AskedFile) (proof : List ℕ) (told : Option (List ℕ → Option (List ℕ))) (said : SaidText) → HasAskedFile told asked (λ bytes deadline. IsNetworkRefusal (text_labels verb) bytes deadline said) → Planned (of_text verb asked proof) told (says (the_said said))
 refused_before_text verb asked proof told said file =
     let text = some_content told proof in
-    two_told (of_text verb asked proof) asked proof (λ t. by_labels (text_labels verb) (by_text (text_answer verb) t)) told file.bytes text.0 said (of_text_verb verb asked proof) file.content text.1
-    (network_refused (text_labels verb) (by_text (text_answer verb) text.0) file.bytes asked.deadline said file.is)
+    two_told (of_text verb asked proof) asked proof (λ t. by_labels (text_labels verb) (text_answer verb t)) told file.bytes text.0 said (of_text_verb verb asked proof) file.content text.1
+    (network_refused (text_labels verb) (text_answer verb text.0) file.bytes asked.deadline said file.is)
     (refused_read told asked.file proof (the_said said).outcome (network_outcome (text_labels verb) file.bytes asked.deadline said file.is) file.there)
 
-long_answer : (speaks : List ℕ → Answer) (text : List ℕ) (names : List (List ℕ)) (net : Network) (live : List ℕ) (said : Said) → most_text < length text → said ≡ say Script (codes "script long") → IsOutput (by_text speaks text names net) live said
-long_answer speaks text names net live said long is =
-    let same : by_text speaks text names net ≡ says (say Script (codes "script long")) = beyond most_text (length text) (says (say Script (codes "script long"))) (speaks text names net) long in
-    subst (λ (a : Plan). IsOutput a live said) (sym same) is
-  where
-    beyond : (n m : ℕ) (one other : Plan) → n < m → (if nat_lt n m then one else other) ≡ one
-    beyond n m one other lt = grind arith
-
 -- the text is too long
-pub long_after : (verb : TextVerb) (asked : Asked) (proof : List ℕ) (told : Option (List ℕ → Option (List ℕ))) (d : NamedNetwork) (said : SaidText) → IsAsked told asked (λ bytes deadline. IsNetworkOf (text_labels verb) bytes deadline d) → IsFile told proof (IsLongText said) → Planned (of_text verb asked proof) told (says (the_said said))
+pub long_after : (verb : TextVerb) (asked : AskedFile) (proof : List ℕ) (told : Option (List ℕ → Option (List ℕ))) (d : NamedNetwork) (said : SaidText) → HasAskedFile told asked (λ bytes deadline. IsNetworkOf (text_labels verb) bytes deadline d) → HasFile told proof (IsLongText said) → Planned (of_text verb asked proof) told (says (the_said said))
 long_after verb asked proof told d said file other =
-    two_told (of_text verb asked proof) asked proof (λ t. by_labels (text_labels verb) (by_text (text_answer verb) t)) told file.bytes other.bytes said (of_text_verb verb asked proof) file.content other.content
-    (network_comes (text_labels verb) (by_text (text_answer verb) other.bytes) file.bytes asked.deadline d (says (the_said said)) file.is
-    (comes_to_text (by_text (text_answer verb) other.bytes d.names (the_network d.network)) (the_said said) (λ live. long_answer (text_answer verb) other.bytes d.names (the_network d.network) live (the_said said) other.is.0 other.is.1)))
+    two_told (of_text verb asked proof) asked proof (λ t. by_labels (text_labels verb) (text_answer verb t)) told file.bytes other.bytes said (of_text_verb verb asked proof) file.content other.content
+    (network_comes (text_labels verb) (text_answer verb other.bytes) file.bytes asked.deadline d (says (the_said said)) file.is
+    (comes_to_text (text_answer verb other.bytes d.names (the_network d.network)) (the_said said) (λ live. inl other.is)))
     (two_read told asked.file proof (status_of (the_said said).outcome) file.there other.there)
 
 -- ---- a plan in sentences
 
-pub plan_asked : (asked : Asked) (told : Option (List ℕ → Option (List ℕ))) (text : Vec ℕ Global) → IsFile told asked.file (IsSentencesOf text.items) → Asks (of_plan asked) told (OfPlan text asked.deadline)
+pub plan_asked : (asked : AskedFile) (told : Option (List ℕ → Option (List ℕ))) (text : Vec ℕ Global) → HasFile told asked.file (IsSentencesOf text.items) → Asks (of_plan asked) told (OfPlan text asked.deadline)
 plan_asked asked told text file = record {
   contents = file.bytes ∷ [];
   are = one_content told asked.file file.bytes file.content;
@@ -223,12 +214,12 @@ long_plan bytes deadline long = let over : nat_le (length bytes) most_plan ≡ f
     beyond n long = grind arith
 
 -- the plan is too long
-pub plan_told : (asked : Asked) (told : Option (List ℕ → Option (List ℕ))) (said : SaidText) → IsFile told asked.file (IsLongPlan said) → Planned (of_plan asked) told (says (the_said said))
+pub plan_told : (asked : AskedFile) (told : Option (List ℕ → Option (List ℕ))) (said : SaidText) → HasFile told asked.file (IsLongPlan said) → Planned (of_plan asked) told (says (the_said said))
 plan_told asked told said file = record {
   contents = file.bytes ∷ [];
   are = one_content told asked.file file.bytes file.content;
   comes = comes_to_text (planned file.bytes asked.deadline) (the_said said)
-      (λ live. subst (λ (r : Result Parts Refusal). IsOutput (planned_of r) live (the_said said)) (sym (long_plan file.bytes asked.deadline file.is.0)) file.is.1);
+      (λ live. subst (λ (r : Result Parts PlanRefusal). (planned_of r).output live (the_said said)) (sym (long_plan file.bytes asked.deadline file.is.0)) file.is.1);
   there = λ live other output. one_read told asked.file (status_of other.outcome) file.there;
 }
 

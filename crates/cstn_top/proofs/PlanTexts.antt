@@ -1,5 +1,5 @@
 -- What is said of a plan in sentences.
-use Rattle.std.proofs.Common.{◌≡◌, ℕ, List, ◌++◌, refl, ap, sym, ◌∙◌, subst, inl, inr}
+use Rattle.std.proofs.Common.{◌≡◌, ℕ, List, ◌++◌, ap, sym, ◌∙◌, subst, inl, inr}
 use Rattle.std.specs.Prelude.{Result, Err, codes}
 use Rattle.cstn_lift.specs.Labelled.{Labelled}
 use Rattle.cstn_graphml.specs.Document.{Parts}
@@ -8,27 +8,24 @@ use Rattle.cstn_reply.specs.Texts.{Said, say}
 use Rattle.cstn_reply.specs.declared.output.Outcome.TheVariants.{Document}
 use Rattle.cstn_sentences.specs.declared.errors.PlanError.{PlanError}
 use Rattle.cstn_sentences.specs.declared.errors.PlanError.TheVariants.{Long, Wrong, Range, Twice, NoName, NoLetter, NoDeadline, Net, Lift, Memory}
-use Rattle.cstn_sentences.specs.Planned.{IsPlan, RefusesPlan}
-use Rattle.cstn_sentences.specs.Refusals.{Refusal, too_long, wrong_word, out_of_range, stands_twice, no_name, no_letter, no_deadline}
-use Rattle.cstn_top.specs.Plans.{Plan, says, IsOutput}
+use Rattle.cstn_sentences.specs.Planned.{IsFitPlan, RefusesPlan}
+use Rattle.cstn_sentences.specs.Refusals.{PlanRefusal, too_long, wrong_word, out_of_range, stands_twice, no_name, no_letter, no_deadline}
 use Rattle.cstn_top.specs.commands.Plan.{refusal_why, IsPlanTold, planned_of}
 use Rattle.cstn_top.specs.commands.Save.{saved}
 
 -- the document of a plan that has a labelled network
-pub plan_saved : (told : Result Parts Refusal) (m : Labelled) (names : List (List ℕ)) (said : Said) → IsPlan told m names → says said ≡ saved names m → (live : List ℕ) → IsOutput (planned_of told) live said
+pub plan_saved : (told : Result Parts PlanRefusal) (m : Labelled) (names : List (List ℕ)) (said : Said) → IsFitPlan told m names → said ≡ saved names m → (live : List ℕ) → (planned_of told).output live said
 plan_saved told m names said is same live =
-    let output : IsOutput (saved names m) live said = subst (λ (p : Plan). IsOutput p live said) same refl in
-    let named : IsOutput (saved is.parts.names m) live said = subst (λ (ns : List (List ℕ)). IsOutput (saved ns m) live said) is.names_are output in
-    subst (λ (r : Result Parts Refusal). IsOutput (planned_of r) live said) (sym is.told_are)
-    (inl (is.fit, subst (λ (l : Labelled). IsOutput (saved is.parts.names l) live said) is.labelled_is named))
+    subst (λ (r : Result Parts PlanRefusal). (planned_of r).output live said) (sym is.told_are)
+    (inl (is.fit, same ∙ ap (λ (ns : List (List ℕ)). saved ns m) is.names_are ∙ ap (saved is.parts.names) is.labelled_is))
 
 -- a plan that is refused by its lines
-lines_refused : (told : Result Parts Refusal) (refusal : Refusal) (why : List ℕ) (said : Said) → told ≡ Err refusal → why ≡ refusal_why refusal → said ≡ say Document (codes "plan " ++ why) → (live : List ℕ) → IsOutput (planned_of told) live said
+lines_refused : (told : Result Parts PlanRefusal) (refusal : PlanRefusal) (why : List ℕ) (said : Said) → told ≡ Err refusal → why ≡ refusal_why refusal → said ≡ say Document (codes "plan " ++ why) → (live : List ℕ) → (planned_of told).output live said
 lines_refused told refusal why said is same told_is live =
-    subst (λ (r : Result Parts Refusal). IsOutput (planned_of r) live said) (sym is) (told_is ∙ ap (λ (w : List ℕ). say Document (codes "plan " ++ w)) same)
+    subst (λ (r : Result Parts PlanRefusal). (planned_of r).output live said) (sym is) (told_is ∙ ap (λ (w : List ℕ). say Document (codes "plan " ++ w)) same)
 
 -- a plan that is refused
-pub plan_refused : (told : Result Parts Refusal) (error : PlanError) (said : Said) → RefusesPlan told error → IsPlanTold error said → (live : List ℕ) → IsOutput (planned_of told) live said
+pub plan_refused : (told : Result Parts PlanRefusal) (error : PlanError) (said : Said) → RefusesPlan told error → IsPlanTold error said → (live : List ℕ) → (planned_of told).output live said
 plan_refused told Long said is h live = lines_refused told too_long h.0 said is h.1 h.2 live
 plan_refused told (Wrong n word) said is h live = lines_refused told (wrong_word n word) h.0 said is h.1 h.2 live
 plan_refused told (Range n) said is h live = lines_refused told (out_of_range n) h.0 said is h.1 h.2 live
@@ -37,9 +34,9 @@ plan_refused told (NoName n name) said is h live = lines_refused told (no_name n
 plan_refused told (NoLetter n word) said is h live = lines_refused told (no_letter n word) h.0 said is h.1 h.2 live
 plan_refused told NoDeadline said is h live = lines_refused told no_deadline h.0 said is h.1 h.2 live
 plan_refused told (Net error names) said is h live =
-    subst (λ (r : Result Parts Refusal). IsOutput (planned_of r) live said) (sym is.told_are)
+    subst (λ (r : Result Parts PlanRefusal). (planned_of r).output live said) (sym is.told_are)
     (inr (inl (error, is.unfit, h.2 ∙ ap (λ (w : List ℕ). say Document (codes "plan " ++ w)) (h.1 ∙ ap (λ (ns : List (List ℕ)). network_fault ns error) is.names_are))))
 plan_refused told (Lift error names) said is h live =
-    subst (λ (r : Result Parts Refusal). IsOutput (planned_of r) live said) (sym is.told_are)
+    subst (λ (r : Result Parts PlanRefusal). (planned_of r).output live said) (sym is.told_are)
     (inr (inr (error, is.mislabelled, h.2 ∙ ap (λ (w : List ℕ). say Document (codes "plan " ++ w)) (h.1 ∙ ap (λ (ns : List (List ℕ)). label_fault ns error) is.names_are))))
 plan_refused told (Memory e) said is h live = absurd h.1

@@ -9,7 +9,7 @@ use Rattle.cstn_reply.specs.declared.output.Outcome.TheVariants.{Script}
 use Rattle.cstn_reply.proofs.Sessions.{after_both}
 use Rattle.cstn_reply.specs.Reached.{state_after}
 use Rattle.cstn_reply.proofs.Sessions.{play_more, answers_more, state_more, play_last, play_wrong, play_past, plus_none, zero_plus, one_more}
-use Rattle.cstn_top.specs.Lines.{StopsAtLine}
+use Rattle.cstn_top.specs.Lines.{StopsUnread}
 
 -- what is known of an answer: where it is the last, of its outcome, and where there is none, of its cause
 abbrev pub TurnIs : {S : Type 0} → Type 0 → (Outcome → Type 0) → Turn S → Type 0
@@ -28,7 +28,7 @@ pub record StopsFrom {S : Type 0} (turn : S → List ℕ → Turn S) (s : S) (n 
   pub cause : (is_past ((n + length before) + 1) next ≡ true) ⊎ IsUnread next
   pub text_is : text ≡ answers turn s n before ++ (script ((n + length before) + 1)).text
 
-pub stops_at : {S : Type 0} (turn : S → List ℕ → Turn S) (s : S) (IsUnread : List ℕ → Type 0) (lines : List (List ℕ)) (text : List ℕ) → StopsFrom turn s 0 IsUnread lines text → StopsAtLine turn s IsUnread lines text
+pub stops_at : {S : Type 0} (turn : S → List ℕ → Turn S) (s : S) (IsUnread : List ℕ → Type 0) (lines : List (List ℕ)) (text : List ℕ) → StopsFrom turn s 0 IsUnread lines text → StopsUnread turn s IsUnread lines text
 stops_at turn s IsUnread lines text r = record {
   before = r.before;
   next = r.next;

@@ -1,8 +1,10 @@
 -- What is prepared for a request, by what it asks and what is answered.
 use Rattle.std.proofs.Common.{◌≡◌, ℕ, List, subst}
 use Rattle.std.specs.Prelude.{Option, Some}
-use Rattle.cstn_top.proofs.Hosts.{files_all, first_there}
-use Rattle.cstn_top.proofs.Answered.{IsAnswerIf, question_answered}
+use Rattle.cstn_top.proofs.Hosts.{files_all}
+use Rattle.cstn_request.proofs.Asking.{first_there}
+use Rattle.cstn_top.proofs.Outcomes.{IsAnswerIf}
+use Rattle.cstn_top.proofs.Answered.{question_answered}
 use Rattle.cstn_io.specs.Asked.{and_names}
 use Rattle.cstn_request.specs.Requests.{Request, of_network, of_labelled, of_text, of_document, of_plan, drill, host, version, files_of}
 use Rattle.cstn_request.specs.Files.{AreContents, AreThere}

@@ -10,9 +10,8 @@ use Rattle.cstn_check.specs.declared.verdicts.Verdict.TheVariants.{Yes}
 use Rattle.cstn_exec.specs.Guides.{begun}
 use Rattle.cstn_reply.specs.Texts.{yes_line}
 use Rattle.cstn_reply.specs.Texts.{Said}
-use Rattle.cstn_top.specs.Plans.{Plan, says, ComesTo, session}
-use Rattle.cstn_top.specs.Answers.{unless_said}
-use Rattle.cstn_top.specs.commands.Run.{carried_out}
+use Rattle.cstn_top.specs.Plans.{Plan, says, unless_said, ComesTo, session}
+use Rattle.cstn_top.specs.commands.Run.{run_answer}
 use Rattle.cstn_check.specs.Decisions.{verdict, unless_yes}
 use Rattle.cstn_run.specs.Sessions.{guide_turn, guide_ending}
 
@@ -21,9 +20,9 @@ pub verdict_for : (cap : ℕ) (net other : Network) → net ≡ other → verdic
 verdict_for cap net other same is = subst (λ (n : Network). verdict cap n ≡ Yes (load_of n)) same is
 
 -- what is said after no, or where the log has more entries than it may
-pub told_for : (cap : ℕ) (names : List (List ℕ)) (net : Network) (m : Labelled) (said : Said) → net ≡ lowered m → unless_yes cap names net (verdict cap net) ≡ Some said → ComesTo (carried_out cap names m) (says said)
+pub told_for : (cap : ℕ) (names : List (List ℕ)) (net : Network) (m : Labelled) (said : Said) → net ≡ lowered m → unless_yes cap names net (verdict cap net) ≡ Some said → ComesTo (run_answer cap names m) (says said)
 told_for cap names net m said same told =
-    subst (ComesTo (carried_out cap names m)) (ap (λ (o : Option Said). unless_said o after_yes) (subst (λ (n : Network). unless_yes cap names n (verdict cap n) ≡ Some said) same told))
+    subst (ComesTo (run_answer cap names m)) (ap (λ (o : Option Said). unless_said o after_yes) (subst (λ (n : Network). unless_yes cap names n (verdict cap n) ≡ Some said) same told))
     (record { output = λ live s is. is; talks = λ may. may; fault = λ may taken. refl; stops = λ told said is. is })
   where
     after_yes : Plan

@@ -19,9 +19,9 @@ use Rattle.cstn_edit.specs.Edits.{Session, edited_of, with_change}
 use Rattle.cstn_lines.specs.EditLines.{Edit, added, removed, changed, asked as check_asked, edit_read}
 use Rattle.cstn_edit.specs.Editing.{Editing, answered_edit, answered_change, answered, edit_turn}
 use Rattle.cstn_follow.specs.Following.{Following, Heard, says, saves}
-use Rattle.cstn_follow.specs.Hearing.{hear}
-use Rattle.cstn_follow.specs.Asking.{spoken_read}
-use Rattle.cstn_top.specs.commands.Follow.{heard_turn, follow_turn}
+use Rattle.cstn_save.specs.Canonical.{canonical}
+use Rattle.cstn_follow.specs.Marks.{Marked, saying_read, hear_marked, marked_by}
+use Rattle.cstn_top.specs.commands.Follow.{marked_turn}
 use Rattle.cstn_lines.specs.HostLines.{Hosted, host_read}
 use Rattle.cstn_run.specs.hosted.Sessions.{HostSession, hosted_turn, host_turn}
 
@@ -70,12 +70,12 @@ edit_answers e text = answer_is e (edit_read text)
 
 -- ---- of one that follows: each line is answered, and no answer is the last
 
-heard_is : (heard : Heard) → TurnIs ⊥ (λ outcome. ⊥) (heard_turn heard)
-heard_is (says text next) = tt
-heard_is (saves m names next) = tt
+heard_is : (heard : Heard) (marks : List Following) → TurnIs ⊥ (λ outcome. ⊥) (marked_by canonical heard marks)
+heard_is (says text next) marks = tt
+heard_is (saves m names next) marks = tt
 
-pub follow_answers : (s : Following) (text : List ℕ) → TurnIs ⊥ (λ outcome. ⊥) (follow_turn s text)
-follow_answers s text = heard_is (hear s (spoken_read text))
+pub follow_answers : (t : Marked) (text : List ℕ) → TurnIs ⊥ (λ outcome. ⊥) (marked_turn t text)
+follow_answers t text = let h = hear_marked t (saying_read text) in heard_is h.heard h.marks
 
 -- ---- of a host: no answer is the last
 

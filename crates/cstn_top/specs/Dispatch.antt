@@ -1,5 +1,7 @@
 -- What each request says, and how it is answered.
-use Rattle.std.specs.Prelude.{ℕ, List, [], get_or, Option, None, Some, codes}
+use Rattle.std.specs.Prelude.{◌≡◌, ℕ, List, [], get_or, Option, None, Some, codes}
+use Rattle.cstn_net.specs.Networks.{Network}
+use Rattle.cstn_lift.specs.Labelled.{Labelled}
 use Rattle.cstn_request.specs.Requests.{Request, of_network, of_labelled, of_text, of_document, of_plan, drill, host, version, network_labels, text_labels}
 use Rattle.cstn_request.specs.declared.words.NetworkVerb.{NetworkVerb}
 use Rattle.cstn_request.specs.declared.words.NetworkVerb.TheVariants.{Check, Closed, Tight, Conflict, Tree, Edit}
@@ -9,22 +11,23 @@ use Rattle.cstn_request.specs.declared.words.TextVerb.{TextVerb}
 use Rattle.cstn_request.specs.declared.words.TextVerb.TheVariants.{Replay, Closedcheck, Treecheck}
 use Rattle.cstn_request.specs.declared.words.DocumentVerb.{DocumentVerb}
 use Rattle.cstn_request.specs.declared.words.DocumentVerb.TheVariants.{Save, Sentences}
-use Rattle.cstn_reply.specs.Texts.{say}
+use Rattle.cstn_replay.specs.Texts.{IsReplayOf}
+use Rattle.cstn_check.specs.Decisions.{checked}
+use Rattle.cstn_closed.specs.Certificates.{IsCertificateOf}
+use Rattle.cstn_tight.specs.Texts.{tightened}
+use Rattle.cstn_conflict.specs.Texts.{blamed}
+use Rattle.cstn_tree.specs.Unfolded.{IsUnfolded}
+use Rattle.cstn_tree.specs.Checked.{tree_checked}
+use Rattle.cstn_reply.specs.Texts.{Said, say}
 use Rattle.cstn_reply.specs.declared.output.Outcome.TheVariants.{Words}
-use Rattle.cstn_top.specs.Plans.{Plan, says}
-use Rattle.cstn_top.specs.Answers.{Answer, LabelledAnswer, by_labels, on_labelled, by_text}
-use Rattle.cstn_top.specs.Kinds.{Kind, a_text, a_run, an_edit, a_follow, a_host}
-use Rattle.cstn_top.specs.commands.Check.{checked}
+use Rattle.cstn_top.specs.Plans.{Plan, says, says_such}
+use Rattle.cstn_top.specs.Answers.{NetworkAnswer, LabelledAnswer, by_labels, on_labelled, IsByText}
+use Rattle.cstn_top.specs.Verdicts.{IsLabelledYes}
+use Rattle.cstn_top.specs.Kinds.{AnswerKind, a_text, a_run, an_edit, a_follow, a_host}
 use Rattle.cstn_top.specs.commands.Closed.{listed}
-use Rattle.cstn_top.specs.commands.Tight.{tightened}
-use Rattle.cstn_top.specs.commands.Conflict.{blamed}
-use Rattle.cstn_top.specs.commands.Tree.{unfolded}
-use Rattle.cstn_top.specs.commands.Edit.{edited}
-use Rattle.cstn_top.specs.commands.Follow.{followed}
-use Rattle.cstn_top.specs.commands.Run.{carried_out}
-use Rattle.cstn_top.specs.commands.Replay.{replayed}
-use Rattle.cstn_top.specs.commands.Closedcheck.{certified}
-use Rattle.cstn_top.specs.commands.Treecheck.{tree_checked}
+use Rattle.cstn_top.specs.commands.Edit.{edit_answer}
+use Rattle.cstn_top.specs.commands.Follow.{follow_answer}
+use Rattle.cstn_top.specs.commands.Run.{run_answer}
 use Rattle.cstn_top.specs.commands.Save.{saved}
 use Rattle.cstn_top.specs.commands.Sentences.{worded}
 use Rattle.cstn_top.specs.commands.Plan.{planned}
@@ -35,15 +38,15 @@ use Rattle.cstn_top.specs.commands.Version.{versioned}
 -- ---- verbs
 
 -- what a verb says of a network, whose log may have so many entries
-abbrev pub network_answer : NetworkVerb → ℕ → Answer
-network_answer Check cap = checked cap
-network_answer Closed cap = listed cap
-network_answer Tight cap = tightened cap
-network_answer Conflict cap = blamed cap
-network_answer Tree cap = unfolded cap
-network_answer Edit cap = edited cap
+abbrev pub network_answer : NetworkVerb → ℕ → NetworkAnswer
+network_answer Check cap names net = says (checked cap names net)
+network_answer Closed cap names net = says (listed cap names net)
+network_answer Tight cap names net = says (tightened cap names net)
+network_answer Conflict cap names net = says (blamed cap names net)
+network_answer Tree cap names net = says_such (IsUnfolded cap names net)
+network_answer Edit cap names net = edit_answer cap names net
 
-abbrev pub network_kind : NetworkVerb → Kind
+abbrev pub network_kind : NetworkVerb → AnswerKind
 network_kind Check = a_text
 network_kind Closed = a_text
 network_kind Tight = a_text
@@ -53,23 +56,35 @@ network_kind Edit = an_edit
 
 -- what a verb says of a labelled network, whose log may have so many entries
 abbrev pub labelled_answer : LabelledVerb → ℕ → LabelledAnswer
-labelled_answer Follow cap = followed cap
-labelled_answer Run cap = carried_out cap
+labelled_answer Follow cap = follow_answer cap
+labelled_answer Run cap = run_answer cap
 
-abbrev pub labelled_kind : LabelledVerb → Kind
+abbrev pub labelled_kind : LabelledVerb → AnswerKind
 labelled_kind Follow = a_follow
 labelled_kind Run = a_run
 
+-- a verb holds a session over a labelled network where this holds
+abbrev pub HoldsSession : LabelledVerb → ℕ → Labelled → Type 0
+HoldsSession Follow cap m = Unit {0}
+HoldsSession Run cap m = IsLabelledYes cap m
+
+-- this is what a verb says of a network by a text, which isn't too long
+abbrev pub IsVerbText : TextVerb → List (List ℕ) → List ℕ → Network → Said → Type 0
+IsVerbText Replay names text net said = IsReplayOf names text net said
+IsVerbText Closedcheck names text net said = IsCertificateOf names text net said
+IsVerbText Treecheck names text net said = said ≡ tree_checked text names net
+
 -- what a verb says of a network by a text
-abbrev pub text_answer : TextVerb → List ℕ → Answer
-text_answer Replay text = replayed text
-text_answer Closedcheck text = certified text
-text_answer Treecheck text = tree_checked text
+abbrev pub text_answer : TextVerb → List ℕ → NetworkAnswer
+text_answer verb text names net = says_such (IsByText (IsVerbText verb names text net) text)
 
 -- what a verb says of the labelled network of a document
+abbrev pub document_said : DocumentVerb → List (List ℕ) → Labelled → Said
+document_said Save names m = saved names m
+document_said Sentences names m = worded names m
+
 abbrev pub document_answer : DocumentVerb → LabelledAnswer
-document_answer Save = saved
-document_answer Sentences = worded
+document_answer verb names m = says (document_said verb names m)
 
 -- ---- requests
 
@@ -84,7 +99,7 @@ proof_in contents = get_or contents 1 []
 abbrev pub plan_at : Request → List (List ℕ) → Plan
 plan_at (of_network verb asked cap) contents = on_labelled (by_labels (network_labels verb) (network_answer verb cap)) (file_in contents) asked.deadline
 plan_at (of_labelled verb asked cap) contents = on_labelled (labelled_answer verb cap) (file_in contents) asked.deadline
-plan_at (of_text verb asked proof) contents = on_labelled (by_labels (text_labels verb) (by_text (text_answer verb) (proof_in contents))) (file_in contents) asked.deadline
+plan_at (of_text verb asked proof) contents = on_labelled (by_labels (text_labels verb) (text_answer verb (proof_in contents))) (file_in contents) asked.deadline
 plan_at (of_document verb asked) contents = on_labelled (document_answer verb) (file_in contents) asked.deadline
 plan_at (of_plan asked) contents = planned (file_in contents) asked.deadline
 plan_at (drill number) contents = says (drilled number)
@@ -97,12 +112,12 @@ plan_of None contents = says (say Words (codes "words"))
 plan_of (Some request) contents = plan_at request contents
 
 -- how a request is answered
-abbrev pub kind_at : Request → Kind
-kind_at (of_network verb asked cap) = network_kind verb
-kind_at (of_labelled verb asked cap) = labelled_kind verb
-kind_at (of_text verb asked proof) = a_text
-kind_at (of_document verb asked) = a_text
-kind_at (of_plan asked) = a_text
-kind_at (drill number) = a_text
-kind_at (host files deadline cap) = a_host
-kind_at (version release) = a_text
+abbrev pub request_kind : Request → AnswerKind
+request_kind (of_network verb asked cap) = network_kind verb
+request_kind (of_labelled verb asked cap) = labelled_kind verb
+request_kind (of_text verb asked proof) = a_text
+request_kind (of_document verb asked) = a_text
+request_kind (of_plan asked) = a_text
+request_kind (drill number) = a_text
+request_kind (host files deadline cap) = a_host
+request_kind (version release) = a_text

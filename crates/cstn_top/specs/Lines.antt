@@ -10,7 +10,7 @@ abbrev pub AreAnswered : {S : Type 0} → (S → List ℕ → Turn S) → S → 
 AreAnswered {S} turn start lines = (reached : S) × (state_after turn start 0 lines ≡ Some reached)
 
 -- one of the lines is the first without an answer: it is too long, comes too late, or is of no grammar. Its number is told.
-pub record StopsAtLine {S : Type 0} (turn : S → List ℕ → Turn S) (start : S) (IsUnread : List ℕ → Type 0) (lines : List (List ℕ)) (text : List ℕ) : Type 0 where
+pub record StopsUnread {S : Type 0} (turn : S → List ℕ → Turn S) (start : S) (IsUnread : List ℕ → Type 0) (lines : List (List ℕ)) (text : List ℕ) : Type 0 where
   pub before : List (List ℕ)
   pub next : List ℕ
   pub later : List (List ℕ)

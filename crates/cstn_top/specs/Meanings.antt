@@ -1,18 +1,15 @@
 -- How a call with a request ends.
-use Rattle.std.specs.Prelude.{◌≡◌, ◌⊎◌, ◌≤◌, ◌-◌, ℕ, suc, List, [], ◌∷◌, length, take, get_or, Option, None, Some}
+use Rattle.std.specs.Prelude.{◌≡◌, ◌⊎◌, ◌≤◌, ℕ, suc, List, [], ◌∷◌, length, take, get_or, Option, None, Some}
 use Rattle.cstn_net.specs.Limits.{most_load}
 use Rattle.cstn_check.specs.Decisions.{IsYes}
 use Rattle.cstn_request.specs.Requests.{Request, of_network, of_labelled, of_text, of_document, of_plan, drill, host, version, files_of}
-use Rattle.cstn_request.specs.declared.words.LabelledVerb.TheVariants.{Follow, Run}
-use Rattle.cstn_io.specs.Asked.{and_names}
+use Rattle.cstn_request.specs.Asked.{WereRead, AskedFirst}
 use Rattle.cstn_request.specs.Files.{AreContents, AreThere}
 use Rattle.cstn_request.specs.Documents.{HasLabelled, HasNetwork, IsRefused}
 use Rattle.cstn_reply.specs.declared.status.Status.{Status}
 use Rattle.cstn_reply.specs.declared.status.Status.TheVariants.{Good, Bad, Words, Document, Full, ReadFault, WriteFault, Memory, Unfinished, Script, Wide}
-use Rattle.cstn_top.specs.Plans.{stopped}
 use Rattle.cstn_top.specs.Kinds.{InSession}
-use Rattle.cstn_top.specs.Verdicts.{IsLabelledYes}
-use Rattle.cstn_top.specs.Dispatch.{network_kind, file_in, plan_at}
+use Rattle.cstn_top.specs.Dispatch.{network_kind, HoldsSession, file_in, plan_at}
 use Rattle.cstn_top.specs.commands.Host.{EachHas}
 
 -- the words are a request, and it holds of the request and the contents of its files
@@ -38,17 +35,6 @@ files_read Unfinished names = names
 files_read Script names = names
 files_read Wide names = names
 
--- these files were asked for, in their order and each once, and no other was; each of them is there
-pub record WereRead (told : Option (List ℕ → Option (List ℕ))) (before after : Option (List (List ℕ))) (names : List (List ℕ)) : Type 0 where
-  pub asked : after ≡ and_names before names
-  pub there : AreThere told names
-
--- the first of these files were asked for, in their order and each once, and no other was; each of them but the last is there
-pub record AskedFirst (told : Option (List ℕ → Option (List ℕ))) (before after : Option (List (List ℕ))) (names : List (List ℕ)) : Type 0 where
-  pub count : ℕ
-  pub asked : after ≡ and_names before (take count names)
-  pub earlier : AreThere told (take (count - 1) names)
-
 -- Which of these files were asked for, where a call has this status: the first of them, in their order and each once, and no other.
 -- Those that were read are among them, and there.
 pub record AreAsked (told : Option (List ℕ → Option (List ℕ))) (before after : Option (List (List ℕ))) (status : Status) (names : List (List ℕ)) : Type 0 where
@@ -72,8 +58,7 @@ RefusedIsThere told before after (version release) contents = ⊥
 -- network has a strategy
 abbrev pub ReadsLive : Request → List (List ℕ) → Type 0
 ReadsLive (of_network verb asked cap) contents = InSession (network_kind verb) (HasNetwork (file_in contents) asked.deadline (λ names net. Unit {0}))
-ReadsLive (of_labelled Follow asked cap) contents = HasLabelled (file_in contents) asked.deadline (λ names m. Unit {0})
-ReadsLive (of_labelled Run asked cap) contents = HasLabelled (file_in contents) asked.deadline (λ names m. IsLabelledYes cap m)
+ReadsLive (of_labelled verb asked cap) contents = HasLabelled (file_in contents) asked.deadline (λ names m. HoldsSession verb cap m)
 ReadsLive (of_text verb asked proof) contents = ⊥
 ReadsLive (of_document verb asked) contents = ⊥
 ReadsLive (of_plan asked) contents = ⊥
@@ -83,15 +68,15 @@ ReadsLive (version release) contents = ⊥
 
 -- the session over the lines of the live source, which has these bytes, comes to a line whose answer may want memory
 abbrev pub MayStop : Option (List ℕ) → Request → List (List ℕ) → Type 0
-MayStop live request contents = ReadsLive request contents × ((said : List ℕ) × stopped (plan_at request contents) live said)
+MayStop live request contents = ReadsLive request contents × ((said : List ℕ) × (plan_at request contents).stops live said)
 
 -- the cap is at most 4,194,304
-abbrev pub IsRanged : Request → Type 0
-IsRanged (of_network verb asked cap) = cap ≤ most_load
-IsRanged (of_labelled verb asked cap) = cap ≤ most_load
-IsRanged (of_text verb asked proof) = Unit {0}
-IsRanged (of_document verb asked) = Unit {0}
-IsRanged (of_plan asked) = Unit {0}
-IsRanged (drill number) = Unit {0}
-IsRanged (host files deadline cap) = cap ≤ most_load
-IsRanged (version release) = Unit {0}
+abbrev pub IsCapRanged : Request → Type 0
+IsCapRanged (of_network verb asked cap) = cap ≤ most_load
+IsCapRanged (of_labelled verb asked cap) = cap ≤ most_load
+IsCapRanged (of_text verb asked proof) = Unit {0}
+IsCapRanged (of_document verb asked) = Unit {0}
+IsCapRanged (of_plan asked) = Unit {0}
+IsCapRanged (drill number) = Unit {0}
+IsCapRanged (host files deadline cap) = cap ≤ most_load
+IsCapRanged (version release) = Unit {0}

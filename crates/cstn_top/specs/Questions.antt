@@ -10,18 +10,18 @@ use Rattle.cstn_request.specs.Requests.{Request, of_network, of_labelled, of_tex
 use Rattle.cstn_reply.specs.Read.{the_said}
 use Rattle.cstn_reply.specs.declared.output.Said.{Said as SaidText}
 use Rattle.cstn_request.specs.Files.{AreContents, AreThere}
-use Rattle.cstn_request.specs.Opened.{AreNamesOf}
+use Rattle.cstn_request.specs.Opened.{AreDocumentNames}
 use Rattle.cstn_request.specs.declared.reading.NamedNetwork.{NamedNetwork}
 use Rattle.cstn_top.specs.Plans.{Plan, says, ComesTo}
-use Rattle.cstn_top.specs.Answers.{by_text}
 use Rattle.cstn_top.specs.commands.Host.{attended}
 use Rattle.cstn_top.specs.commands.Plan.{planned}
 use Rattle.cstn_top.specs.commands.Drill.{drilled}
 use Rattle.cstn_top.specs.commands.Version.{versioned}
-use Rattle.cstn_top.specs.Kinds.{Kind, a_text, a_host}
+use Rattle.cstn_top.specs.Kinds.{AnswerKind, a_text, a_host}
 use Rattle.cstn_top.specs.Dispatch.{network_answer, network_kind, labelled_answer, labelled_kind, text_answer, document_answer, plan_at}
 use Rattle.cstn_top.specs.Prepared.{Planned, TellsRefused, AsksEnough}
-use Rattle.cstn_top.specs.Begun.{the_named, IsSound}
+use Rattle.cstn_top.specs.Begun.{the_named}
+use Rattle.cstn_request.specs.Several.{IsSoundNetwork}
 use Rattle.cstn_top.specs.declared.commands.questions.Question.{Question}
 use Rattle.cstn_top.specs.declared.commands.questions.Question.TheVariants.{OfNetwork, OfLabelled, OfText, OfDocument, OfPlan, Drill, Host, Version}
 
@@ -29,7 +29,7 @@ use Rattle.cstn_top.specs.declared.commands.questions.Question.TheVariants.{OfNe
 abbrev pub the_question : Question → Plan
 the_question (OfNetwork verb d cap) = network_answer verb cap.entries d.names (the_network d.network)
 the_question (OfLabelled verb d cap) = labelled_answer verb cap.entries d.names (the_labelled d.labelled)
-the_question (OfText verb d text) = by_text (text_answer verb) text.items d.names (the_network d.network)
+the_question (OfText verb d text) = text_answer verb text.items d.names (the_network d.network)
 the_question (OfDocument verb d) = document_answer verb d.names (the_labelled d.labelled)
 the_question (OfPlan text deadline) = planned text.items deadline
 the_question (Drill number) = says (drilled number)
@@ -78,23 +78,23 @@ HasSmallIds false d = All (λ c. c.id < 2 ^ 31) d.network.constraints
 
 -- what was read is what documents and texts hold
 abbrev pub IsSoundQuestion : Question → Type 0
-IsSoundQuestion (OfNetwork verb d cap) = IsSound d × HasSmallIds (network_labels verb) d
+IsSoundQuestion (OfNetwork verb d cap) = IsSoundNetwork d × HasSmallIds (network_labels verb) d
 IsSoundQuestion (OfLabelled verb d cap) =
-    AreNamesOf d.names (the_network d.labelled.base) × All (λ (c : Constraint). c.id < 2 ^ 31) (the_labelled d.labelled).base.constraints
-IsSoundQuestion (OfText verb d text) = IsSound d × (length text.items ≤ most_text)
-IsSoundQuestion (OfDocument verb d) = AreNamesOf d.names (the_network d.labelled.base)
+    AreDocumentNames d.names (the_network d.labelled.base) × All (λ (c : Constraint). c.id < 2 ^ 31) (the_labelled d.labelled).base.constraints
+IsSoundQuestion (OfText verb d text) = IsSoundNetwork d × (length text.items ≤ most_text)
+IsSoundQuestion (OfDocument verb d) = AreDocumentNames d.names (the_network d.labelled.base)
 IsSoundQuestion (OfPlan text deadline) = Unit {0}
 IsSoundQuestion (Drill number) = Unit {0}
-IsSoundQuestion (Host documents cap) = All IsSound documents.items × (1 ≤ length documents.items) × (length documents.items ≤ most_files)
+IsSoundQuestion (Host documents cap) = All IsSoundNetwork documents.items × (1 ≤ length documents.items) × (length documents.items ≤ most_files)
 IsSoundQuestion (Version release) = Unit {0}
 
 -- how a question is answered
-abbrev pub kind_of : Question → Kind
-kind_of (OfNetwork verb d cap) = network_kind verb
-kind_of (OfLabelled verb d cap) = labelled_kind verb
-kind_of (OfText verb d text) = a_text
-kind_of (OfDocument verb d) = a_text
-kind_of (OfPlan text deadline) = a_text
-kind_of (Drill number) = a_text
-kind_of (Host documents cap) = a_host
-kind_of (Version release) = a_text
+abbrev pub question_kind : Question → AnswerKind
+question_kind (OfNetwork verb d cap) = network_kind verb
+question_kind (OfLabelled verb d cap) = labelled_kind verb
+question_kind (OfText verb d text) = a_text
+question_kind (OfDocument verb d) = a_text
+question_kind (OfPlan text deadline) = a_text
+question_kind (Drill number) = a_text
+question_kind (Host documents cap) = a_host
+question_kind (Version release) = a_text

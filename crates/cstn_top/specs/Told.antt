@@ -8,9 +8,9 @@ use Rattle.cstn_request.specs.declared.words.Release.{Release}
 use Rattle.cstn_reply.specs.Texts.{line}
 use Rattle.cstn_request.specs.Files.{AreContents}
 use Rattle.cstn_reply.specs.Written.{LiveState}
-use Rattle.cstn_top.specs.Plans.{Ends, Untouched}
+use Rattle.cstn_top.specs.Plans.{PlanEnds, Untouched}
 use Rattle.cstn_top.specs.Dispatch.{plan_of}
-use Rattle.cstn_top.specs.Meanings.{HoldsOf, ReadsLive, IsRanged}
+use Rattle.cstn_top.specs.Meanings.{HoldsOf, ReadsLive, IsCapRanged}
 use Rattle.cstn_reply.specs.declared.status.Status.{Status}
 
 -- calls failed: the count of faults rose, or it stood at 2^64 - 1
@@ -22,8 +22,8 @@ abbrev pub TellsOf : {Z : Type 0} → Release → List (String Z) → Option (Li
 TellsOf release words files holds = HoldsOf (request_in release words) files holds
 
 -- the words are a request that reads the live source
-abbrev pub Reads : {Z : Type 0} → Release → List (String Z) → Option (List ℕ → Option (List ℕ)) → Type 0
-Reads release words files = TellsOf release words files ReadsLive
+abbrev pub WordsReadLive : {Z : Type 0} → Release → List (String Z) → Option (List ℕ → Option (List ℕ)) → Type 0
+WordsReadLive release words files = TellsOf release words files ReadsLive
 
 -- the line `memory` was written, and nothing else
 abbrev pub WroteMemory : {K : Type 0} → (K → Option (List ℕ)) → K → K → Type 0
@@ -33,16 +33,16 @@ WroteMemory written old new = written new ≡ with_bytes (written old) (line (co
 abbrev pub Answers : {S : Type 0} → Option Request → Option (List ℕ → Option (List ℕ)) → (S → LiveState) → S → S → Option (List ℕ) → Option (List ℕ) → Status → Type 0
 Answers words files seen source now old new status =
     (contents : List (List ℕ)) × AreContents files (names_of words) contents
-    × Ends (plan_of words contents) (seen source) (seen now) old new status × Untouched (plan_of words contents) source now
+    × PlanEnds (plan_of words contents) (seen source) (seen now) old new status × Untouched (plan_of words contents) source now
 
 -- all that is told of a call with these words
-pub record IsTold {S : Type 0} (words : Option Request) (files : Option (List ℕ → Option (List ℕ))) (seen : S → LiveState) (source now : S) (old new : Option (List ℕ)) (status : Status) : Type 0 where
+pub record IsToldOfCall {S : Type 0} (words : Option Request) (files : Option (List ℕ → Option (List ℕ))) (seen : S → LiveState) (source now : S) (old new : Option (List ℕ)) (status : Status) : Type 0 where
   -- the contents of the files that the words name, in their order
   pub contents : List (List ℕ)
   pub are : AreContents files (names_of words) contents
   -- what was written is the output, or what comes after a fault or want of memory; also where the words are no request
-  pub output : Ends (plan_of words contents) (seen source) (seen now) old new status
+  pub output : PlanEnds (plan_of words contents) (seen source) (seen now) old new status
   -- the live source is as it was, unless the plan comes to a session
   pub untouched : Untouched (plan_of words contents) source now
   -- where the words are a request, its cap is in range
-  pub ranged : IfSome words IsRanged
+  pub ranged : IfSome words IsCapRanged

@@ -1,16 +1,9 @@
--- What each command is.
-pub mod Check
+-- What commands say, where no crate below says it.
 pub mod Run
 pub mod Edit
 pub mod Follow
 pub mod Host
 pub mod Closed
-pub mod Closedcheck
-pub mod Tight
-pub mod Conflict
-pub mod Tree
-pub mod Treecheck
-pub mod Replay
 pub mod Save
 pub mod Sentences
 pub mod Plan

@@ -5,8 +5,8 @@ ghost use Rattle.cstn_io.specs.Causes.{Rose};
 ghost use Rattle.cstn_request.specs.Requests.{files_of};
 ghost use Rattle.cstn_request.specs.Read.{the_request};
 ghost use Rattle.cstn_top.specs.Prepared.{the_plan, Planned, FitsKind, TellsRefused, AsksEnough};
-ghost use Rattle.cstn_top.specs.Dispatch.{kind_at};
-ghost use Rattle.cstn_top.specs.Meanings.{AskedFirst};
+ghost use Rattle.cstn_top.specs.Dispatch.{request_kind};
+ghost use Rattle.cstn_request.specs.Asked.{AskedFirst};
 
 mod answers;
 mod closed;
@@ -18,7 +18,6 @@ mod questions;
 mod run;
 mod save;
 mod sentences;
-mod several;
 mod version;
 
 use answers::answer;
@@ -63,7 +62,7 @@ pub(crate) fn prepare<F: Shelf>(
 ) -> Result<Prepared, Refused>
     requires may_ask { IsTrue (list_all (F.may_ask shelf.old) (files_of (the_request request))) }
     ensures plan { IfOk result (λ prepared. Planned (the_request request.entry) (F.files shelf.old) (the_plan prepared)) }
-    ensures fits { IfOk result (FitsKind (kind_at (the_request request.entry))) }
+    ensures fits { IfOk result (FitsKind (request_kind (the_request request.entry))) }
     ensures refused { IfOk result (λ prepared. TellsRefused (F.files shelf.old) (F.asked shelf.old) (F.asked shelf.new) (the_request request.entry)
         (the_plan prepared)) }
     ensures asked { IfOk result (λ prepared. AsksEnough (the_request request.entry) (F.files shelf.old) (F.asked shelf.old) (F.asked shelf.new)

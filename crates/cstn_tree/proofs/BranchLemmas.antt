@@ -13,9 +13,10 @@ use Rattle.cstn_label.specs.declared.nodes.NodeId.{NodeId}
 use Rattle.cstn_net.specs.Limits.{most_deadline}
 use Rattle.cstn_net.specs.Networks.{Network, IsNetwork, Observes, limit, is_prop}
 use Rattle.cstn_exec.proofs.Knowing.{observer_at, at_observer}
-use Rattle.cstn_tree.specs.Trees.{is_named}
+use Rattle.cstn_outline.specs.Trees.{is_named}
 use Rattle.cstn_tree.specs.Good.{Branch, placed_with, are_new, are_in_time, observed_on}
-use Rattle.cstn_tree.specs.Branches.{the_placed, numbers, IsBranchOf}
+use Rattle.cstn_tree.specs.Branches.{the_placed, IsBranchOf}
+use Rattle.cstn_outline.specs.Read.{numbers}
 use Rattle.cstn_tree.specs.declared.branches.Branch.{Branch as ProgramBranch}
 
 -- ---- observers

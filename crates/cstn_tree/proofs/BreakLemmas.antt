@@ -12,15 +12,15 @@ use Rattle.cstn_facts.proofs.Members.{contains_tail, contains_head, contains_cas
 use Rattle.cstn_label.specs.Labels.{Label}
 use Rattle.cstn_net.specs.Networks.{Network, IsWellFormed, Constraint, Observes, count, limit}
 use Rattle.cstn_exec.specs.Runs.{is_possible, fits_known}
-use Rattle.cstn_tree.specs.Trees.{Tree, Line, is_named, lines_of}
-use Rattle.cstn_tree.specs.Trees.Tree.{at, ask, done}
-use Rattle.cstn_tree.specs.Trees.Line.{AtLine, AskLine, DoneLine}
+use Rattle.cstn_outline.specs.Trees.{Tree, Line, is_named, lines_of}
+use Rattle.cstn_outline.specs.Trees.Tree.{at, ask, done}
+use Rattle.cstn_outline.specs.Trees.Line.{AtLine, AskLine, DoneLine}
 use Rattle.cstn_tree.specs.Good.{Branch, start, placed_with, are_new, are_in_time, is_within, is_kept, is_met, fits_at, below_at, observed_on, known_from, below_ask, fits_ask, is_complete, or_else, first_broken_from, first_broken}
 use Rattle.cstn_tree.specs.Breaks.{Above, Named, Asked, IsNamedAt, IsUncontradicted, IsViolated, Breaks, on_branches, IsFirstBreak}
 use Rattle.cstn_tree.specs.Breaks.Breaks.{not_later, not_known, named_above, named_twice, too_late, not_met, not_observed, asked_above, not_named}
 use Rattle.cstn_tree.proofs.Standing.{fits_at_from, fits_ask_from, complete_from}
 use Rattle.cstn_tree.proofs.BranchLemmas.{observed_by}
-use Rattle.cstn_tree.proofs.Following.{named_has, has_named}
+use Rattle.cstn_outline.proofs.WalkLemmas.{named_has, has_named}
 use Rattle.cstn_label.proofs.MarkLemmas.{fits_true, true_fits}
 use Rattle.cstn_reply.proofs.Sessions.{no_state}
 

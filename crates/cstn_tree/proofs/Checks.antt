@@ -2,16 +2,16 @@
 use Rattle.std.proofs.Common.{ℕ, suc, ◌≡◌, ◌+◌, ◌<◌, List, [], ◌∷◌, Option, map, drop, drop-cons, add-one, get_or, length, refl, sym, ap, subst, ◌∙◌}
 use Rattle.std.specs.Prelude.{◌↔◌}
 use Rattle.std.specs.List.{All}
-use Rattle.std.proofs.lemmas.List.{get_or-map, length-map}
 use Rattle.cstn_net.specs.Networks.{Network, IsWellFormed}
 use Rattle.cstn_net.specs.Strategies.{IsStrategy}
 use Rattle.cstn_tree.specs.declared.checking.TreeAnswer.{TreeAnswer}
 use Rattle.cstn_tree.specs.declared.checking.TreeAnswer.TheVariants.{Accepted, Rejected}
-use Rattle.cstn_tree.specs.declared.trees.Line.{Line as ProgramLine}
-use Rattle.cstn_tree.specs.Trees.{Tree, Line, lines_of, names_on, table_of}
+use Rattle.cstn_outline.specs.declared.trees.Line.{Line as ProgramLine}
+use Rattle.cstn_outline.specs.Trees.{Tree, Line, lines_of, names_on, table_of}
 use Rattle.cstn_tree.specs.Good.{start, first_broken, IsUnbroken}
 use Rattle.cstn_tree.specs.Walks.{first_broken_in}
-use Rattle.cstn_tree.specs.Read.{the_line, the_tree, the_answer}
+use Rattle.cstn_outline.specs.Read.{the_line, the_tree}
+use Rattle.cstn_tree.specs.Branches.{the_answer}
 use Rattle.cstn_tree.proofs.TreeLemmas.{walk_finds}
 use Rattle.cstn_tree.proofs.Strategies.{good_is_strategy}
 
@@ -35,9 +35,3 @@ pub lines_next : (lines : List ProgramLine) (k : ℕ) (l : ProgramLine) → k < 
 lines_next lines k l inside at =
     ap (map the_line) (drop-cons lines k l inside) ∙ ap (λ x. the_line x ∷ map the_line (drop (suc k) lines)) (sym at)
     ∙ ap (λ n. the_line l ∷ map the_line (drop n lines)) (sym (add-one k))
-
-pub names_inside : (n : ℕ) (lines : List ProgramLine) (k : ℕ) (l : ProgramLine) → k < length lines → l ≡ get_or lines k l →
-    All (λ l. All (λ x. x < n) (names_on l)) (map the_line lines) → All (λ x. x < n) (names_on (the_line l))
-names_inside n lines k l inside at all =
-    let here = get_or-map the_line lines k l (the_line l) inside ∙ ap the_line (sym at) in
-    subst (λ l. All (λ x. x < n) (names_on l)) here (all k (the_line l) (subst (λ m. k < m) (sym (length-map lines the_line)) inside))

@@ -26,25 +26,14 @@ use Rattle.cstn_exec.proofs.Naming.{passing, passing_yes, passing_no, from_passi
 use Rattle.cstn_exec.proofs.Running.{IsQuiet, awaits_none, awaited_least, executed_is, idle_from, at_moment}
 use Rattle.cstn_exec.proofs.Moving.{start_right, handed_right, moved_right, free_parts}
 use Rattle.cstn_exec.proofs.Dues.{seen_scenario, seen_agrees, due_first, accepted_quiet}
-use Rattle.cstn_tree.specs.Trees.{is_named}
+use Rattle.cstn_outline.specs.Trees.{is_named}
+use Rattle.cstn_outline.proofs.WalkLemmas.{named_has, has_named}
 use Rattle.cstn_tree.specs.Good.{Branch, start as first_branch, placed_with, below_at, are_new, are_in_time, is_within, is_kept, is_met, fits_at, observed_on, known_from as known_at, below_ask, fits_ask}
 use Rattle.cstn_tree.proofs.BranchLemmas.{observed_by}
 use Rattle.cstn_tree.proofs.Strategies.{AreOf}
 use Rattle.cstn_label.proofs.MarkLemmas.{fits_true}
 
 -- ---- names
-
-pub named_has : (x : ℕ) (xs : List ℕ) → is_named x xs ≡ true → Contains xs x
-named_has x [] h = absurd (false≢true h)
-named_has x (y ∷ ys) h = elim (cases_Bool (x == y)) [
-  | inl same ↦ (0, omega arith, sym (eqb-true x y same))
-  | inr other ↦ contains_tail y x ys (named_has x ys (subst (λ b. (b || is_named x ys) ≡ true) other h))
-]
-
-pub has_named : (x : ℕ) (xs : List ℕ) → Contains xs x → is_named x xs ≡ true
-has_named x [] c = let h = c.1 in absurd (omega arith)
-has_named x (y ∷ ys) (zero, inside, e) = or_left (x == y) (is_named x ys) (eq-eqb x y (sym e))
-has_named x (y ∷ ys) (suc k, inside, e) = or_right (x == y) (is_named x ys) (has_named x ys (k, omega arith, e))
 
 pub each_of : {X : Type 0} (test : X → Bool) (xs : List X) → ((x : X) → Contains xs x → test x ≡ true) → list_all test xs ≡ true
 each_of test [] h = refl

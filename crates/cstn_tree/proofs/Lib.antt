@@ -1,5 +1,5 @@
 -- Trees, and the strategies that good ones stand for.
-pub mod TreeLemmas
+mod TreeLemmas
 mod Standing
 mod Ways
 pub mod Strategies
@@ -17,9 +17,4 @@ mod OneTree
 mod SameTree
 mod TreeLengths
 -- Texts of trees.
-mod PrintLemmas
-mod PartLemmas
-mod ReadLemmas
-mod BackLemmas
-mod SaidLemmas
 mod SayingTrees

@@ -16,13 +16,13 @@ use Rattle.cstn_exec.specs.Moves.{Awaiting, moment_refusal, moved, handed, execu
 use Rattle.cstn_exec.proofs.Naming.{from_passing}
 use Rattle.cstn_exec.proofs.Moving.{free_parts}
 use Rattle.cstn_exec.proofs.Dues.{done_from, due_is_due, due_none}
-use Rattle.cstn_tree.specs.Trees.{Tree, Line, IsAmong, lines_of, names_on, moment_or_zero, table_of}
-use Rattle.cstn_tree.specs.Trees.Tree.{done}
-use Rattle.cstn_tree.specs.Trees.Line.{AtLine, AskLine, DoneLine}
+use Rattle.cstn_outline.specs.Trees.{Tree, Line, IsAmong, lines_of, names_on, moment_or_zero, table_of}
+use Rattle.cstn_outline.specs.Trees.Tree.{done}
+use Rattle.cstn_outline.specs.Trees.Line.{AtLine, AskLine, DoneLine}
 use Rattle.cstn_tree.specs.Good.{Branch, start as first_branch, below_at, below_ask, fits_at, fits_ask, is_complete, or_else, first_broken_from, IsUnbroken}
 use Rattle.cstn_tree.specs.Made.{IsTreeFrom, IsTreeOf}
 use Rattle.cstn_tree.specs.Made.IsTreeFrom.{ends, asks, names}
-use Rattle.cstn_tree.specs.Written.{NamesSome, depth, FitsText, IsPrintableLine, AreWritten}
+use Rattle.cstn_outline.specs.Written.{NamesSome, depth, FitsText, IsPrintableLine, AreWritten}
 use Rattle.cstn_tree.proofs.Strategies.{AreOf, asked_of}
 use Rattle.cstn_tree.proofs.Ways.{full, placed_full, full_at, full_true, full_false}
 use Rattle.cstn_tree.proofs.Following.{Follows, follows_start, placed_is, follows_at, named_unplaced, some_named, at_fits, ask_fits, missing, letter, follows_ask}

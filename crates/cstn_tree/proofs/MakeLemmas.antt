@@ -5,14 +5,14 @@ use Rattle.cstn_label.specs.Bounds.{Bound}
 use Rattle.cstn_net.specs.Networks.{Network, count}
 use Rattle.cstn_exec.specs.Runs.{Run, start, due, called}
 use Rattle.cstn_exec.specs.Moves.{Awaiting, moment_refusal, moved, handed}
-use Rattle.cstn_tree.specs.Trees.{Tree, Line, lines_of}
-use Rattle.cstn_tree.specs.Trees.Tree.{at, ask, done}
-use Rattle.cstn_tree.specs.Trees.Line.{AtLine, AskLine, DoneLine}
-use Rattle.cstn_tree.specs.Whole.{all_lines}
+use Rattle.cstn_outline.specs.Trees.{Tree, Line, lines_of}
+use Rattle.cstn_outline.specs.Trees.Tree.{at, ask, done}
+use Rattle.cstn_outline.specs.Trees.Line.{AtLine, AskLine, DoneLine}
+use Rattle.cstn_outline.specs.Whole.{all_lines}
 use Rattle.cstn_tree.specs.Made.{IsTreeOf, AreTreesFrom, IsGrown}
 use Rattle.cstn_tree.specs.Made.IsTreeFrom.{ends, asks, names}
-use Rattle.cstn_tree.specs.Read.{AreWhole, the_tree}
-use Rattle.cstn_tree.proofs.TreeLemmas.{tree_back, more_lines}
+use Rattle.cstn_outline.specs.Read.{AreWhole, the_tree}
+use Rattle.cstn_outline.proofs.TreeLemmas.{tree_back, more_lines}
 
 module _ (net : Network) (bounds : List Bound) where
   pub grown_first : IsGrown net bounds [] (start (count net) ∷ [])

@@ -14,10 +14,10 @@ use Rattle.cstn_exec.specs.Moves.{Refusal, Awaiting, moment_refusal, moved, hand
 use Rattle.cstn_exec.specs.Read.{ExecParts, IsRunOf}
 use Rattle.cstn_tree.specs.declared.making.OpenAsk.{OpenAsk}
 use Rattle.cstn_tree.specs.declared.making.Making.{Making}
-use Rattle.cstn_tree.specs.declared.trees.Line.{Line as ProgramLine}
-use Rattle.cstn_tree.specs.declared.trees.Line.TheVariants.{At, Ask, Done}
-use Rattle.cstn_tree.specs.Trees.Line.{AtLine, DoneLine}
-use Rattle.cstn_tree.specs.Read.{the_line}
+use Rattle.cstn_outline.specs.declared.trees.Line.{Line as ProgramLine}
+use Rattle.cstn_outline.specs.declared.trees.Line.TheVariants.{At, Ask, Done}
+use Rattle.cstn_outline.specs.Trees.Line.{AtLine, DoneLine}
+use Rattle.cstn_outline.specs.Read.{the_line}
 use Rattle.cstn_tree.specs.Made.{IsGrown}
 use Rattle.cstn_tree.specs.Making.{second_run, the_pending, IsOpenAsk, IsMaking, IsMovedTo}
 use Rattle.cstn_tree.proofs.MakeLemmas.{grown_first, grown_done, grown_at, grown_ask}

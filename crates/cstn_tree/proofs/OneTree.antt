@@ -7,8 +7,8 @@ use Rattle.cstn_net.specs.Strategies.{Table}
 use Rattle.cstn_plan.specs.Plans.{IsEarliest}
 use Rattle.cstn_exec.specs.Runs.{Run, start, called, due}
 use Rattle.cstn_exec.specs.Moves.{Refusal, Awaiting, moment_refusal, moved, handed}
-use Rattle.cstn_tree.specs.Trees.{Tree}
-use Rattle.cstn_tree.specs.Trees.Tree.{at, ask, done}
+use Rattle.cstn_outline.specs.Trees.{Tree}
+use Rattle.cstn_outline.specs.Trees.Tree.{at, ask, done}
 use Rattle.cstn_tree.specs.Good.{Branch, start as first_branch, below_at, below_ask}
 use Rattle.cstn_tree.specs.Made.{IsTreeFrom, IsTreeOf}
 use Rattle.cstn_tree.specs.Made.IsTreeFrom.{ends, asks, names}

@@ -18,8 +18,8 @@ use Rattle.cstn_exec.specs.Right.{IsRight, IsDue}
 use Rattle.cstn_exec.proofs.Dues.{due_is_due, due_none, done_none}
 use Rattle.cstn_exec.proofs.Naming.{from_passing, in_passing}
 use Rattle.cstn_exec.proofs.Refusals.{called_exactly}
-use Rattle.cstn_tree.specs.Trees.{Tree}
-use Rattle.cstn_tree.specs.Trees.Tree.{at}
+use Rattle.cstn_outline.specs.Trees.{Tree}
+use Rattle.cstn_outline.specs.Trees.Tree.{at}
 use Rattle.cstn_tree.specs.Good.{Branch, start as first_branch, below_at, below_ask}
 use Rattle.cstn_tree.specs.Made.{IsTreeFrom, IsTreeOf, IsTheTree}
 use Rattle.cstn_tree.specs.Made.IsTreeFrom.{ends, asks, names}

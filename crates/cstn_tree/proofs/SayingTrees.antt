@@ -8,11 +8,11 @@ use Rattle.cstn_net.specs.Strategies.{IsLeast}
 use Rattle.cstn_check.specs.Growth.{log_of, load_of, live_bounds}
 use Rattle.cstn_check.specs.declared.verdicts.Verdict.TheVariants.{Yes}
 use Rattle.cstn_tree.specs.Limits.{most_observed}
-use Rattle.cstn_tree.specs.Trees.{Tree, Line, lines_of, table_of}
+use Rattle.cstn_outline.specs.Trees.{Tree, Line, lines_of, table_of}
 use Rattle.cstn_tree.specs.Good.{IsUnbroken}
 use Rattle.cstn_tree.specs.Made.{IsTreeOf}
-use Rattle.cstn_tree.specs.Texts.{shown, tells, told}
-use Rattle.cstn_tree.specs.Read.{the_tree}
+use Rattle.cstn_outline.specs.Texts.{shown, tells, told}
+use Rattle.cstn_outline.specs.Read.{the_tree}
 use Rattle.cstn_reply.specs.Texts.{Said}
 use Rattle.cstn_reply.specs.Read.{the_said}
 use Rattle.cstn_reply.specs.declared.output.Said.{Said as SaidText}

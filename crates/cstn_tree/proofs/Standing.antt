@@ -11,8 +11,8 @@ use Rattle.cstn_facts.proofs.Ranges.{each_passes}
 use Rattle.cstn_net.specs.Networks.{Network, IsNetwork, Constraint, Observes, count, limit, is_prop}
 use Rattle.cstn_exec.specs.Runs.{is_possible}
 use Rattle.cstn_exec.proofs.Knowing.{at_observer}
-use Rattle.cstn_tree.specs.Trees.{Tree, is_named, lines_of}
-use Rattle.cstn_tree.specs.Trees.Tree.{at, ask, done}
+use Rattle.cstn_outline.specs.Trees.{Tree, is_named, lines_of}
+use Rattle.cstn_outline.specs.Trees.Tree.{at, ask, done}
 use Rattle.cstn_tree.specs.Good.{Branch, placed_with, below_at, are_new, are_in_time, is_within, is_met, fits_at, observed_on, known_from, below_ask, fits_ask, is_complete, or_else, first_broken_from}
 
 -- the branch names p's observer at the moment m

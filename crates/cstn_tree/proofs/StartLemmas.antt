@@ -12,11 +12,12 @@ use Rattle.cstn_net.specs.Links.{IsPlaceOf, IsNextPlace}
 use Rattle.cstn_net.specs.Read.{the_constraint}
 use Rattle.cstn_tree.specs.declared.starts.End.{End}
 use Rattle.cstn_tree.specs.declared.starts.End.TheVariants.{From, To}
-use Rattle.cstn_tree.specs.Trees.{is_named}
+use Rattle.cstn_outline.specs.Trees.{is_named}
 use Rattle.cstn_tree.specs.Good.{is_kept, is_met}
-use Rattle.cstn_tree.specs.Branches.{numbers}
+use Rattle.cstn_outline.specs.Read.{numbers}
 use Rattle.cstn_tree.specs.Starts.{end_of, standing, starts, AreLinkedFrom, TellsAt, AllPass, SomeFails}
-use Rattle.cstn_tree.proofs.Following.{each_of, has_named}
+use Rattle.cstn_tree.proofs.Following.{each_of}
+use Rattle.cstn_outline.proofs.WalkLemmas.{has_named}
 
 -- ---- links
 

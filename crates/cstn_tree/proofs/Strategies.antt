@@ -11,11 +11,12 @@ use Rattle.cstn_label.specs.Labels.{Label, Scenario, Holds, MarkFits}
 use Rattle.cstn_net.specs.Networks.{Network, IsNetwork, IsConstraint, Constraint, count, limit}
 use Rattle.cstn_net.specs.Strategies.{IsStrategy}
 use Rattle.cstn_exec.specs.Runs.{fits_known, is_possible}
-use Rattle.cstn_tree.specs.Trees.{Tree, is_named, walk, moment_or_zero, table_of}
-use Rattle.cstn_tree.specs.Trees.Tree.{at, ask, done}
+use Rattle.cstn_outline.specs.Trees.{Tree, is_named, walk, moment_or_zero, table_of}
+use Rattle.cstn_outline.specs.Trees.Tree.{at, ask, done}
 use Rattle.cstn_tree.specs.Good.{Branch, start, placed_with, below_at, below_ask, IsUnbroken}
 use Rattle.cstn_tree.proofs.Standing.{Stands, stands_from}
-use Rattle.cstn_tree.proofs.Ways.{full, some_same, placed_full, named_walk, unnamed_walk, true_walk, false_walk, full_at, full_true, full_false, walk_alike}
+use Rattle.cstn_outline.proofs.WalkLemmas.{named_walk, unnamed_walk, true_walk, false_walk}
+use Rattle.cstn_tree.proofs.Ways.{full, some_same, placed_full, full_at, full_true, full_false, walk_alike}
 use Rattle.cstn_label.proofs.MarkLemmas.{true_fits}
 
 -- the outcomes that were asked are those of the scenario

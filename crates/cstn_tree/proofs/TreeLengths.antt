@@ -23,9 +23,9 @@ use Rattle.cstn_exec.proofs.Dues.{due_is_due}
 use Rattle.cstn_exec.proofs.Moving.{free_parts}
 use Rattle.cstn_exec.proofs.Naming.{passing, passing_yes, passing_no, from_passing}
 use Rattle.cstn_tree.specs.Limits.{most_observed}
-use Rattle.cstn_tree.specs.Trees.{Tree, Line, lines_of}
-use Rattle.cstn_tree.specs.Trees.Line.{AtLine, AskLine, DoneLine}
-use Rattle.cstn_tree.specs.Texts.{printed_line, printed_lines, shown}
+use Rattle.cstn_outline.specs.Trees.{Tree, Line, lines_of}
+use Rattle.cstn_outline.specs.Trees.Line.{AtLine, AskLine, DoneLine}
+use Rattle.cstn_outline.specs.Texts.{printed_line, printed_lines, shown}
 use Rattle.cstn_tree.specs.Unfolded.{observed}
 use Rattle.cstn_tree.specs.Good.{Branch, start as first_branch, below_at, below_ask}
 use Rattle.cstn_tree.specs.Made.{IsTreeFrom, IsTreeOf}

@@ -3,8 +3,9 @@ use Rattle.std.proofs.Common.{ℕ, ◌≡◌, inl, inr, ◌+◌, ◌≤◌, true
 use Rattle.std.proofs.lemmas.Bool.{cases_Bool, cond-true, cond-false}
 use Rattle.cstn_label.specs.Labels.{Scenario}
 use Rattle.cstn_net.specs.Networks.{Network, Observes}
-use Rattle.cstn_tree.specs.Trees.{Tree, is_named, walk}
-use Rattle.cstn_tree.specs.Trees.Tree.{at, ask, done}
+use Rattle.cstn_outline.specs.Trees.{Tree, is_named, walk}
+use Rattle.cstn_outline.specs.Trees.Tree.{at, ask, done}
+use Rattle.cstn_outline.proofs.WalkLemmas.{named_walk, unnamed_walk, true_walk, false_walk}
 use Rattle.cstn_tree.specs.Good.{Branch, below_at, below_ask, or_else}
 use Rattle.cstn_tree.proofs.Standing.{Stands}
 
@@ -17,18 +18,6 @@ some_same m n e = cc
 
 pub placed_full : (b : Branch) (tree : Tree) (s : Scenario) (x m : ℕ) → b.placed x ≡ Some m → full b tree s x ≡ Some m
 placed_full b tree s x m e = rw e refl
-
-pub named_walk : (xs : List ℕ) (u : ℕ) (next : Tree) (s : Scenario) (x : ℕ) → is_named x xs ≡ true → walk (at u xs next) s x ≡ Some u
-named_walk xs u next s x named = cond-true (is_named x xs) (Some u) (walk next s x) named
-
-pub unnamed_walk : (xs : List ℕ) (u : ℕ) (next : Tree) (s : Scenario) (x : ℕ) → is_named x xs ≡ false → walk (at u xs next) s x ≡ walk next s x
-unnamed_walk xs u next s x unnamed = cond-false (is_named x xs) (Some u) (walk next s x) unnamed
-
-pub true_walk : (p : ℕ) (one other : Tree) (s : Scenario) (x : ℕ) → s p ≡ true → walk (ask p one other) s x ≡ walk one s x
-true_walk p one other s x h = cond-true (s p) (walk one s x) (walk other s x) h
-
-pub false_walk : (p : ℕ) (one other : Tree) (s : Scenario) (x : ℕ) → s p ≡ false → walk (ask p one other) s x ≡ walk other s x
-false_walk p one other s x h = cond-false (s p) (walk one s x) (walk other s x) h
 
 -- each moment that a tree has is at least the branch's first moment that may follow
 pub walk_from : (net : Network) (b : Branch) (tree : Tree) (s : Scenario) (x t : ℕ) → Stands net b tree →

@@ -2,18 +2,15 @@
 use Rattle.std.specs.Prelude.{ℕ, ◌≡◌, ◌≤◌, List, ◌∷◌, Option, Some, None, length, map, reverse, slice_index_or}
 use Rattle.std.specs.List.{All}
 use Rattle.cstn_label.specs.Read.{known_value}
-use Rattle.cstn_label.specs.declared.nodes.NodeId.{NodeId}
 use Rattle.cstn_net.specs.Limits.{most_deadline}
 use Rattle.cstn_tree.specs.declared.branches.Branch.{Branch}
+use Rattle.cstn_tree.specs.declared.checking.TreeAnswer.{TreeAnswer}
+use Rattle.cstn_tree.specs.declared.checking.TreeAnswer.TheVariants.{Accepted, Rejected}
 use Rattle.cstn_tree.specs.Good.{Branch as TheBranch}
 use Rattle.cstn_tree.specs.declared.walks.Walk.{Walk}
 use Rattle.cstn_tree.specs.declared.walks.Step.{Step}
 use Rattle.cstn_tree.specs.declared.walks.Step.TheVariants.{Broken, On, End}
 use Rattle.cstn_tree.specs.Walks.{Step as TheStep, Broken as SpecBroken, On as SpecOn, End as SpecEnd}
-
--- the numbers of time-points
-abbrev pub numbers : List NodeId → List ℕ
-numbers named = map (λ x. x.0) named
 
 -- the moment of each time-point, which stands at its place in the list
 abbrev pub the_placed : List (Option ℕ) → ℕ → Option ℕ
@@ -41,3 +38,8 @@ abbrev pub the_step : Step → TheStep
 the_step Broken = SpecBroken
 the_step On = SpecOn
 the_step End = SpecEnd
+
+-- the line that an answer names, if it names one
+abbrev pub the_answer : TreeAnswer → Option ℕ
+the_answer Accepted = None
+the_answer (Rejected line) = Some line

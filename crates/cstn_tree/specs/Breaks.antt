@@ -3,9 +3,9 @@ use Rattle.std.specs.Prelude.{ℕ, ◌≡◌, ◌+◌, ◌<◌, ◌≤◌, ◌�
 use Rattle.std.specs.List.{All, Contains}
 use Rattle.cstn_label.specs.Labels.{Label, MarkFits}
 use Rattle.cstn_net.specs.Networks.{Network, Constraint, Observes, count, limit}
-use Rattle.cstn_tree.specs.Trees.{Tree, Line}
-use Rattle.cstn_tree.specs.Trees.Tree.{at, ask, done}
-use Rattle.cstn_tree.specs.Trees.Line.{AtLine, AskLine, DoneLine}
+use Rattle.cstn_outline.specs.Trees.{Tree, Line}
+use Rattle.cstn_outline.specs.Trees.Tree.{at, ask, done}
+use Rattle.cstn_outline.specs.Trees.Line.{AtLine, AskLine, DoneLine}
 
 -- a line above another one on a branch: an `at`, or an `ask` with the outcome by which the branch goes on
 pub data Above : Type 0 where

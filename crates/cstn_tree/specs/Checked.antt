@@ -2,8 +2,8 @@
 use Rattle.std.specs.Prelude.{ℕ, List, ◌++◌, Option, None, Some, codes, decimal}
 use Rattle.cstn_net.specs.Networks.{Network}
 use Rattle.cstn_tree.specs.Good.{first_broken}
-use Rattle.cstn_tree.specs.Read.{the_tree}
-use Rattle.cstn_tree.specs.Texts.{Told, tells, wrong, told}
+use Rattle.cstn_outline.specs.Read.{the_tree}
+use Rattle.cstn_outline.specs.Texts.{Told, tells, wrong, told}
 use Rattle.cstn_reply.specs.Texts.{Said, say}
 use Rattle.cstn_reply.specs.Sessions.{script}
 use Rattle.cstn_reply.specs.declared.output.Outcome.TheVariants.{Good, Bad}

@@ -4,8 +4,8 @@ use Rattle.cstn_label.specs.declared.marks.Mark.TheVariants.{Absent, Yes}
 use Rattle.cstn_label.specs.Labels.{Label}
 use Rattle.cstn_net.specs.Networks.{Network, Constraint}
 use Rattle.cstn_net.specs.Examples.{branch, only}
-use Rattle.cstn_tree.specs.Trees.{Tree}
-use Rattle.cstn_tree.specs.Trees.Tree.{at, ask, done}
+use Rattle.cstn_outline.specs.Trees.{Tree}
+use Rattle.cstn_outline.specs.Trees.Tree.{at, ask, done}
 
 -- Z and P at 0, and X at `late` where p is true and at `early` where it is false
 abbrev pub branch_tree : ℕ → ℕ → Tree

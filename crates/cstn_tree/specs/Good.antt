@@ -5,8 +5,8 @@ use Rattle.std.specs.List.{position, list_all, range_with_len}
 use Rattle.std.specs.Option.{option_and_then}
 use Rattle.cstn_net.specs.Networks.{Network, Constraint, count, limit, is_prop}
 use Rattle.cstn_exec.specs.Runs.{is_possible}
-use Rattle.cstn_tree.specs.Trees.{Tree, is_named, lines_of}
-use Rattle.cstn_tree.specs.Trees.Tree.{at, ask, done}
+use Rattle.cstn_outline.specs.Trees.{Tree, is_named, lines_of}
+use Rattle.cstn_outline.specs.Trees.Tree.{at, ask, done}
 
 -- what the branch of a line says: the moment of each time-point that it names, the outcome of each proposition that it asks,
 -- and the least moment that its next `at` may have, which is above its last `at` and at which each outcome asked since is known

@@ -1,22 +1,16 @@
 -- The limits.
 pub mod Limits
--- Trees, and when one is good.
-pub mod Trees
+-- When a tree is good.
 pub mod Good
 pub mod Breaks
 pub mod Walks
 pub mod Examples
 -- What the program keeps of them.
-pub mod Read
 pub mod Starts
 pub mod Branches
 -- The tree of a network.
-pub mod Whole
 pub mod Made
 pub mod Making
--- Texts of trees, and what is said.
-pub mod Texts
-pub mod Written
-pub mod Reading
+-- What is said.
 pub mod Checked
 pub mod Unfolded

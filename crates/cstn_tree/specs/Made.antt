@@ -6,9 +6,9 @@ use Rattle.cstn_net.specs.Strategies.{Table}
 use Rattle.cstn_plan.specs.Plans.{IsEarliest}
 use Rattle.cstn_exec.specs.Runs.{Run, start, due, called}
 use Rattle.cstn_exec.specs.Moves.{Awaiting, moment_refusal, moved, handed}
-use Rattle.cstn_tree.specs.Trees.{Tree, Line, lines_of}
-use Rattle.cstn_tree.specs.Trees.Tree.{at, ask, done}
-use Rattle.cstn_tree.specs.Whole.{all_lines}
+use Rattle.cstn_outline.specs.Trees.{Tree, Line, lines_of}
+use Rattle.cstn_outline.specs.Trees.Tree.{at, ask, done}
+use Rattle.cstn_outline.specs.Whole.{all_lines}
 
 -- the tree from a run on. Where no moment is due, it is `done`. Where the due moment has to wait for an outcome, the least
 -- proposition that is awaited is asked. Else the time-points that are executed at the due moment are named.

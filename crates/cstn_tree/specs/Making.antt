@@ -10,7 +10,7 @@ use Rattle.cstn_exec.specs.Moves.{moment_refusal, outcome_refusal, handed}
 use Rattle.cstn_exec.specs.Read.{ExecParts, IsRunOf, moved_on}
 use Rattle.cstn_tree.specs.declared.making.OpenAsk.{OpenAsk}
 use Rattle.cstn_tree.specs.declared.making.Making.{Making}
-use Rattle.cstn_tree.specs.Read.{the_line}
+use Rattle.cstn_outline.specs.Read.{the_line}
 use Rattle.cstn_tree.specs.Made.{IsGrown}
 
 -- the run of the second tree of an `ask`

@@ -10,10 +10,10 @@ use Rattle.cstn_check.specs.Decisions.{verdict, unless_yes}
 use Rattle.cstn_reply.specs.Texts.{Said, say}
 use Rattle.cstn_reply.specs.declared.output.Outcome.TheVariants.{Good, Wide}
 use Rattle.cstn_tree.specs.Limits.{most_observed}
-use Rattle.cstn_tree.specs.Trees.{Tree, lines_of as tree_lines, table_of}
+use Rattle.cstn_outline.specs.Trees.{Tree, lines_of as tree_lines, table_of}
 use Rattle.cstn_tree.specs.Good.{IsUnbroken}
 use Rattle.cstn_tree.specs.Made.{IsTreeOf}
-use Rattle.cstn_tree.specs.Texts.{shown, tells, told}
+use Rattle.cstn_outline.specs.Texts.{shown, tells, told}
 
 -- how many propositions are observed: as many as time-points that observe one, since each has one observer
 abbrev pub observed : Network → ℕ

@@ -1,8 +1,8 @@
 -- The first line that breaks, found in one walk along the lines of a tree.
 use Rattle.std.specs.Prelude.{ℕ, ◌+◌, true, false, if◌then◌else◌, List, [], ◌∷◌, Option, Some, None}
 use Rattle.cstn_net.specs.Networks.{Network}
-use Rattle.cstn_tree.specs.Trees.{Line}
-use Rattle.cstn_tree.specs.Trees.Line.{AtLine, AskLine, DoneLine}
+use Rattle.cstn_outline.specs.Trees.{Line}
+use Rattle.cstn_outline.specs.Trees.Line.{AtLine, AskLine, DoneLine}
 use Rattle.cstn_tree.specs.Good.{Branch, fits_at, fits_ask, is_complete, below_at, below_ask}
 
 -- the first of the lines left that breaks; `branches` has the branch of the next line and those of the trees after its tree

@@ -7,7 +7,8 @@ ghost use Rattle.cstn_net.specs.Networks.{count, limit};
 ghost use Rattle.cstn_net.specs.Read.{the_network, the_constraint, IsInRange};
 ghost use Rattle.cstn_tree.specs.Good.{start, placed_with, are_new, are_in_time, is_within, is_kept, is_met, fits_at, below_at, observed_on, known_from};
 ghost use Rattle.cstn_tree.specs.Good.{fits_ask, below_ask, is_complete};
-ghost use Rattle.cstn_tree.specs.Branches.{the_branch, the_placed, IsBranchOf, numbers};
+ghost use Rattle.cstn_tree.specs.Branches.{the_branch, the_placed, IsBranchOf};
+ghost use Rattle.cstn_outline.specs.Read.{numbers};
 ghost use Rattle.cstn_tree.specs.declared.starts.End.{End as TheEnd};
 ghost use Rattle.cstn_tree.specs.Starts.{AreStarts, TellsAt, AllPass, SomeFails};
 

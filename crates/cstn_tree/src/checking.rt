@@ -5,15 +5,16 @@ ghost use Rattle.cstn_net.specs.Networks.{count, IsWellFormed};
 ghost use Rattle.cstn_net.specs.Strategies.{IsStrategy, IsConsistent};
 ghost use Rattle.cstn_net.specs.Read.{the_network};
 ghost use Rattle.cstn_tree.specs.declared.checking.TreeAnswer.TheVariants.{Accepted};
-ghost use Rattle.cstn_tree.specs.Trees.{Tree, IsAmong, lines_of, names_on, table_of};
+ghost use Rattle.cstn_outline.specs.Trees.{Tree, IsAmong, lines_of, names_on, table_of};
 ghost use Rattle.cstn_tree.specs.Good.{start, first_broken, IsUnbroken};
 ghost use Rattle.cstn_tree.specs.Walks.{first_broken_in};
-ghost use Rattle.cstn_tree.specs.Read.{the_line, the_tree, the_answer};
+ghost use Rattle.cstn_outline.specs.Read.{the_line, the_tree};
+ghost use Rattle.cstn_tree.specs.Branches.{the_answer};
 
 use crate::starts::Starts;
-use crate::trees::{Line, Tree};
 use crate::walks::{Step, Walk};
 use cstn_net::Network;
+use cstn_outline::{Line, Tree};
 use std::alloc::{AllocError, Global};
 
 /// What a check of a tree answers.

@@ -10,14 +10,14 @@ ghost use Rattle.cstn_text.specs.Limits.{most_text};
 ghost use Rattle.cstn_plan.specs.Plans.{IsEarliest};
 ghost use Rattle.cstn_text.specs.Names.{AreNames};
 ghost use Rattle.cstn_tree.specs.Limits.{most_observed};
-ghost use Rattle.cstn_tree.specs.Trees.{Tree, Line, IsAmong, at, done, lines_of, table_of};
+ghost use Rattle.cstn_outline.specs.Trees.{Tree, Line, IsAmong, at, done, lines_of, table_of};
 ghost use Rattle.cstn_tree.specs.Good.{first_broken, IsUnbroken};
 ghost use Rattle.cstn_tree.specs.Breaks.{IsFirstBreak, on_branches};
 ghost use Rattle.cstn_tree.specs.Made.{IsTreeOf, IsTheTree};
-ghost use Rattle.cstn_tree.specs.Texts.{shown, tells, told};
+ghost use Rattle.cstn_outline.specs.Texts.{shown, tells, told};
 ghost use Rattle.cstn_tree.specs.Unfolded.{observed};
-ghost use Rattle.cstn_tree.specs.Written.{AreWritten, FitsText, IsTextOfTree};
-ghost use Rattle.cstn_tree.specs.Read.{the_tree};
+ghost use Rattle.cstn_outline.specs.Written.{AreWritten, FitsText, IsTextOfTree};
+ghost use Rattle.cstn_outline.specs.Read.{the_tree};
 ghost use Rattle.cstn_tree.specs.Examples.{branch_tree, asked_first, named_twice, left_out, slow_branch, crossed, crossed_tree, alone};
 
 use cstn_exec::due_is_exact;
@@ -63,26 +63,6 @@ pub fn made_texts_are_short()
         → load ≤ most_load
         → observed net ≤ most_observed → IsWellFormed net → IsEarliest net bounds table → (tree : Tree) → IsTreeOf net bounds tree
         → length (shown names load (lines_of tree)) ≤ most_text }
-{}
-
-/// The text of a load and a tree is read back as the tree, where each `at` names a time-point, no branch has more than 2,100
-/// lines, the time-points have names and the numbers are in their ranges.
-pub fn tree_texts_are_read_back()
-    ensures back { (names : List (List ℕ)) (load : ℕ) (tree : Tree) → AreNames names → AreWritten names load tree
-        → told names (shown names load (lines_of tree)) ≡ tells (lines_of tree) }
-{}
-
-/// The texts that are read as trees are exactly those that are printed of a load and a tree that can be written.
-pub fn tree_texts_are_the_shown_ones()
-    ensures said { (names : List (List ℕ)) (bytes : List ℕ) (lines : List Line) → told names bytes ≡ tells lines → IsTextOfTree names lines bytes }
-    ensures says { (names : List (List ℕ)) (bytes : List ℕ) (lines : List Line) → AreNames names → IsTextOfTree names lines bytes
-        → told names bytes ≡ tells lines }
-{}
-
-/// The lines of a tree are read back as the same tree, so different trees have different lines.
-#[tactic(auto, using(crate::proofs::TreeLemmas::tree_back))]
-pub fn trees_are_their_lines()
-    ensures back { (tree : Tree) → the_tree (lines_of tree) ≡ tree }
 {}
 
 /// The line that a check finds is the first that breaks by what stands above it on its branch; where it finds none, no line breaks.

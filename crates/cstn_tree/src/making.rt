@@ -9,16 +9,16 @@ ghost use Rattle.cstn_net.specs.Read.{the_network};
 ghost use Rattle.cstn_plan.specs.Plans.{the_bounds};
 ghost use Rattle.cstn_exec.specs.Runs.{start, due};
 ghost use Rattle.cstn_exec.specs.Moves.{Awaiting, moment_refusal, outcome_refusal, handed};
-ghost use Rattle.cstn_tree.specs.Trees.{IsAmong, table_of};
+ghost use Rattle.cstn_outline.specs.Trees.{IsAmong, table_of};
 ghost use Rattle.cstn_tree.specs.Good.{IsUnbroken};
 ghost use Rattle.cstn_tree.specs.Made.{IsTreeOf, IsGrown};
-ghost use Rattle.cstn_tree.specs.Written.{FitsText};
-ghost use Rattle.cstn_tree.specs.Read.{the_line, the_tree};
+ghost use Rattle.cstn_outline.specs.Written.{FitsText};
+ghost use Rattle.cstn_outline.specs.Read.{the_line, the_tree};
 ghost use Rattle.cstn_tree.specs.Making.{IsMaking, IsMovedTo};
 
-use crate::trees::{Line, Named, Tree};
 use cstn_exec::{ExecError, Executive, Snapshot, due_is_exact, refusals_are_right};
 use cstn_label::Prop;
+use cstn_outline::{Line, Named, Tree};
 use std::alloc::{AllocError, Global};
 
 /// The tree of the executive's network. No line of it breaks, it has each time-point at its least moment, and its text is read
@@ -57,9 +57,7 @@ fn grow(alloc: Global, exec: &mut Executive) -> Result<Tree, AllocError>
     for _ in 0..u64::MAX {
         match making.step(alloc, exec) {
             Ok(true) => {}
-            Ok(false) => return Ok(Tree {
-                lines: making.lines,
-            }),
+            Ok(false) => return Ok(Tree::new(making.lines)),
             Err(e) => return Err(e),
         }
     }
@@ -143,8 +141,10 @@ impl Making {
         ensures making { OnOk result (IsMaking (the_network exec.now.net) (the_bounds exec.now.bounds) exec.now.run self.new) }
     {
         let nodes = Vec::from_slice(alloc, exec.named())?;
-        let named = Named { nodes };
-        self.lines.push(Line::At { moment: t, named })?;
+        self.lines.push(Line::At {
+            moment: t,
+            named: Named::new(nodes),
+        })?;
         Ok(true)
     }
 }

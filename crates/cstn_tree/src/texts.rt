@@ -8,11 +8,12 @@ ghost use Rattle.cstn_reply.specs.Read.{the_said};
 ghost use Rattle.cstn_reply.specs.Texts.{say};
 ghost use Rattle.cstn_tree.specs.Checked.{told_of_line, tree_checked};
 ghost use Rattle.cstn_tree.specs.Good.{first_broken};
-ghost use Rattle.cstn_tree.specs.Read.{the_tree};
-ghost use Rattle.cstn_tree.specs.Trees.{IsAmong};
+ghost use Rattle.cstn_outline.specs.Read.{the_tree};
+ghost use Rattle.cstn_outline.specs.Trees.{IsAmong};
 
-use crate::{Tree, TreeAnswer, TreeError, check, read};
+use crate::{TreeAnswer, check};
 use cstn_net::Network;
+use cstn_outline::{Tree, TreeError, read};
 use cstn_reply::{Outcome, Said, accepted, wrong_line};
 use cstn_text::Names;
 use std::alloc::{AllocError, Global};

@@ -9,12 +9,13 @@ ghost use Rattle.cstn_reply.specs.Read.{the_said};
 ghost use Rattle.cstn_reply.specs.Texts.{say};
 ghost use Rattle.cstn_tree.specs.Unfolded.{observed, IsTreeText, IsUnfolded};
 
-use crate::{make, print};
+use crate::make;
 use cstn_check::{Check, Judged, growth_is_bounded, judge};
 use cstn_exec::Executive;
 use cstn_label::NodeId;
 use cstn_log::Cap;
 use cstn_net::Network;
+use cstn_outline::print;
 use cstn_reply::{Outcome, Said};
 use cstn_text::Names;
 use std::alloc::{AllocError, Global};

@@ -3,19 +3,19 @@ ghost use Rattle.std.specs.Prelude.{ℕ, ◌≡◌, ◌≢◌, ◌<◌, ◌∷�
 ghost use Rattle.std.specs.List.{All};
 ghost use Rattle.cstn_net.specs.Networks.{count};
 ghost use Rattle.cstn_net.specs.Read.{the_network};
-ghost use Rattle.cstn_tree.specs.Trees.{Line as TheLine, AtLine, AskLine, DoneLine, names_on};
+ghost use Rattle.cstn_outline.specs.Trees.{Line as TheLine, AtLine, AskLine, DoneLine, names_on};
 ghost use Rattle.cstn_tree.specs.declared.walks.Step.TheVariants.{On};
 ghost use Rattle.cstn_tree.specs.Good.{start};
 ghost use Rattle.cstn_tree.specs.Walks.{first_broken_in, after_step};
-ghost use Rattle.cstn_tree.specs.Read.{the_line};
+ghost use Rattle.cstn_outline.specs.Read.{the_line};
 ghost use Rattle.cstn_tree.specs.Branches.{the_branches, the_step, IsWalkOf, IsBranchOf};
 ghost use Rattle.cstn_tree.specs.Starts.{AreStarts};
 
 use crate::branches::Branch;
 use crate::starts::Starts;
-use crate::trees::{Line, Named};
 use cstn_label::Prop;
 use cstn_net::Network;
+use cstn_outline::{Line, Named};
 use std::alloc::{AllocError, Global};
 
 /// The branch of the next line, and the branches of the trees that follow its tree, the next one last.

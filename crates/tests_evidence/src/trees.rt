@@ -1,7 +1,8 @@
 // Strategies as trees.
 use crate::fixtures::{branch, names, plan};
 use cstn_exec::Executive;
-use cstn_tree::{TreeAnswer, check, make, print, read};
+use cstn_outline::{print, read};
+use cstn_tree::{TreeAnswer, check, make};
 use std::alloc::{AllocError, Global};
 use std::process::Abort;
 

@@ -2,7 +2,7 @@
 ghost use Rattle.std.specs.Prelude.{◌<◌, ◌^◌};
 ghost use Rattle.std.specs.List.{All};
 
-use cstn_follow::{Following, Heard, read_spoken};
+use cstn_follow::{Following, Heard, Marked, read_saying, read_spoken};
 use cstn_graphml::read;
 use cstn_log::Cap;
 use cstn_net::{MAX_LOAD, Network};
@@ -117,6 +117,52 @@ pub(super) fn ends(
     rt: &impl Abort,
     alloc: Global,
     session: Following,
+    outcome: Outcome,
+    answer: &str,
+) {
+    let mut text = AnswerText::new(alloc).expect(rt, "memory");
+    let ended = session.ending(&mut text);
+    assert!(rt; text.as_bytes() == answer.as_bytes());
+    assert!(rt; ended == outcome);
+    drop(text);
+    drop(session);
+}
+
+/// The session with marks of a document, with this deadline if there is one.
+pub(super) fn begun_marked(
+    rt: &impl Abort,
+    alloc: Global,
+    document: &str,
+    deadline: Option<u32>,
+) -> Marked {
+    let (network, names) = read(alloc, document.as_bytes(), deadline).expect(rt, "a network");
+    let net = network.base();
+    assert!(rt; names.count() == net.count() as u32);
+    have_small_ids(rt, net);
+    let cap = Cap { entries: MAX_LOAD };
+    Marked::start(alloc, network, names, cap).expect(rt, "memory")
+}
+
+/// The session with marks answers this to a line.
+pub(super) fn says_marked(
+    rt: &impl Abort,
+    alloc: Global,
+    session: &mut Marked,
+    line: &str,
+    answer: &str,
+) {
+    let read = read_saying(alloc, line.as_bytes()).expect(rt, "memory");
+    match session.hear(read).expect(rt, "memory") {
+        Heard::Text(text) => assert!(rt; text.as_slice() == answer.as_bytes(), "{line}"),
+        Heard::Rest { .. } => panic!(rt; "{line}: a document"),
+    }
+}
+
+/// The session with marks ends so.
+pub(super) fn ends_marked(
+    rt: &impl Abort,
+    alloc: Global,
+    session: Marked,
     outcome: Outcome,
     answer: &str,
 ) {

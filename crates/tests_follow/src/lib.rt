@@ -4,6 +4,12 @@
 #[cfg(test)]
 mod asked;
 #[cfg(test)]
+mod cases;
+#[cfg(test)]
 mod fixtures;
+#[cfg(test)]
+mod forgiven;
+#[cfg(test)]
+mod marks;
 #[cfg(test)]
 mod sessions;

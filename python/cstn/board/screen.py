@@ -23,8 +23,6 @@ Data = dict[str, Any]
 Found = TypeVar("Found")
 SECONDS = 1.5
 """How long a look may take to find until when steps can wait: what it does not come to stands without."""
-ROUNDS = 20
-"""How many sets of blamed limits are let go, one after another, to see what would be next."""
 
 
 @dataclass(frozen=True)
@@ -85,16 +83,9 @@ def latest_of(trial: Trial, outlook: Outlook, ahead: Ahead) -> dict[str, int]:
 
 def let_all_go(trial: Trial) -> tuple[Next | None, list[int]]:
     """What would be next if all blamed limits were let go, and which those are."""
-    gone: list[int] = []
-    for _ in range(ROUNDS):
-        if trial.verdict().can is not Can.NO:
-            break
-        blamed = trial.blame()
-        if not blamed:
-            return None, []
-        for number in blamed:
-            trial.tell(Change(number, None))
-        gone += blamed
+    gone = [number for each in trial.blamed_sets() for number in each]
+    for number in gone:
+        trial.tell(Change(number, None))
     answer = trial.next()
     return (answer, gone) if isinstance(answer, Next) else (None, [])
 

@@ -15,12 +15,13 @@ import re
 import sys
 from dataclasses import dataclass, field
 
-from ..explain.asking import Asked, read_once
+from ..explain.asking import Asked, read_once, read_text
 from ..explain.looks import looks
 from ..explain.names import harmless
 from ..explain.plans import is_plan, take_plan
 from ..explain.spoken import Clock, Spoken, read_clock
 from ..explain.stopped import Stopped
+from ..explain.tasks import Task, read_tasks
 from .gantt import draw_cases
 from .network import draw_network
 from .now import draw_now
@@ -28,7 +29,6 @@ from .page import write_page
 from .plans import Plan, add_case, add_latest, chosen, read_network, read_plan
 from .sessions import read_session
 from .table import write_table
-from .tasks import Task, read_tasks
 
 # Of each form how many files it takes, at least and at most.
 FORMS = {"network": (1, 1), "cases": (1, 1), "now": (2, 2), "--csv": (1, 1), "--html": (1, 2)}
@@ -69,7 +69,7 @@ def tasks_named(asked: Asked, path: str | None) -> list[Task] | None:
     """The tasks of a file, or none where none is named."""
     if path is None:
         return None
-    return read_tasks(asked.net, text_of(path, "TASKS"))
+    return read_tasks(asked.net, read_text(path, "TASKS"))
 
 
 def title_of(path: str) -> str:
@@ -79,18 +79,9 @@ def title_of(path: str) -> str:
     return re.sub(r"[-_]", " ", bare).capitalize() if "." in name else name
 
 
-def text_of(path: str, called: str) -> str:
-    """The text of a file, or of the standard input for `-`."""
-    try:
-        with open(0 if path == "-" else path, "rb") as file:
-            return file.read().decode()
-    except (OSError, ValueError) as error:
-        raise Stopped(2, f"{called} cannot be read: {error}") from error
-
-
 def drawn_now(request: Request, asked: Asked, plan: Plan) -> str:
     """The picture of a session, in the case that is wanted, else in the latest one."""
-    session = read_session(asked, text_of(request.files[1], "SESSION"))
+    session = read_session(asked, read_text(request.files[1], "SESSION"), plan.clock)
     return draw_now(plan, session, chosen(session.cases, request.options.get("--case", "latest")))
 
 

@@ -4,14 +4,15 @@ from dataclasses import dataclass, field
 from ..explain.cases import Case
 from ..explain.networks import written
 from ..explain.spoken import Spoken
+from ..explain.tasks import Task
 from .chains import Link, chain_of, names_of
 from .plans import Plan
-from .svg import element, fitted, group, picture, readable, text_at, width
-from .tasks import Task
+from .svg import BOLD, element, fitted, group, picture, readable, text_at, width
 
 MOST_CASES = 64
 MOST_STEPS = 200
-ROW, CHART, NAMES, MARGIN = 20, 760, 200, 16
+ROW, CHART, NAMES, MARGIN, BEHIND = 20, 760, 200, 16, 60
+DONE_AT = "done\u00a0at\u00a0"
 INK, SOFT, GRID = "#1f2933", "#616e7c", "#e4e7eb"
 BAR, RESULT, HOT, WAIT, DONE, NOW = "#4c78a8", "#c7d7ea", "#d97706", "#7b8794", "#52606d", "#c81e1e"
 
@@ -23,6 +24,11 @@ class Scale:
     left: float
     end: int
     wide: float = CHART
+
+    @property
+    def room(self) -> float:
+        """How wide a line of words may be without making the picture wider."""
+        return self.left + self.wide + BEHIND - MARGIN
 
     def at(self, moment: int) -> float:
         return self.left + self.wide * moment / max(1, self.end)
@@ -63,14 +69,18 @@ class Row:
 
 
 def rows_of(plan: Plan, case: Case) -> list[Row]:
-    """The rows of a case, in the order in which they begin."""
+    """The rows of a case, in the order in which they begin; at one moment those that wait behind those they wait
+    for."""
     moments, found = case.moments, []
     tasks = [it for it in plan.tasks if it.begin in moments and it.end in moments]
     in_tasks = {name for it in tasks for name in (it.begin, it.end)}
     single = [Task(name, name, name) for name in moments if name not in in_tasks and name != "Z"]
     for task in [*tasks, *single]:
         found.append(Row(task.name, task.begin, task.end, moments[task.begin], moments[task.end]))
-    return sorted(found, key=lambda it: (it.first, it.last, plan.net.places[it.begin]))
+    level: dict[str, int] = {}
+    for first in {it.first for it in found}:
+        level |= plan.net.levels(it.begin for it in found if it.first == first)
+    return sorted(found, key=lambda it: (it.first, level[it.begin], it.last, plan.net.places[it.begin]))
 
 
 def outcomes_in_words(case: Case) -> str:
@@ -202,13 +212,16 @@ def panel_of(plan: Plan, at: int) -> Panel:
     case = plan.cases[at]
     which = f"Case {at + 1} of {len(plan.cases)}: " if len(plan.cases) > 1 else ""
     says = f"{which}{outcomes_in_words(case)}" if case.outcomes else "The plan"
-    return Panel(case, f"{says}; done at {plan.clock.says(case.end)}", chain_of(plan.net, case), number=at + 1)
+    return Panel(case, f"{says}; {DONE_AT}{plan.clock.says(case.end)}", chain_of(plan.net, case), number=at + 1)
 
 
 def draw_panel(plan: Plan, panel: Panel, scale: Scale, top: float) -> tuple[list[str], float, float]:
     """A panel: its shapes, where it ends, and how far it goes to the right."""
     rows, y = rows_of(plan, panel.case), top + 18
-    parts = [text_at(MARGIN, y, panel.title, 15, bold=True)]
+    parts: list[str] = []
+    for place, line in enumerate(wrapped(panel.title, scale.room, 15 * BOLD)):
+        y += 19 if place else 0
+        parts.append(text_at(MARGIN, y, line, 15, bold=True))
     told = ", ".join(map(readable, names_of(panel.links)))
     for line in wrapped(f"The end waits for: {told}.", scale.left + CHART, 11) if told else []:
         y += 15
@@ -281,12 +294,13 @@ def draw_panels(plan: Plan, panels: list[Panel], told: list[str], overview: list
     scale = Scale(MARGIN + 10 + min(NAMES, named), max(it.end for it in panels))
     has_done = any(it.done for it in panels)
     parts = [text_at(MARGIN, 30, plan.title, 19, bold=True), *draw_legend(42, has_done)]
-    y, right = 72.0, scale.left + CHART + 60
+    y, right = 72.0, max(scale.left + CHART + BEHIND, MARGIN + width(plan.title, 19, True))
     for says in told:
         is_no = says.startswith("No:")
         says = says.removeprefix("No: ") if is_no and says != told[0] else says
-        parts.append(text_at(MARGIN, y + 8, says, 12, bold=True, fill=NOW if is_no else INK))
-        right, y = max(right, MARGIN + width(says, 12, True)), y + 18
+        for line in wrapped(says, scale.room, 12 * BOLD):
+            parts.append(text_at(MARGIN, y + 8, line, 12, bold=True, fill=NOW if is_no else INK))
+            right, y = max(right, MARGIN + width(line, 12, True)), y + 18
     if len(overview) > 1:
         more, y = draw_overview(plan, overview, scale, y)
         parts += more

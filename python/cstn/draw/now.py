@@ -1,6 +1,6 @@
 """A session as a picture: what was done, what time it is, and what is left."""
 from ..explain.following import blamed
-from .gantt import Panel, draw_panels, outcomes_in_words
+from .gantt import DONE_AT, Panel, draw_panels, outcomes_in_words
 from .plans import Plan
 from .sessions import Session, next_in_words
 from .svg import readable
@@ -37,6 +37,6 @@ def draw_now(plan: Plan, session: Session, places: list[int]) -> str:
         which = f", case {at + 1} of {len(session.cases)}" if len(session.cases) > 1 else ""
         left = "What is left" if case.moments.keys() - done - {"Z"} else "What was done"
         says = f"{left}{without}{which}: {outcomes_in_words(case) or 'the plan'}"
-        title = f"{'No plan. ' if is_let_go else ''}{says}; done at {plan.clock.says(case.end)}"
+        title = f"{'No plan. ' if is_let_go else ''}{says}; {DONE_AT}{plan.clock.says(case.end)}"
         panels.append(Panel(case, title, session.chains[at], done, now, at + 1))
     return draw_panels(plan, panels, told_of(plan, session), [])

@@ -8,10 +8,11 @@ from ..explain.documents import Reader
 from ..explain.networks import Network, literals, written
 from ..explain.refusals import tell_refused
 from ..explain.refutations import Refutation
-from ..explain.spoken import Clock
+from ..explain.shapes import Marks
+from ..explain.spoken import Clock, Spoken
 from ..explain.stopped import Stopped
+from ..explain.tasks import Task, tasks_of
 from ..explain.trees import MOST_IN_WORDS, size
-from .tasks import Task, tasks_of
 
 
 LABEL = re.compile("([¬!]?[A-Za-z])+")
@@ -77,11 +78,31 @@ def read_plan(asked: Asked, title: str, clock: Clock, tasks: list[Task] | None, 
     return plan
 
 
+def label_of(text: str) -> Marks | None:
+    """The letters that a text names, each with whether it is to be true, by themselves or by their words, as in
+    `damage and not leak` or `d!l`; or none."""
+    letters = {word: letter for letter, word in Spoken.words.items()}
+    found: Marks = {}
+    value = True
+    for part in text.replace(",", " ").split():
+        name = part.lstrip("¬!")
+        marks: Marks = {letters[name]: name == part} if name in letters else literals(part)
+        if part == "not":
+            value = not value
+        elif part != "and":
+            if name not in letters and not LABEL.fullmatch(part) or not value and len(marks) > 1:
+                return None
+            found |= {letter: marked is value for letter, marked in marks.items()}
+            value = True
+    return found if value else None
+
+
 def add_case(asked: Asked, plan: Plan, wanted: str | None) -> None:
     """The one case in which a label holds, and what it does not name is false, of a plan with too many cases."""
     is_wide = plan.verdict.startswith("yes") and not plan.cases
-    if is_wide and wanted and LABEL.fullmatch(wanted):
-        case = played(asked, literals(wanted))
+    marks = label_of(wanted or "")
+    if is_wide and marks:
+        case = played(asked, marks)
         plan.cases = [case] if case else []
 
 
@@ -112,9 +133,10 @@ def chosen(cases: list[Case], wanted: str | None) -> list[int]:
     if re.fullmatch(r"[1-9]\d{0,5}", wanted):
         found = [int(wanted) - 1] if int(wanted) <= len(places) else []
     else:
-        marks = literals(wanted) if LABEL.fullmatch(wanted) else {"": None}
-        found = [at for at in places if cases[at].holds(marks)]
+        marks = label_of(wanted)
+        found = [at for at in places if marks and cases[at].holds(marks)]
     if not found:
         labels = ", ".join(written(it.outcomes) or "-" for it in cases[:64])
-        raise Stopped(2, f"there is no such case; the cases are: {labels}")
+        words = "".join(f"; {letter} is {word}" for letter, word in sorted(Spoken.words.items()))
+        raise Stopped(2, f"there is no such case; the cases are: {labels}{words}")
     return found

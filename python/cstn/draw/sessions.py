@@ -7,8 +7,10 @@ from ..explain.cases import Case, ask_latest, cases_of
 from ..explain.following import Heard
 from ..explain.names import printed
 from ..explain.networks import Network
+from ..explain.spoken import Clock
 from ..explain.stopped import Stopped
 from ..explain.trees import MOST_IN_WORDS, size
+from ..explain.typed import all_in_lines
 from .chains import Link, chain_of
 
 # After a no so many sets of limits are let go, one after another, to tell what is left without them.
@@ -40,10 +42,10 @@ def lines_of(text: str) -> list[str]:
     return [it[1] for it in found if it]
 
 
-def read_session(asked: Asked, text: str) -> Session:
+def read_session(asked: Asked, text: str, clock: Clock) -> Session:
     """Tells the program the lines of a session again, and asks what is left. Refused lines tell nothing. After a no,
     what is left is asked for without the limits that are to blame, one set after another."""
-    lines = lines_of(text)
+    lines = all_in_lines(lines_of(text), clock)
     if not lines:
         raise Stopped(2, "SESSION has no line that tells `follow` something, as `did 5 Sample`")
     session = tell_again(asked, lines)

@@ -2,6 +2,7 @@
 import re
 
 from ..explain.networks import written
+from ..explain.steps import first_moments
 from .plans import Plan
 
 
@@ -17,8 +18,7 @@ def write_table(plan: Plan, places: list[int]) -> str:
     cases = [plan.cases[at] for at in places]
     labels = [written(it.outcomes) or "always" for it in cases]
     lines = [["step", *labels, *(f"{it} until" for it in labels)]]
-    first = {name: min((it.moments[name] for it in cases if name in it.moments), default=0) for name in plan.net.names}
-    for name in sorted(plan.net.names, key=lambda it: (first[it], plan.net.places[it])):
+    for name in plan.net.in_order(first_moments(plan.net, cases)):
         moments = [plan.clock.says(it.moments[name]) if name in it.moments else "" for it in cases]
         latest = [plan.clock.says(it.latest[name]) if name in it.latest else "" for it in cases]
         lines.append([name, *moments, *latest])

@@ -63,6 +63,15 @@ def read_once(path: str) -> Iterator[tuple[bytes, str]]:
         yield text, copy
 
 
+def read_text(path: str, called: str) -> str:
+    """The text of a file, or of the standard input for `-`."""
+    try:
+        with open(0 if path == "-" else path, "rb") as file:
+            return file.read().decode()
+    except (OSError, ValueError) as error:
+        raise Stopped(2, f"{called} cannot be read: {error}") from error
+
+
 def program() -> str:
     """The program: the one that CSTN names, else the one that `./cstn` takes, or builds. The script says why there is
     none. Where there is no script beside the package, it is the one that the package finds."""
@@ -88,6 +97,7 @@ class Asked:
         self.program, self.path, self.option = program(), path, option
         self.source, self.saved = b"", ""
         self.said: Said | None = None
+        self.longest: str | None = None
 
     def answer(self, *words: str, live: str = "") -> tuple[int, str]:
         """The status of a call of the program, and what it writes."""

@@ -63,6 +63,32 @@ def ways(items: Tree, known: Marks, moments: dict[str, int]) -> Iterator[tuple[M
     yield known, moments
 
 
+def cases_by_labels(net: Network) -> list[Case]:
+    """The cases by the labels alone, without moments: all time-points that are executed stand at 0."""
+    return [Case(known, {name: 0 for name in net.names if net.is_executed(name, known)}, {})
+            for known in outcomes_by_labels(net, {})]
+
+
+def outcomes_by_labels(net: Network, known: Marks) -> Iterator[Marks]:
+    """All outcomes that go on from some: one of each letter that somebody who is executed observes."""
+    letter = next((it for it in net.observers if it not in known and net.is_told(it, known)), None)
+    if letter is None:
+        yield known
+        return
+    for value in (True, False):
+        yield from outcomes_by_labels(net, {**known, letter: value})
+
+
+def latest_of_all(asked: Asked) -> dict[str, int]:
+    """Until when each step can wait before anything has happened, whatever is observed; nothing where that is much to
+    ask, or is not answered."""
+    net = asked.net
+    if len(net.names) * len(net.constraints) > MOST_ASKED:
+        return {}
+    said = asked.answer_at("follow", live="by\n")[1]
+    return {printed(name): int(at) for at, name in re.findall(r"^by (\d+) ([^ \n]+)$", said, re.M)}
+
+
 def played(asked: Asked, outcomes: Marks) -> Case | None:
     """The case in which these letters come out so, and all others false, as `follow` names what is next: for a plan
     that has too many cases for a tree. None where the session did not come to its end."""

@@ -4,6 +4,8 @@ tree or `follow` says.
     ./cstn explain FILE [PROOF [--only]] [--deadline N] [--json]
     ./cstn explain --tree FILE [--deadline N] [--json]         --conflict, --tight and --float likewise
     ./cstn explain --step NAME FILE [--deadline N] [--json]
+    ./cstn explain --longest [--tree | --conflict | --tight | --float | --step NAME] FILE [--tasks TASKS] ..
+    ./cstn explain --follow FILE [--deadline N]
     ./cstn explain --plain FILE [--deadline N]
 
 With --start HH:MM moments are times too: tick 0 is then, and a tick is a minute, or the seconds of --tick SECONDS.
@@ -13,7 +15,7 @@ network is listed before it, but what of FILE was passed over. docs/commands.md 
 form tells, and how it ends.
 
 FILE may be a plan in sentences, if its name ends in .plan: then constraints are named by its lines, and letters by its
-words.
+words. What is typed into a session, or to --follow, may have times as 22:14, those words, and names in quotes.
 
 A reading aid: it is not proved, reads the document and the text alone, and changes nothing. What the network is, it
 takes from what `./cstn save FILE` writes (or the program that CSTN names); what was passed over, it finds in FILE
@@ -26,10 +28,11 @@ import os
 import re
 import sys
 
-from .asking import Asked, read_once
+from .asking import Asked, kept, read_once, read_text, with_values
 from .conflicts import tell_sets
 from .documents import Reader, tell_passed_over
 from .following import is_answer, is_followed, is_typed
+from .live import talk
 from .looks import looks
 from .names import harmless, harmless_data
 from .networks import Network, network_in_words, plain_copy, ticks
@@ -41,18 +44,21 @@ from .shapes import Data
 from .spoken import Clock, Spoken, read_clock
 from .steps import tell_float, tell_step
 from .stopped import Stopped
+from .tasks import lengths, read_tasks, tasks_of, tasks_said
 from .trees import MOST_IN_WORDS, size
 
 IDS_OF_REST = ("If `rest` wrote FILE, the ids and lines below are its own. Never type them into the session: look a "
                "limit up by its words in `./cstn explain` of the document that was followed, and `change` the id "
                "there.")
-ASKED = ("--plain", "--tree", "--conflict", "--tight", "--float", "--step")
+LEAST = re.compile(r"least (\d{1,7})\n(?=.)")
+"""How what `tight` wrote begins; `follow` answers with such a line alone."""
+ASKED = ("--plain", "--tree", "--conflict", "--tight", "--float", "--step", "--follow")
 
 
 def tell_proof(asked: Asked, text: str) -> tuple[int, Data, list[str]]:
     """What a text says that was written after a yes or a no, or by `follow`: the status, data and lines. Of what
     `tight` wrote, it begins with the least deadline."""
-    least = re.match(r"least (\d{1,7})\n", text)
+    least = LEAST.match(text)
     if least:
         at = Spoken.moment(int(least[1]))
         lines = [f"With the deadline {at} the plan can be carried out, and with none before it."]
@@ -179,11 +185,48 @@ def taken_out(words: list[str], name: str) -> tuple[list[str], list[str]]:
     return words[at : at + 2], words[:at] + words[at + 2 :]
 
 
+def longest_of(words: list[str]) -> tuple[str | None, list[str]]:
+    """Whether tasks are to take their longest: then the file that names them, or nothing; and the words without it."""
+    tasks, words = taken_out(words, "--tasks")
+    if "--longest" not in words:
+        if tasks:
+            raise Stopped(2, "--tasks goes with --longest.")
+        return None, words
+    return "".join(tasks[1:]), [it for it in words if it != "--longest"]
+
+
 def clock_of(words: list[str]) -> tuple[Clock, list[str]]:
     """The clock by which moments are said, and the words without its options."""
     start, words = taken_out(words, "--start")
     tick, words = taken_out(words, "--tick")
     return read_clock(*(" ".join(it[1:]) or "none" if it else None for it in (start, tick))), words
+
+
+def take_longest(asked: Asked, files: contextlib.ExitStack, path: str | None) -> tuple[Data, list[str]]:
+    """Puts a document in the place of FILE in which each task takes its longest, as a file among these; as data and in
+    words, which these are."""
+    net = asked.net
+    named = read_tasks(net, read_text(path, "TASKS")) if path else None
+    tasks = named if named is not None else tasks_said(asked.said) if asked.said else tasks_of(net)
+    found = lengths(net, tasks)
+    asked.saved = with_values(asked.saved, {it.id: -it.most for it in found})
+    asked.net, asked.path = Network(asked.saved), files.enter_context(kept(asked.saved))
+    asked.net.rows, asked.net.lines, asked.net.waits = net.rows, net.lines, net.waits
+    asked.net.says, asked.net.is_canonical = net.says, net.is_canonical
+    lines = [f"With each task at its longest: {', '.join(it.says() for it in found)}."]
+    if not found:
+        lines = ["No task has a longest length that is more than its least" +
+                 ("." if tasks else ": no two steps are named as a task, so say --tasks TASKS, as for `./cstn draw`.")]
+    return {"longest": [{"task": it.task.name, "constraint": it.id, "least": it.least, "most": it.most}
+                        for it in found]}, lines
+
+
+def tell_longest(asked: Asked) -> tuple[int, Data, list[str]]:
+    """Whether the plan can be carried out as it stands now, and if not, what is to blame."""
+    said, head = tell_verdict(asked)
+    if not said.startswith("no"):
+        return 0 if said.startswith("yes") else 4, {"answer": said, "says": head}, head
+    return tell_conflict(asked)
 
 
 def parsed(words: list[str]) -> tuple[str, list[str], list[str], bool, bool]:
@@ -198,7 +241,7 @@ def parsed(words: list[str]) -> tuple[str, list[str], list[str], bool, bool]:
         asked, words = f"step {''.join(words[:1])}", words[1:]
     if alone and (asked or len(words) == 1 and not words[0].startswith("-")):
         raise Stopped(2, "--only goes with PROOF, ANSWER or SESSION.")
-    is_form = 1 + alone <= len(words) <= (1 if asked else 2) and not (as_data and asked == "plain")
+    is_form = 1 + alone <= len(words) <= (1 if asked else 2) and not (as_data and asked in ("plain", "follow"))
     if not is_form or any(it.startswith("-") and it != "-" for it in words):
         raise Stopped(2, __doc__.strip())
     return asked, words, option, alone, as_data
@@ -210,18 +253,15 @@ def text_of(words: list[str]) -> str | None:
         return None
     if words[1] != "-" and is_answer(words[1]) and not os.path.exists(words[1]):
         return f"{words[1]}\n"
-    try:
-        with open(0 if words[1] == "-" else words[1], "rb") as file:
-            return file.read().decode()
-    except (OSError, ValueError) as error:
-        raise Stopped(2, f"PROOF cannot be read: {error}") from error
+    return read_text(words[1], "PROOF")
 
 
 def told_of(asked: Asked, command: str) -> tuple[int, Data, list[str]]:
     """What is asked of the program over a document."""
     if command.startswith("step "):
         return tell_step(asked, command.removeprefix("step "))
-    forms = {"tight": tell_tight, "tree": tell_tree, "conflict": tell_conflict, "float": tell_float}
+    forms = {"tight": tell_tight, "tree": tell_tree, "conflict": tell_conflict, "float": tell_float,
+             "longest": tell_longest}
     return forms[command](asked)
 
 
@@ -240,6 +280,13 @@ def tell(asked: Asked, command: str, text: str | None, alone: bool) -> tuple[int
     asked.net.rows, asked.net.lines, asked.net.waits = found.rows, found.lines, reader.waits
     asked.net.says = asked.said.says if asked.said else []
     asked.net.is_canonical = asked.is_canonical()
+    if asked.longest is not None:
+        with contextlib.ExitStack() as files:
+            longest, head = take_longest(asked, files, asked.longest)
+            status, data, lines = told_of(asked, command or "longest")
+        return status, {**data, **longest}, [*head, *lines]
+    if command == "follow":
+        return talk(asked, sys.stdin), {}, []
     if command:
         return told_of(asked, command)
     data, lines = tell_alone(reader) if alone else tell_document(asked, reader)
@@ -253,15 +300,18 @@ def tell(asked: Asked, command: str, text: str | None, alone: bool) -> tuple[int
 def main(words: list[str]) -> int:
     Spoken.clock, words = clock_of(words)
     Spoken.words = {}
+    longest, words = longest_of(words)
     command, words, option, alone, as_data = parsed(words)
+    if longest is not None and (command in ("plain", "follow") or len(words) > 1):
+        raise Stopped(2, __doc__.strip())
     text = text_of(words)
-    least = re.match(r"least (\d{1,7})\n", text or "")
+    least = LEAST.match(text or "")
     if least and least[1] != "0":
         option = ["--deadline", str(int(least[1]) - 1)]
     with contextlib.ExitStack() as files:
         source, path = files.enter_context(read_once(words[0]))
         asked = Asked(path, option)
-        asked.source = source
+        asked.source, asked.longest = source, longest
         refused: Told | None = take_plan(asked, files) if is_plan(words[0]) else None
         status, data, lines = refused or tell(asked, command, text, alone)
     if command == "plain" and not status:

@@ -1,26 +1,35 @@
 """Answers of `follow` in words, with the lines of the document: what is next, until when a step can wait, how late an
 outcome may be, what is to blame."""
 import bisect
+import copy
 import functools
 import re
 from collections.abc import Callable, Iterator
+from typing import Any
 
 from .names import printed, shown
 from .networks import Network, constraint, counts_where, ticks
+from .reasons import why_refused
 from .shapes import Data, Marks
 from .spoken import Spoken
 
 # The answers that are put into words.
 ANSWER = re.compile(r"next (?P<next>[0-9]{1,10})(?: do (?P<do>[^ ]+(?: [^ ]+)*?))?(?: wait (?P<wait>[A-Za-z]+))?|"
                     r"by (?P<by>[0-9]{1,10}) (?P<name>[^ ]+)|blame(?P<blame>(?: [0-9]{1,10})*)|"
-                    r"until (?P<until>[0-9]{1,10})|late (?P<late>[0-9]{1,10}|none) (?P<of>[A-Za-z])")
+                    r"until (?P<until>[0-9]{1,10})|late (?P<late>[0-9]{1,10}|none) (?P<of>[A-Za-z])|"
+                    r"raise (?P<raise>[0-9]{1,10}) (?P<to>-?[0-9]{1,10}|none)|least (?P<least>[0-9]{1,10}|none)|"
+                    r"forgiven(?P<forgiven>(?: [0-9]{1,10})*)|step (?P<step>[^ ]+)")
 
 # Lines that are typed, alone or behind `> `, those that an answer may be too, and answers of one line.
-TYPED = re.compile(r"> .*|(did|saw|now|await|add|remove|change) .*|by (?!\d+ [^ ]).*|late [A-Za-z]|"
-                   "by|next|check|rest|until|verdict")
-EITHER = re.compile(r"blame|deadline \d+")
-ANSWERED = re.compile(r"(yes|no|full|added|removed|changed|deadline|until) [0-9]{1,10}|refused .*|"
-                      r"(next|by) [0-9]{1,10} .*|blame( [0-9]{1,10})*|late ([0-9]{1,10}|none) [A-Za-z]|done")
+TYPED = re.compile(r"> .*|(did|saw|now|await|expect|add|remove|change|try|cap) .*|by (?!\d+ [^ ]).*|late [A-Za-z]|"
+                   r"raise \d+|by|next|check|rest|until|verdict|least|forgive|mark|back|cases|digest")
+EITHER = re.compile(r"blame|deadline \d+|step [^ ]+")
+ANSWERED = re.compile(r"(yes|no|full|added|removed|changed|deadline|until|mark|back) [0-9]{1,10}|refused .*|"
+                      r"(next|by) [0-9]{1,10} .*|blame( [0-9]{1,10})*|late ([0-9]{1,10}|none) [A-Za-z]|done|"
+                      r"raise \d{1,10} (-?\d{1,10}|none)|least (\d{1,10}|none)|forgiven( \d{1,10})*|step [^ ]+|"
+                      r"digest [0-9a-f]{64}")
+RECORDED = re.compile("(did|saw|now|await|expect|add|remove|change|deadline|step|cap) |forgive$")
+"""Lines that tell or change something, if they are not refused."""
 FACT = re.compile(r"(?P<kind>did|saw|now|await) (?P<moment>[0-9]{1,10})(?: (?P<rest>[^ ]+(?: [^ ]+)*))?")
 EDIT = re.compile(r"change (?P<number>[0-9]{1,10}) (?P<value>-?[0-9]{1,10})|deadline (?P<deadline>[0-9]{1,10})|"
                   r"add [^ ]+ [^ ]+ (?P<added>-?[0-9]{1,10}) .*")
@@ -40,14 +49,16 @@ def is_answer(text: str) -> bool:
 
 def is_followed(text: str) -> bool:
     """Whether a text is what `follow` wrote, from its start or from such an answer on."""
-    return bool(re.match(r"follow \d+\n", text) or is_answer(text.split("\n")[0]))
+    first = text.split("\n")[0]
+    return bool(re.match(r"follow \d+\n", text) or is_answer(first) and not first.startswith("step "))
 
 
 def is_typed(text: str) -> bool:
     """Whether a text begins with a line that is typed into a session, or with the call behind `$ `."""
     line = text.split("\n")[0]
-    return bool(re.match(r"\$ |(?:> )?(?:(?:did|saw|now|await) \d+\b|(?:add|remove|change|deadline|by) [^ ]|"
-                         r"late [A-Za-z]$|(?:by|next|check|rest|until|verdict)$)", line))
+    return bool(re.match(r"\$ |(?:> )?(?:(?:did|saw|now|await|expect) \d+\b|late [A-Za-z]$|"
+                         r"(?:add|remove|change|deadline|by|try) [^ ]|(?:raise|cap) \d+$|"
+                         r"(?:by|next|check|rest|until|verdict|forgive|mark|cases)$)", line))
 
 
 def rests(text: str) -> list[tuple[int, int]]:
@@ -62,10 +73,10 @@ def rests(text: str) -> list[tuple[int, int]]:
     return found
 
 
-def lacking(net: Network, answer: re.Match[str]) -> list[str]:
-    """What an answer names that the document lacks, in words."""
+def lacking(net: Network, answer: re.Match[str], further: set[str]) -> list[str]:
+    """What an answer names that the document, with further steps, lacks, in words."""
     names = [printed(name) for name in (answer["do"] or answer["name"] or "").split(" ") if name]
-    lacks = [f"no time-point {shown(name)}" for name in names if name not in net.places]
+    lacks = [f"no time-point {shown(name)}" for name in names if name not in net.places.keys() | further]
     letters = answer["wait"] or answer["of"] or ""
     return lacks + [f"nobody who observes {letter}" for letter in letters if letter not in net.observers]
 
@@ -74,6 +85,9 @@ def placed(net: Network, name: str) -> tuple[Data, str]:
     """A time-point with its line in the document, as data and in words."""
     line = net.lines.get((name, "id"))
     return {"name": name, "line": line}, f"{shown(name)} (line {line})" if line else shown(name)
+
+
+Limit = tuple[str, str, int, str]
 
 
 class Heard:
@@ -86,9 +100,12 @@ class Heard:
         self.awaited: dict[str, int] = {}
         self.known: Marks = {}
         self.values: dict[int, int] = {}
+        self.added: dict[int, Limit] = {}
         self.changed: set[int] = set()
         self.deadline: int | None = None
+        self.further: set[str] = set()
         self.journal: list[str] = []
+        self.marks: list[dict[str, Any]] = []
 
     def take(self, line: str, answer: str) -> None:
         """Hears a typed line, or none, with its answer."""
@@ -98,14 +115,27 @@ class Heard:
             self.changed.add(int(to[2]))
         if answer.startswith("refused"):
             return
-        if re.match("(did|saw|now|await|add|remove|change|deadline) ", line):
+        if line == "mark":
+            self.marks.append(copy.deepcopy({key: it for key, it in vars(self).items() if key != "marks"}))
+        elif line == "back" and self.marks:
+            vars(self).update(self.marks.pop())
+        if RECORDED.match(line):
             self.journal.append(line)
+        if line.startswith("step "):
+            self.further.add(printed(line.removeprefix("step ")))
         if fact:
             self.take_fact(fact["kind"], int(fact["moment"]), (fact["rest"] or "").split(" "))
         if edit and edit["deadline"]:
             self.deadline = int(edit["deadline"])
         elif edit and to:
             self.values[int(to[2])] = int(edit["value"] or edit["added"])
+        if edit and to and edit["added"]:
+            _, source, target, value, label = line.split(" ")
+            self.added[int(to[2])] = printed(source), printed(target), int(value), "" if label == "-" else label
+
+    def is_late(self, number: int) -> bool:
+        """Whether an edit has put in that something comes no earlier than some moment: what happened, and no limit."""
+        return number in self.added and self.added[number][1] == "Z" and self.added[number][2] < 0
 
     def take_fact(self, kind: str, moment: int, words: list[str]) -> None:
         if kind == "await":
@@ -134,7 +164,8 @@ def told_of(net: Network, name: str, heard: Heard) -> str:
 def tell_next(net: Network, answer: re.Match[str], heard: Heard) -> Data:
     """What is to be executed at the next moment and what is awaited at it, as data and in words."""
     moment, says, awaited = answer["next"], [], []
-    points = [placed(net, printed(name)) for name in (answer["do"] or "").split(" ") if name]
+    named = {printed(name): 0 for name in (answer["do"] or "").split(" ") if name}
+    points = [placed(net, name) for name in net.in_order(named)]
     if points:
         names = " and ".join(words for _, words in points)
         says.append(f"At {Spoken.moment(int(moment))} {names} {'is' if len(points) == 1 else 'are'} to be executed.")
@@ -153,6 +184,44 @@ def tell_by(net: Network, answer: re.Match[str]) -> Data:
     point, words = placed(net, printed(answer["name"]))
     says = [f"{words} can wait until {Spoken.moment(int(answer['by']))}, and no longer."]
     return {"answer": "by", "moment": int(answer["by"]), **point, "says": says}
+
+
+def tell_raise(net: Network, answer: re.Match[str], heard: Heard) -> Data:
+    """By how much a limit would have to give way, as data and in words."""
+    number, to = int(answer["raise"]), None if answer["to"] == "none" else int(answer["to"])
+    own = heard.values.get(number, net.constraints[number][2] if number < len(net.constraints) else None)
+    says = f"{blamed(net, number, heard)}. "
+    if to is None:
+        says += "If all else stays, no greater value would do."
+    else:
+        values = [Spoken.moment(abs(it)) if number in net.from_start else str(abs(it))
+                  for it in (to, own) if it is not None]
+        least = "at least " if to < 0 or (own or 0) < 0 else ""
+        says += f"If all else stays, {least}{' in place of '.join(values)} would do."
+    return {"answer": "raise", "constraint": number, "least": to, "says": [says]}
+
+
+def tell_least(answer: re.Match[str]) -> Data:
+    """The least deadline, as data and in words."""
+    least = None if answer["least"] == "none" else int(answer["least"])
+    says = f"No deadline up to {NEVER} would do."
+    if least is not None:
+        says = f"With the deadline {Spoken.moment(least)} what is left can be carried out, and with none before it."
+    return {"answer": "least", "least": least, "says": [says]}
+
+
+def tell_forgiven(net: Network, answer: re.Match[str], heard: Heard) -> Data:
+    """The constraints that were given up, as data and in words."""
+    numbers = [int(it) for it in answer["forgiven"].split()]
+    head = "What was done has broken these, and they are given up:" if numbers else "What was done has broken nothing."
+    return {"answer": "forgiven", "constraints": numbers, "says": [head, *(blamed(net, it, heard) for it in numbers)]}
+
+
+def tell_further(answer: re.Match[str], heard: Heard) -> Data:
+    """A step that was put in, as data and in words."""
+    name = printed(answer["step"])
+    says = f"{shown(name)} is a further step, which nothing ties to the others yet."
+    return {"answer": "step", "name": name, "says": [says]}
 
 
 def tell_until(answer: re.Match[str]) -> Data:
@@ -181,7 +250,11 @@ def tell_late(net: Network, answer: re.Match[str]) -> Data:
 def blamed(net: Network, number: int, heard: Heard) -> str:
     """A constraint that is to blame, in words."""
     if number >= len(net.constraints):
-        return f"{number}: a constraint that FILE lacks, so an edit has added it"
+        if number not in heard.added:
+            return f"{number}: a constraint that FILE lacks, so an edit has added it"
+        source, target, most, label = heard.added[number]
+        says = f"{number}: {constraint(source, target, heard.values.get(number, most), label)}, put in by `add`"
+        return says + (": what was told to come so late, and no limit of the plan" if heard.is_late(number) else "")
     now = f"it is {heard.values[number]} now" if number in heard.values else "an edit has changed it"
     edited = f", as FILE has it; {now}" if number in heard.changed else ""
     return f"{net.called(number)}: {constraint(*net.constraints[number])}{counts_where(net, number)}{edited}"
@@ -227,6 +300,14 @@ def tell_answer(net: Network, answer: re.Match[str], heard: Heard, tried: Tried)
         return tell_until(answer)
     if answer["late"]:
         return tell_late(net, answer)
+    if answer["raise"]:
+        return tell_raise(net, answer, heard)
+    if answer["least"]:
+        return tell_least(answer)
+    if answer["forgiven"] is not None:
+        return tell_forgiven(net, answer, heard)
+    if answer["step"]:
+        return tell_further(answer, heard)
     return tell_by(net, answer) if answer["by"] else tell_blame(net, answer, heard, tried)
 
 
@@ -301,7 +382,10 @@ def tell_followed(net: Network, text: str,
     for at, typed, line in turns:
         answer = ANSWER.fullmatch(line)
         if answer:
-            lacks += lacking(net, answer)
+            lacks += lacking(net, answer, heard.further)
+        if reason := why_refused(net, typed, line, heard):
+            told.append({"answer": "refused", "line": typed, "refusal": line, "says": [reason]})
+            says.append(f"{f'{typed}: ' if typed else ''}{line}: {reason}")
         if answer and not lacks:
             told.append(tell_answer(net, answer, heard, functools.partial(tried, at)))
             says += [f"{line}: {told[-1]['says'][0]}", *told[-1]["says"][1:]]

@@ -164,6 +164,20 @@ def in_words(head: str, found: list[tuple[str, Marks, bool]]) -> list[str]:
     return [f"{head}: {'; '.join(names)}."] if names else []
 
 
+def tell_past_the_deadline(net: Network) -> tuple[list[Data], list[str]]:
+    """The limits that count from the start and lie after the deadline, as data and in words."""
+    late, lines = [it for it in sorted(net.from_start - net.never) if abs(net.constraints[it][2]) > net.deadline], []
+    for number in late:
+        is_least = net.constraints[number][2] < 0
+        why = "so it cannot be executed in time" if is_least else "so this limits nothing"
+        lines.append(f"{net.called(number)}: {constraint(*net.constraints[number])}, {why}")
+    if lines:
+        next_day = "" if Spoken.clock.start is None else \
+            f" (times before {Spoken.clock.says(0)} are those of the next day)"
+        lines.insert(0, f"Limits that lie after the deadline, {Spoken.moment(net.deadline)}{next_day}:")
+    return [{"constraint": number} for number in late], lines
+
+
 def ranges(net: Network) -> list[tuple[int, int, str, str, int, int]]:
     """Each two constraints with one label that say a range: the ids of the least and the most, and what they say."""
     most = {}

@@ -3,14 +3,16 @@ from collections.abc import Iterator
 from typing import Any
 
 from .asking import Asked
-from .cases import Case, cases_of
-from .limits import ranges, tell_disagreeing, tell_never, tell_repeating, tell_shortest, tell_unlimited
+from .cases import Case, cases_by_labels, cases_of
+from .limits import (ranges, tell_disagreeing, tell_never, tell_past_the_deadline, tell_repeating, tell_shortest,
+                     tell_unlimited)
 from .names import shown
 from .networks import Network, constraint, literals, tell_unlabelled, where
 from .shapes import Data, Marks, Tree
 from .trees import MOST_OF_A_LOOK, size
 
-# Where the upper limits times the constraints are more, it is not looked at what may come before what.
+# Where the upper limits times the constraints are more, it is not looked at what may come before what; and where what a
+# tree may have to say is more, not for which steps nothing waits.
 MOST_LOOKED_AT = 1000000
 
 
@@ -22,11 +24,12 @@ def looks(asked: Asked, verdict: str) -> Iterator[tuple[str, Any, list[str]]]:
         tree = asked.tree()
     yield "tied_to_one_case", *tell_unlabelled(net)
     yield "no_upper_limit", *tell_unlimited(net, asked.beyond)
+    yield "past_the_deadline", *tell_past_the_deadline(net)
     yield "shortest", *look_at_shortest(net, is_small, tree)
     yield "disagreeing_reactions", *tell_disagreeing(net)
     yield "never_in_force", *tell_never(net)
     yield "repeating_a_label", *tell_repeating(net)
-    yield "nothing_waits", *tell_nothing_waits(net, cases_of(net, tree) if tree is not None else [])
+    yield "nothing_waits", *look_at_nothing_waits(net, verdict, tree)
     yield "may_come_before", *tell_may_come_before(net)
     yield "may_be_put_off", *tell_may_be_put_off(net)
 
@@ -39,6 +42,18 @@ def look_at_shortest(net: Network, is_small: bool, tree: Tree | None) -> tuple[l
         return None, ["Which ranges the plan takes at their shortest is not told, since it has up to "
                       f"{1 << len(net.observers)} ways."]
     return tell_shortest(net, tree) if tree is not None else (None, [])
+
+
+def look_at_nothing_waits(net: Network, verdict: str, tree: Tree | None) -> tuple[list[Data] | None, list[str]]:
+    """The steps for which nothing waits, as data and in words, unless the plan is a no; or why they are not told."""
+    if tree is not None:
+        return tell_nothing_waits(net, cases_of(net, tree))
+    if verdict.startswith("no"):
+        return [], []
+    if size(net) > MOST_LOOKED_AT:
+        return None, ["For which steps nothing waits is not told, since the plan has up to "
+                      f"{1 << len(net.observers)} ways."]
+    return tell_nothing_waits(net, cases_by_labels(net))
 
 
 def waited_for(net: Network, case: Case) -> set[str]:
@@ -63,7 +78,8 @@ def nothing_waits(net: Network, cases: list[Case]) -> list[tuple[str, list[Case]
     counts = {name: sum(name in case.moments for case in cases) for name in found}
     ends = [name for name in net.names if name in found and len(found[name]) == counts[name]]
     waits = waits_of(net)
-    end = max(ends, key=lambda it: (counts[it], len(reached(waits, it, net.executed[it]))), default="")
+    end = max(ends, key=lambda it: (counts[it], len(reached(waits, it, net.executed[it])),
+                                    len(reached(waits, it, None))), default="")
     return [(name, found[name], counts[name]) for name in net.names if name in found and name != end]
 
 
@@ -91,34 +107,40 @@ def waits_of(net: Network) -> dict[str, list[tuple[str, Marks]]]:
     return found
 
 
-def reached(waits: dict[str, list[tuple[str, Marks]]], begin: str, force: Marks) -> set[str]:
-    """What a step comes after, or at the same moment, wherever these letters are so."""
+def reached(waits: dict[str, list[tuple[str, Marks]]], begin: str, force: Marks | None) -> set[str]:
+    """What a step comes after, or at the same moment, wherever these letters are so; or in any case."""
     found, left = {begin}, [begin]
     while left:
         for target, marks in waits[left.pop()]:
-            if target not in found and marks.items() <= force.items():
+            if target not in found and (force is None or marks.items() <= force.items()):
                 found.add(target)
                 left.append(target)
     return found
 
 
+def at_most(net: Network) -> list[int]:
+    """The ids of the constraints that say `at most N after` of two steps."""
+    return [number for number, (source, target, most, _) in enumerate(net.constraints)
+            if most > 0 and source not in ("Z", target) and number not in net.never]
+
+
 def may_come_before(net: Network) -> list[tuple[int, bool]]:
     """The ids of constraints that say `at most N after` of a step that may come before, each with whether it always
     does."""
-    numbers = [number for number, (source, target, most, _) in enumerate(net.constraints)
-               if most > 0 and source not in ("Z", target) and number not in net.never]
-    if len(numbers) * len(net.lowered) > MOST_LOOKED_AT:
-        return []
     found, waits = [], waits_of(net)
-    for number in numbers:
+    for number in at_most(net):
         (source, target, *_), force = net.constraints[number], net.forces[number]
         if source not in reached(waits, target, force):
             found.append((number, target in reached(waits, source, force)))
     return found
 
 
-def tell_may_come_before(net: Network) -> tuple[list[Data], list[str]]:
-    """The constraints `at most N after` that let the step come before, as data and in words."""
+def tell_may_come_before(net: Network) -> tuple[list[Data] | None, list[str]]:
+    """The constraints `at most N after` that let the step come before, as data and in words; or that they are not
+    told."""
+    if len(at_most(net)) * len(net.lowered) > MOST_LOOKED_AT:
+        return None, ["Which steps that come at most some ticks after others may come before these is not told, since "
+                      "the plan has many limits."]
     found, lines = may_come_before(net), []
     for number, always in found:
         source, target, *_ = net.constraints[number]

@@ -48,8 +48,11 @@ def typed(name: str) -> str:
 
 @functools.lru_cache(maxsize=None)
 def shown(name: str) -> str:
-    """A name in words: as lines have it, and so too what a screen obeys; one that is longer than an id is cut."""
-    return cut(re.sub(f"[ %{OBEYED}]", escaped, name))
+    """A name in words: one with a space stands in quotes, as in a plan in sentences, and what a screen obeys as in
+    lines; one that is longer than an id is cut."""
+    if " " not in name:
+        return cut(re.sub(f"%(?=[0-9A-Fa-f]{{2}})|[{OBEYED}]", escaped, name))
+    return f'"{cut(re.sub(f"%(?=[0-9A-Fa-f]{{2}})|[{chr(34)}{OBEYED}]", escaped, name))}"'
 
 
 def harmless(line: str) -> str:

@@ -1,8 +1,9 @@
 """The network of a canonical document, its constraints in words, and its copy without labels on time-points."""
 import functools
 import re
-from collections.abc import Iterator
+from collections.abc import Iterable, Iterator, Mapping
 
+from ..order import levels
 from .names import commented, plain, quoted, shown
 from .shapes import Data, Marks
 from .spoken import Spoken
@@ -78,6 +79,25 @@ class Network:
         for number, (source, target, *_) in enumerate(self.constraints):
             for name in dict.fromkeys((source, target)):
                 found[name].append(number)
+        return found
+
+    def levels(self, names: Iterable[str]) -> dict[str, int]:
+        """For each of some steps of one moment how many of them, one behind another, it waits for."""
+        names = list(names)
+        return levels(names, ((source, target) for name in names for number in self.ties.get(name, [])
+                              if number not in self.never
+                              for source, target, most, _ in [self.constraints[number]]
+                              if most <= 0 and source == name != "Z"))
+
+    def in_order(self, moments: Mapping[str, int]) -> list[str]:
+        """Some steps in the order of their moments, and at one moment those that wait behind those they wait for."""
+        groups: dict[int, list[str]] = {}
+        for name, moment in moments.items():
+            groups.setdefault(moment, []).append(name)
+        found: list[str] = []
+        for moment in sorted(groups):
+            level = self.levels(groups[moment])
+            found += sorted(level, key=lambda it: (level[it], self.places.get(it, len(self.names))))
         return found
 
     def called(self, number: int) -> str:

@@ -8,7 +8,9 @@ from .following import EITHER, TYPED, Heard, awaited, rests, stuck, tell_followe
 from .networks import Network, ticks
 from .refutations import Refutation, accepted_no
 from .shapes import Data
+from .spoken import Spoken
 from .tries import CHECKS_OF_A_LIMIT, MOST_LIMITS, awaiting, giving_way
+from .typed import all_in_lines
 
 MOST_TOLD = 12
 NO_REST = ("The steps after `{}` are of what was left then. Ask `rest` right after that `check`, before anything else "
@@ -19,7 +21,7 @@ TOO_MUCH = ("By how much is not tried, since that is much in so large a plan or 
 ANOTHER = ("This session is not of FILE with the deadline {}: it begins with `{}`, and `check` says {}. Its ids and "
            "moments are of the document that was followed: name that one, not what `rest` wrote, and the "
            "`--deadline N` that it had.")
-NO_ANSWER = "There is no answer to `next`, `by`, `until`, `late` or `blame`, and no step of `check`."
+NO_ANSWER = "There is no answer that is put into words, as that to `next`, `by` or `blame`, and no step of `check`."
 MAY_BE_REST = ("FILE may be what `rest` wrote. Then these are other constraints: ids of `blame` are of the document "
                "that was followed, so name that one.")
 
@@ -47,7 +49,8 @@ def tell_told_again(asked: Asked, heard: Heard, numbers: list[int]) -> tuple[Dat
     """How far each limit that is to blame would have to give way, and each wait be shorter, by a session that is told
     the same lines, as data and in words."""
     known, deadline = asked.net.constraints, heard.deadline if heard.deadline is not None else asked.net.deadline
-    values = {it: heard.values.get(it, known[it][2] if it < len(known) else 0) for it in numbers}
+    values = {it: heard.values.get(it, known[it][2] if it < len(known) else 0) for it in numbers
+              if not heard.is_late(it)}
     with asked.live(asked.path, heard.journal, heard.now, len(values) + len(heard.awaited)) as live:
         said = live.is_met(f"now {heard.now}")
         if said is None:
@@ -120,6 +123,7 @@ def answered(asked: Asked, text: str) -> str:
     lines = [line for line in text.removesuffix("\n").split("\n") if line not in ("by", "check", "rest")]
     if not all(TYPED.fullmatch(line) or EITHER.fullmatch(line) for line in lines) or lines[0].startswith("> "):
         return ""
+    lines = all_in_lines(lines, Spoken.clock)
     lines += [] if any(re.match("(next|by|blame|until|late)", line) for line in lines) else ["next", "blame"]
     said = asked.answer_at("follow", live="".join(f"{line}\n" for line in lines))[1].split("\n")
     turns = [f"> {line}\n{answer}\n" for line, answer in zip(lines, said[2:])]

@@ -1,6 +1,6 @@
 """A plan by its steps: what each waits for, what waits for it, when it comes, and how long it can wait."""
 from .asking import Asked
-from .cases import Case, ask_latest, cases_of
+from .cases import Case, ask_latest, cases_of, latest_of_all
 from .names import printed, shown
 from .networks import Network, constraint, counts_where, literals, ticks, where
 from .shapes import Data
@@ -10,18 +10,29 @@ from .trees import MOST_IN_WORDS, size
 
 MOST_GROUPS = 12
 NO_MOMENTS = "When it comes is not told, since {}."
+TOO_MUCH = "How long {} can wait in each case is not told, since {}."
+MUCH = "that is too much to ask"
+OVER_ALL = "Before anything has happened, {} can wait until {}, whatever is observed."
+FLOAT = "How long each step can wait, if all before it comes as planned, and what comes after makes up for it:"
+OF_ALL = "Until when each can wait before anything has happened, whatever is observed:"
 
 
-def told_cases(asked: Asked) -> tuple[list[Case], str]:
-    """The cases with how long each step can wait in each, or why they are not told."""
+def told_cases(asked: Asked) -> tuple[list[Case], str, bool]:
+    """The cases with how long each step can wait in each, or why they are not told; and whether it was told how long
+    each can wait."""
     if size(asked.net) > MOST_IN_WORDS:
-        return [], f"the plan has up to {1 << len(asked.net.observers)} cases"
+        return [], f"the plan has up to {1 << len(asked.net.observers)} cases", False
     tree = asked.tree()
     if tree is None:
-        return [], "there is no plan: it is a no, or too much to check"
+        return [], "there is no plan: it is a no, or too much to check", False
     cases = cases_of(asked.net, tree)
-    ask_latest(asked, cases)
-    return cases, ""
+    return cases, "", ask_latest(asked, cases)
+
+
+def instead_of_cases(asked: Asked, name: str, why: str) -> list[str]:
+    """Until when a step can wait over all cases, where it is not told of each, in words."""
+    latest = latest_of_all(asked).get(name)
+    return [TOO_MUCH.format("it", why)] + ([OVER_ALL.format("it", Spoken.moment(latest))] if latest is not None else [])
 
 
 def moments_of(cases: list[Case], name: str) -> list[Data]:
@@ -32,6 +43,11 @@ def moments_of(cases: list[Case], name: str) -> list[Data]:
             found.setdefault((case.moments[name], case.latest.get(name)), []).append(case)
     return [{"at": at, "until": until, "cases": [case.label for case in each]}
             for (at, until), each in sorted(found.items(), key=lambda it: (it[0][0], it[0][1] or 0))]
+
+
+def first_moments(net: Network, cases: list[Case]) -> dict[str, int]:
+    """The least moment of each step in some cases, and 0 where it is in none."""
+    return {name: min((it.moments[name] for it in cases if name in it.moments), default=0) for name in net.names}
 
 
 def when(groups: list[Data]) -> list[str]:
@@ -92,13 +108,16 @@ def tell_step(asked: Asked, called: str) -> tuple[int, Data, list[str]]:
         source, target, most, _ = net.constraints[number]
         side = "limits" if most > 0 or source == target else "waits" if source == name else "waited_for"
         sides[side].append(number)
-    cases, why = told_cases(asked)
+    cases, why, has_latest = told_cases(asked)
     groups, label = moments_of(cases, name), net.labels.get(name, "")
     letter = net.observed.get(name)
     told = f" It tells {Spoken.letter(letter)}, which is known {ticks(net.reaction(name))} later." if letter else ""
     lines = [f"{net.told_at(name, 'id')} is executed {'only' + where(label)[1:] if label else 'in every case'}.{told}",
              *(f"It comes {it}." for it in when(groups)), *soonest(groups)]
     lines += [NO_MOMENTS.format(why)] if why else []
+    if name != "Z" and not has_latest:
+        more = instead_of_cases(asked, name, MUCH)
+        lines += more[1:] if why else more
     for head, words in (("It waits for:", tied(net, sides["waits"]) + waits_of(net, name)),
                         ("What waits for it:", tied(net, sides["waited_for"]) + waiting_for(net, name)),
                         ("What is to come some ticks after at most:", tied(net, sides["limits"]))):
@@ -107,18 +126,21 @@ def tell_step(asked: Asked, called: str) -> tuple[int, Data, list[str]]:
 
 
 def tell_float(asked: Asked) -> tuple[int, Data, list[str]]:
-    """When each step comes, and how long it can wait where all before it came as planned."""
-    cases, why = told_cases(asked)
-    if not cases:
+    """When each step comes, and how long it can wait where all before it came as planned. Where that is not told of
+    each case, until when each can wait over all of them."""
+    net, (cases, why, has_latest) = asked.net, told_cases(asked)
+    over_all = {} if has_latest else latest_of_all(asked)
+    if not cases and not over_all:
         return 1, {"answer": "float", "steps": None}, [f"How long each step can wait is not told, since {why}."]
-    lines = ["How long each step can wait, if all before it comes as planned, and what comes after makes up for it:"]
+    lines = [FLOAT] if has_latest else [TOO_MUCH.format("each step", why or MUCH), *([OF_ALL] if over_all else [])]
     steps = []
-    first = {name: min((it.moments[name] for it in cases if name in it.moments), default=0) for name in asked.net.names}
-    for name in sorted(asked.net.names, key=first.__getitem__):
+    for name in net.in_order(first_moments(net, cases)):
         groups = moments_of(cases, name)
-        if name != "Z" and groups:
-            lines.append(f"{shown(name)}: {spread(groups)}")
-            steps.append({"name": name, "moments": groups})
+        if name == "Z" or not groups and name not in over_all:
+            continue
+        until = [f"until {Spoken.moment(over_all[name])}"] if name in over_all else []
+        lines.append(f"{shown(name)}: {'; '.join([*([spread(groups)] if groups else []), *until])}")
+        steps.append({"name": name, "moments": groups, "until": over_all.get(name)})
     return 0, {"answer": "float", "steps": steps}, lines
 
 

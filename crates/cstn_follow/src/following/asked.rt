@@ -5,15 +5,17 @@ ghost use Rattle.cstn_net.specs.Networks.{count};
 ghost use Rattle.cstn_lift.specs.Read.{the_labelled};
 ghost use Rattle.cstn_reply.specs.Texts.{full_line};
 ghost use Rattle.cstn_follow.specs.Answers.{CanAskWaits};
-ghost use Rattle.cstn_follow.specs.Asking.{the_asked};
+ghost use Rattle.cstn_follow.specs.Asking.{the_further_question};
 ghost use Rattle.cstn_follow.specs.Following.{verdict_line, verdict_now};
-ghost use Rattle.cstn_follow.specs.Further.{pause_text, until_answer, joined_text, line_now, lines_now, each_text, each_answer, late_text, late_answer, answer_to};
+ghost use Rattle.cstn_follow.specs.Further.{pause_text, until_answer, joined_text, line_now, lines_now, each_text, each_answer};
+ghost use Rattle.cstn_follow.specs.Further.{late_text, late_answer, raise_text, raise_answer, least_text, least_answer, answer_to_question};
 ghost use Rattle.cstn_follow.specs.Lateness.{the_late};
 ghost use Rattle.cstn_follow.specs.Read.{the_following, session_of};
 
 use super::Following;
-use crate::answers::{Lateness, Pause};
+use crate::answers::{Lateness, LeastDeadline, Pause, Raise};
 use crate::asking::Question;
+use crate::giving::{raise_line, refused_id, vain_line};
 use crate::lists::{by_line, late_line};
 use crate::texts::{number_line, prop_line, refused_fact, too_many, verdict_line, word_line};
 use crate::waits::has_room;
@@ -24,13 +26,15 @@ use std::alloc::AllocError;
 impl Following {
     /// What is said to a further question. Fails for want of memory alone.
     pub fn ask(&self, question: Question) -> Result<Vec<u8>, AllocError>
-        ensures says { IfOk result (λ text. text.items ≡ answer_to (the_following self.now) (the_asked question)) }
+        ensures says { IfOk result (λ text. text.items ≡ answer_to_question (the_following self.now) (the_further_question question)) }
     {
         match question {
             Question::Verdict => self.line_now(),
             Question::Until => self.until(),
             Question::Each => self.by_each(),
             Question::Late { prop } => self.late(prop),
+            Question::Raise { id } => self.raise(id),
+            Question::Least => self.least(),
         }
     }
 
@@ -79,8 +83,51 @@ impl Following {
         }
     }
 
+    /// The line of the least value, in ticks, to which the constraint with this id has to give way, or that none is enough; or the line that
+    /// refuses to tell it, by S2; or the line of the verdict where that isn't no, or the line of a full log where a log that is tried is
+    /// full. Fails for want of memory alone.
+    pub fn raise(&self, id: u32) -> Result<Vec<u8>, AllocError>
+        ensures says { IfOk result (λ text. text.items ≡ raise_answer (the_following self.now) id) }
+    {
+        self.is_in_order();
+        let raise = self.session.raise(id)?;
+        self.raise_line(id, raise)
+    }
+
+    fn raise_line(&self, id: u32, raise: Raise) -> Result<Vec<u8>, AllocError>
+        ensures line { IfOk result (λ text. text.items ≡ raise_text self.now.cap (verdict_now (the_following self.now)) id raise) }
+    {
+        match raise {
+            Raise::To(most) => raise_line(self.alloc, id, most),
+            Raise::Never => vain_line(self.alloc, id),
+            Raise::NoSuch => refused_id(self.alloc, id),
+            Raise::Possible => self.line_now(),
+            Raise::Unknown => self.full_line(),
+        }
+    }
+
+    /// The line of the least deadline, in ticks, that is enough, or that none is; or the line of a full log where that of what is left by
+    /// the deadline 1,000,000 is full. Fails for want of memory alone.
+    pub fn least(&self) -> Result<Vec<u8>, AllocError>
+        ensures says { IfOk result (λ text. text.items ≡ least_answer (the_following self.now)) }
+    {
+        self.is_in_order();
+        let least = self.session.least()?;
+        self.least_line(least)
+    }
+
+    fn least_line(&self, least: LeastDeadline) -> Result<Vec<u8>, AllocError>
+        ensures line { IfOk result (λ text. text.items ≡ least_text self.now.cap least) }
+    {
+        match least {
+            LeastDeadline::At(deadline) => number_line(self.alloc, b"least ", deadline),
+            LeastDeadline::Never => word_line(self.alloc, b"least none"),
+            LeastDeadline::Unknown => self.full_line(),
+        }
+    }
+
     // The line of the verdict on what is left.
-    fn line_now(&self) -> Result<Vec<u8>, AllocError>
+    pub(super) fn line_now(&self) -> Result<Vec<u8>, AllocError>
         ensures line { IfOk result (λ text. text.items ≡ verdict_line self.now.cap (verdict_now (the_following self.now))) }
     {
         verdict_line(self.alloc, self.session.cap(), self.verdict())

@@ -141,8 +141,8 @@ fn accepted(alloc: Global, fresh: u32, change: Change) -> Result<Vec<u8>, AllocE
     bytes_of(alloc, &text)
 }
 
-// The line that refuses a change.
-fn refused(alloc: Global, error: EditError) -> Result<Vec<u8>, AllocError>
+/// The line that refuses a change.
+pub(super) fn refused(alloc: Global, error: EditError) -> Result<Vec<u8>, AllocError>
     ensures line { IfOk result (λ text. text.items ≡ line (refused_text (the_refusal error))) }
 {
     let mut text = AnswerText::new(alloc)?;

@@ -36,20 +36,21 @@ impl Following {
     }
 
     // Counts one line more.
-    fn count_line(&mut self)
+    pub(crate) fn count_line(&mut self)
         ensures counted { self.new ≡ record self.old { lines = (counted (the_following self.old)).lines } }
     {
         self.lines = (self.lines + 1).min(MAX_LINES);
     }
 
     // What is said to a line of the session.
-    fn answer(&mut self, line: Spoken) -> Result<Heard, AllocError>
+    pub(crate) fn answer(&mut self, line: Spoken) -> Result<Heard, AllocError>
         ensures heard { IfOk result (λ heard. on_line (the_following self.old) (Some (the_spoken line)) ≡ the_heard self.new heard) }
         ensures same { OnErr result (self.new ≡ self.old) }
     {
         match line {
             Spoken::Line(line) => self.answer_line(line),
             Spoken::Ask(question) => Ok(Heard::Text(self.ask(question)?)),
+            Spoken::Amend(amendment) => Ok(Heard::Text(self.amend(amendment)?)),
         }
     }
 
@@ -102,7 +103,7 @@ impl Following {
     }
 
     // Says that the line is none of the session.
-    fn other(&self) -> Result<Vec<u8>, AllocError>
+    pub(crate) fn other(&self) -> Result<Vec<u8>, AllocError>
         ensures says { IfOk result (λ text. on_other (the_following self.now) ≡ says text.items (the_following self.now)) }
     {
         number_line(self.alloc, b"refused line ", self.lines)

@@ -17,7 +17,7 @@ ghost use Rattle.cstn_follow.specs.Searches.{on_by, on_blame};
 use super::{Following, Heard};
 use crate::answers::{Latest, Outlook, ToBlame};
 use crate::lists::{blame_line, by_line, next_line};
-use crate::texts::{name_at, refused_fact, too_many, unknown_name, verdict_line, word_line};
+use crate::texts::{name_of_point, refused_fact, too_many, unknown_name, verdict_line, word_line};
 use cstn_check::Verdict;
 use cstn_label::NodeId;
 use cstn_refute::Refutation;
@@ -107,7 +107,7 @@ impl Following {
         for x in 0..self.session.network().base().count() {
             push_name(
                 &mut names,
-                name_at(&self.names, NodeId(x)),
+                name_of_point(&self.names, NodeId(x)),
                 self.is_left(NodeId(x)),
             )?;
         }
@@ -124,7 +124,7 @@ impl Following {
 }
 
 // Puts a name at the end where it is kept. It is a name that isn't there, so it fails for want of memory alone.
-fn push_name(names: &mut Names, name: &str, is_kept: bool) -> Result<(), AllocError>
+pub(super) fn push_name(names: &mut Names, name: &str, is_kept: bool) -> Result<(), AllocError>
     requires few { length names.old ≤ most_time_points }
     ensures { IfOk result (λ _. names.new ≡ names.old ++ (if is_kept then name.now ∷ [] else [])) }
 {

@@ -89,7 +89,12 @@ impl Session {
     }
 
     // Puts this network in the place of that of the session, unless too many constraints are left then.
-    fn replan(&mut self, network: Labelled, fresh: u32, edits: u32) -> Result<Verdict, RestError>
+    pub(super) fn replan(
+        &mut self,
+        network: Labelled,
+        fresh: u32,
+        edits: u32,
+    ) -> Result<Verdict, RestError>
         requires kept { IsKeptFor (the_labelled network) self.old.history }
         requires above { All (λ c. c.id < fresh) (the_labelled network).base.constraints }
         requires few { edits ≤ most_edits }

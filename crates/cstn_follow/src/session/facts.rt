@@ -3,7 +3,7 @@ ghost use Rattle.std.specs.Prelude.{◌≡◌, Ok, Err, IfOk, IfErr};
 ghost use Rattle.cstn_lift.specs.Read.{the_labelled};
 ghost use Rattle.cstn_history.specs.Facts.{told_refusal, expected_refusal, now_refusal, at_now, with_told, with_expected};
 ghost use Rattle.cstn_history.specs.Read.{the_history, IsKeptFor, the_fact_refusal};
-ghost use Rattle.cstn_follow.specs.FactLines.{all_done, unless_refused};
+ghost use Rattle.cstn_follow.specs.FactLines.{all_done, unless_fact_refused};
 ghost use Rattle.cstn_follow.specs.Sessions.{IsRightNow, Records, unrecorded};
 
 use super::Session;
@@ -32,7 +32,7 @@ impl Session {
     /// moment now. Else as `did`, but for the refusals: the first that applies of `OutOfRange` for a moment above 1,000,000,
     /// `NotObserved`, `Told`, `OutOfRange` for a moment before its observer was done, and `TooManyConstraints`.
     pub fn saw(&mut self, moment: u32, p: Prop, value: bool) -> Result<Verdict, FollowError>
-        ensures recorded { Records (unless_refused (told_refusal (the_labelled self.old.network) (the_history self.old.history) moment p.index)
+        ensures recorded { Records (unless_fact_refused (told_refusal (the_labelled self.old.network) (the_history self.old.history) moment p.index)
             (Ok (with_told (the_history self.old.history) moment p.index value))) self.old self.new result }
         ensures right { IfOk result (IsRightNow self.new) }
     {
@@ -46,7 +46,7 @@ impl Session {
     /// Records that it is this moment, in ticks, and that nothing else has happened. Else as `did`, but for the refusals: the first that
     /// applies of `Past`, `OutOfRange` and `TooManyConstraints`.
     pub fn now(&mut self, moment: u32) -> Result<Verdict, FollowError>
-        ensures recorded { Records (unless_refused (now_refusal (the_history self.old.history) moment) (Ok (at_now (the_history self.old.history) moment)))
+        ensures recorded { Records (unless_fact_refused (now_refusal (the_history self.old.history) moment) (Ok (at_now (the_history self.old.history) moment)))
             self.old self.new result }
         ensures right { IfOk result (IsRightNow self.new) }
     {
@@ -60,7 +60,7 @@ impl Session {
     /// Records that the outcome of a proposition is expected at this moment, in ticks, and not before. Else as `did`, but for the
     /// refusals: the first that applies of `NotObserved`, `Told`, `OutOfRange` and `TooManyConstraints`.
     pub fn expect(&mut self, moment: u32, p: Prop) -> Result<Verdict, FollowError>
-        ensures recorded { Records (unless_refused (expected_refusal (the_labelled self.old.network) (the_history self.old.history) moment p.index)
+        ensures recorded { Records (unless_fact_refused (expected_refusal (the_labelled self.old.network) (the_history self.old.history) moment p.index)
             (Ok (with_expected (the_history self.old.history) moment p.index))) self.old self.new result }
         ensures right { IfOk result (IsRightNow self.new) }
     {

@@ -18,7 +18,8 @@ impl Session {
     /// it, such that what has happened can go on when the outcome is expected at it, whatever was expected of it before. Refused with
     /// `NotObserved` and `Told`. Takes up to 21 checks. Fails for want of memory alone.
     pub fn late(&self, p: Prop) -> Result<Lateness, AllocError>
-        ensures right { IfOk result (λ l. IsRightLate (the_labelled self.now.network) (the_history self.now.history) p.index (the_late l)) }
+        ensures right { IfOk result (λ l. IsRightLate (the_labelled self.now.network) (the_history self.now.history)
+            self.now.fresh self.now.cap p.index (the_late l)) }
         ensures told { IfOk result (λ l. the_late l
             ≡ late_of (the_labelled self.now.network) (the_history self.now.history) self.now.fresh self.now.cap p.index self.now.verdict) }
     {

@@ -15,7 +15,7 @@ impl Session {
     /// Until when nothing at all may happen: the greatest moment from now on, up to 1,000,000, such that what has happened can go on
     /// when time has passed up to it. Takes up to 20 checks. Fails for want of memory alone.
     pub fn until(&self) -> Result<Pause, AllocError>
-        ensures right { IfOk result (IsRightPause (the_labelled self.now.network) (the_history self.now.history)) }
+        ensures right { IfOk result (IsRightPause (the_labelled self.now.network) (the_history self.now.history) self.now.fresh self.now.cap) }
         ensures told { IfOk result (λ p. p
             ≡ pause_of (the_labelled self.now.network) (the_history self.now.history) self.now.fresh self.now.cap self.now.verdict) }
     {

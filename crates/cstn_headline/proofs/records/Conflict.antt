@@ -4,24 +4,22 @@ use Rattle.std.specs.Prelude.{◌⊎◌, Option, None, Some}
 use Rattle.cstn_net.specs.Limits.{most_load}
 use Rattle.cstn_net.specs.Networks.{Network}
 use Rattle.cstn_reply.specs.Texts.{Said}
-use Rattle.cstn_top.specs.Plans.{IsOutput}
-use Rattle.cstn_top.specs.commands.Conflict.{blamed}
 use Rattle.cstn_conflict.specs.Conflicts.{conflict_set, IsConflictFull}
-use Rattle.cstn_conflict.specs.Texts.{blamed_by, blamed_after_no}
+use Rattle.cstn_conflict.specs.Texts.{blamed, blamed_by, blamed_after_no}
 use Rattle.cstn_check.specs.Decisions.{verdict, IsYes, IsNo}
 use Rattle.cstn_check.specs.declared.verdicts.Verdict.{Verdict}
 use Rattle.cstn_top.proofs.Documents.{IsOfDocument}
 use Rattle.cstn_check.specs.declared.verdicts.Verdict.TheVariants.{Yes, No, Full as IsFullVerdict}
 use Rattle.cstn_check.proofs.Deciding.{Tells as VerdictTells, verdict_tells}
 use Rattle.cstn_reply.specs.declared.output.Outcome.TheVariants.{Good, Bad, Full}
-use Rattle.cstn_headline.specs.Telling.{Tells}
+use Rattle.cstn_headline.specs.Telling.{OutcomeTells}
 use Rattle.cstn_headline.specs.commands.Conflict.{IsBlamed, IsConflictText, conflict_telling}
 use Rattle.cstn_headline.proofs.EvidenceLemmas.{conflict_well}
 use Rattle.cstn_headline.proofs.Standing.{YesAccepted, NoAccepted, conflict_stands}
 use Rattle.cstn_headline.proofs.Telling.{verdict_told}
 
-pub conflict_tells : YesAccepted → NoAccepted → (cap : ℕ) → cap ≤ most_load → (live : List ℕ) (said : Said) (names : List (List ℕ)) (net : Network) → IsOfDocument names net → IsOutput (blamed cap names net) live said → Tells (conflict_telling cap said.text names net) said.outcome
-conflict_tells yes_text no_text cap capped live said names net of output =
+pub conflict_tells : YesAccepted → NoAccepted → (cap : ℕ) → cap ≤ most_load → (said : Said) (names : List (List ℕ)) (net : Network) → IsOfDocument names net → said ≡ blamed cap names net → OutcomeTells (conflict_telling cap said.text names net) said.outcome
+conflict_tells yes_text no_text cap capped said names net of output =
     verdict_told (IsYes cap net) (IsNo cap net × IsBlamed cap names net said.text) (IsConflictFull cap net) said.outcome (by_verdict (verdict cap net) (verdict_tells cap net of.good) output)
   where
     Cases : Type 0

@@ -8,38 +8,39 @@ use Rattle.cstn_check.specs.Growth.{load_of}
 use Rattle.cstn_check.specs.declared.verdicts.Verdict.{Verdict}
 use Rattle.cstn_lines.specs.Pieces.{heard_lines}
 use Rattle.cstn_reply.specs.Texts.{Said, say}
-use Rattle.cstn_top.specs.Plans.{IsOutput}
-use Rattle.cstn_top.specs.commands.Follow.{followed, follow_turn, follow_opening}
-use Rattle.cstn_follow.specs.Following.{following_ending, Following, begun, left_now, verdict_now, is_any_open, outcome_by}
+use Rattle.cstn_top.specs.commands.Follow.{follow_answer, marked_turn, follow_opening}
+use Rattle.cstn_follow.specs.Following.{begun_following, left_now, verdict_now, is_any_open, outcome_by}
+use Rattle.cstn_follow.specs.Marks.{Marked, begun_marked, marked_ending}
 use Rattle.cstn_reply.specs.Sessions.{play}
 use Rattle.cstn_save.specs.Canonical.{canonical}
 use Rattle.cstn_check.specs.declared.verdicts.Verdict.TheVariants.{Yes, No, Full as IsFullVerdict}
 use Rattle.cstn_history.specs.Continuations.{Can}
-use Rattle.cstn_follow.specs.Turns.{IsTrueOf}
-use Rattle.cstn_follow.proofs.States.{begun_sound, lines_sound, verdict_true}
+use Rattle.cstn_follow.specs.Turns.{IsTrueOfSession}
+use Rattle.cstn_follow.proofs.MarkedStates.{marked_sound}
+use Rattle.cstn_follow.proofs.States.{verdict_true}
 use Rattle.cstn_reply.specs.Reached.{state_after}
 use Rattle.cstn_reply.specs.declared.output.Outcome.{Outcome}
 use Rattle.cstn_reply.specs.declared.output.Outcome.TheVariants.{Good, Bad, Full, Unfinished, Script}
-use Rattle.cstn_top.specs.Lines.{StopsAtLine}
+use Rattle.cstn_top.specs.Lines.{StopsUnread}
 use Rattle.cstn_top.proofs.Labels.{IsOfLabelled}
 use Rattle.cstn_top.proofs.Played.{stops_at, Played, all_answered, one_last, one_stops, played}
 use Rattle.cstn_top.proofs.Turns.{follow_answers}
-use Rattle.cstn_headline.specs.Telling.{Telling, Tells}
+use Rattle.cstn_headline.specs.Telling.{Telling, OutcomeTells}
 use Rattle.cstn_headline.specs.Sessions.{EndsIn}
-use Rattle.cstn_headline.specs.commands.Follow.{IsOver, WroteFollowing, follow_telling}
+use Rattle.cstn_headline.specs.commands.Follow.{IsFollowingOver, WroteFollowing, follow_telling}
 use Rattle.cstn_headline.proofs.Sessions.{wrote}
 
-pub follow_tells : (cap : ℕ) (told : Option (List ℕ)) (live : List ℕ) (said : Said) → IsAllOf told live → (names : List (List ℕ)) (m : Labelled) → IsOfLabelled names m → IsOutput (followed cap names m) live said → Tells (follow_telling cap told said.text names m) said.outcome
-follow_tells cap told live said all names m of output = by_played (played follow_turn following_ending (λ text. ⊥) (λ outcome. ⊥) follow_answers start 0 lines)
+pub follow_tells : (cap : ℕ) (told : Option (List ℕ)) (live : List ℕ) (said : Said) → IsAllOf told live → (names : List (List ℕ)) (m : Labelled) → IsOfLabelled names m → (follow_answer cap names m).output live said → OutcomeTells (follow_telling cap told said.text names m) said.outcome
+follow_tells cap told live said all names m of output = by_played (played marked_turn marked_ending (λ text. ⊥) (λ outcome. ⊥) follow_answers start 0 lines)
   where
-    start : Following
-    start = begun cap names m
+    start : Marked
+    start = begun_marked cap names m
 
     lines : List (List ℕ)
     lines = heard_lines true live
 
     end : Said
-    end = play follow_turn following_ending start 0 lines
+    end = play marked_turn marked_ending start 0 lines
 
     outcome_is : said.outcome ≡ end.outcome
     outcome_is = ap (λ (s : Said). s.outcome) output
@@ -47,26 +48,27 @@ follow_tells cap told live said all names m of output = by_played (played follow
     telling : Telling
     telling = follow_telling cap told said.text names m
 
-    as_outcome : (o : Outcome) → said.outcome ≡ o → Tells telling o → Tells telling said.outcome
-    as_outcome o is tells = subst (Tells telling) (sym is) tells
+    as_outcome : (o : Outcome) → said.outcome ≡ o → OutcomeTells telling o → OutcomeTells telling said.outcome
+    as_outcome o is tells = subst (OutcomeTells telling) (sym is) tells
 
     wrote_lines : (OfLines : List (List ℕ) → Type 0) → OfLines lines → WroteFollowing cap told said.text names m OfLines
-    wrote_lines OfLines has = wrote true follow_turn following_ending (follow_opening start) start told live said OfLines all output has
+    wrote_lines OfLines has = wrote true marked_turn marked_ending (follow_opening start.now) start told live said OfLines all output has
 
-    at_verdict : (reached : Following) → state_after follow_turn start 0 lines ≡ Some reached → is_any_open reached ≡ false → (v : Verdict) → said.outcome ≡ outcome_by v → IsTrueOf reached v → Tells telling said.outcome
-    at_verdict reached leads over (Yes load) is true_of = as_outcome Good is (wrote_lines (IsOver cap names m (λ s. Can s.network s.history)) (reached, leads, (over, true_of)))
-    at_verdict reached leads over (No load) is true_of = as_outcome Bad is (wrote_lines (IsOver cap names m (λ s. Can s.network s.history → ⊥)) (reached, leads, (over, true_of)))
-    at_verdict reached leads over IsFullVerdict is true_of = as_outcome Full is (wrote_lines (IsOver cap names m (λ s. s.cap < load_of (lowered (left_now s)))) (reached, leads, (over, true_of)))
+    at_verdict : (reached : Marked) → state_after marked_turn start 0 lines ≡ Some reached → is_any_open reached.now ≡ false → (v : Verdict) → said.outcome ≡ outcome_by v → IsTrueOfSession reached.now v → OutcomeTells telling said.outcome
+    at_verdict reached leads over (Yes load) is true_of = as_outcome Good is (wrote_lines (IsFollowingOver cap names m (λ s. Can s.network s.history)) (reached, leads, (over, true_of)))
+    at_verdict reached leads over (No load) is true_of = as_outcome Bad is (wrote_lines (IsFollowingOver cap names m (λ s. Can s.network s.history → ⊥)) (reached, leads, (over, true_of)))
+    at_verdict reached leads over IsFullVerdict is true_of = as_outcome Full is (wrote_lines (IsFollowingOver cap names m (λ s. s.cap < load_of (lowered (left_now s)))) (reached, leads, (over, true_of)))
 
-    at_end : (reached : Following) → state_after follow_turn start 0 lines ≡ Some reached → (some_open : Bool) → is_any_open reached ≡ some_open →
-        said.outcome ≡ (if some_open then say Unfinished (codes "unfinished " ++ decimal reached.history.now) else say (outcome_by (verdict_now reached)) (codes "done")).outcome → Tells telling said.outcome
-    at_end reached leads true open_ is = as_outcome Unfinished is (wrote_lines (EndsIn follow_turn start (λ s. is_any_open s ≡ true)) (reached, leads, open_))
+    at_end : (reached : Marked) → state_after marked_turn start 0 lines ≡ Some reached → (some_open : Bool) → is_any_open reached.now ≡ some_open →
+        said.outcome ≡ (if some_open then say Unfinished (codes "unfinished " ++ decimal reached.now.history.now) else say (outcome_by (verdict_now reached.now)) (codes "done")).outcome → OutcomeTells telling said.outcome
+    at_end reached leads true open_ is = as_outcome Unfinished is (wrote_lines (EndsIn marked_turn start (λ t. is_any_open t.now ≡ true)) (reached, leads, open_))
     at_end reached leads false over is =
-        at_verdict reached leads over (verdict_now reached) is
-        (verdict_true reached (verdict_now reached) (lines_sound canonical start reached 0 lines (begun_sound cap names m of.labelled of.plain.good.few_constraints of.plain.named) leads) refl)
+        at_verdict reached leads over (verdict_now reached.now) is
+        (verdict_true reached.now (verdict_now reached.now)
+        (marked_sound canonical cap names m reached lines of.labelled of.plain.good.few_constraints of.plain.named leads).now refl)
 
-    by_played : Played follow_turn following_ending (λ text. ⊥) (λ outcome. ⊥) start 0 lines end → Tells telling said.outcome
-    by_played (all_answered reached leads same) = at_end reached leads (is_any_open reached) refl (outcome_is ∙ ap (λ (s : Said). s.outcome) same)
+    by_played : Played marked_turn marked_ending (λ text. ⊥) (λ outcome. ⊥) start 0 lines end → OutcomeTells telling said.outcome
+    by_played (all_answered reached leads same) = at_end reached leads (is_any_open reached.now) refl (outcome_is ∙ ap (λ (s : Said). s.outcome) same)
     by_played (one_last never) = absurd never
     by_played (one_stops at stops) =
-        as_outcome Script (outcome_is ∙ at) (wrote_lines (λ ls. StopsAtLine follow_turn start (λ line. ⊥) ls (play follow_turn following_ending start 0 ls).text) (stops_at follow_turn start (λ line. ⊥) lines end.text stops))
+        as_outcome Script (outcome_is ∙ at) (wrote_lines (λ ls. StopsUnread marked_turn start (λ line. ⊥) ls (play marked_turn marked_ending start 0 ls).text) (stops_at marked_turn start (λ line. ⊥) lines end.text stops))

@@ -13,8 +13,8 @@ use Rattle.cstn_text.specs.PrintedNames.{printed_name}
 use Rattle.cstn_lines.specs.Pieces.{lines_of}
 use Rattle.cstn_lines.specs.LiveLines.{live_read}
 use Rattle.cstn_reply.specs.Texts.{Said, yes_line}
-use Rattle.cstn_top.specs.Plans.{IsOutput, session}
-use Rattle.cstn_top.specs.commands.Run.{carried_out, run_bounds}
+use Rattle.cstn_top.specs.Plans.{session}
+use Rattle.cstn_top.specs.commands.Run.{run_answer, run_bounds}
 use Rattle.cstn_run.specs.Meanings.{said_to, IsCarriedThrough, EndsUnfinished}
 use Rattle.cstn_run.specs.Sessions.{guide_turn, guide_ending}
 use Rattle.cstn_exec.specs.Runs.{due}
@@ -26,12 +26,12 @@ use Rattle.cstn_exec.specs.Guides.{Guided, begun}
 use Rattle.cstn_reply.specs.Reached.{state_after}
 use Rattle.cstn_reply.specs.declared.output.Outcome.{Outcome}
 use Rattle.cstn_reply.specs.declared.output.Outcome.TheVariants.{Good, Bad, Full, Unfinished, Script}
-use Rattle.cstn_top.specs.Lines.{AreAnswered, StopsAtLine}
+use Rattle.cstn_top.specs.Lines.{AreAnswered, StopsUnread}
 use Rattle.cstn_top.specs.Verdicts.{IsLabelledYes}
 use Rattle.cstn_top.proofs.Labels.{IsOfLabelled}
 use Rattle.cstn_top.proofs.Played.{stops_at, Played, all_answered, one_last, one_stops, played}
 use Rattle.cstn_top.proofs.Turns.{guide_answers}
-use Rattle.cstn_headline.specs.Telling.{Telling, Tells}
+use Rattle.cstn_headline.specs.Telling.{Telling, OutcomeTells}
 use Rattle.cstn_headline.specs.commands.Run.{AnswersLeast, WroteRun, run_telling}
 use Rattle.cstn_headline.proofs.Standing.{NoAccepted}
 use Rattle.cstn_headline.proofs.Telling.{LabelledJudged, labelled_judged}
@@ -72,11 +72,11 @@ module _ (cap : ℕ) (told : Option (List ℕ)) (live : List ℕ) (said : Said) 
   abbrev pub telling : Telling
   telling = run_telling cap told said.text names m
 
-  as_outcome : (o : Outcome) → said.outcome ≡ o → Tells telling o → Tells telling said.outcome
-  as_outcome o is tells = subst (Tells telling) (sym is) tells
+  as_outcome : (o : Outcome) → said.outcome ≡ o → OutcomeTells telling o → OutcomeTells telling said.outcome
+  as_outcome o is tells = subst (OutcomeTells telling) (sym is) tells
 
   -- the session after yes
-  module _ (yes' : IsLabelledYes cap m) (output : IsOutput (session (guide_turn printed m (run_bounds m)) (guide_ending m (run_bounds m)) (yes_line (load_of (lowered m))) (begun (count m.base))) live said) where
+  module _ (yes' : IsLabelledYes cap m) (output : (session (guide_turn printed m (run_bounds m)) (guide_ending m (run_bounds m)) (yes_line (load_of (lowered m))) (begun (count m.base))).output live said) where
     plan : IsPlanned m (run_bounds m)
     plan = yes_planned cap names m of yes'
 
@@ -89,33 +89,33 @@ module _ (cap : ℕ) (told : Option (List ℕ)) (live : List ℕ) (said : Said) 
     wrote_run : (OfLines : List (List ℕ) → Type 0) → OfLines lines → WroteRun told said.text printed m OfLines
     wrote_run OfLines has = wrote false (guide_turn printed m (run_bounds m)) (guide_ending m (run_bounds m)) (yes_line (load_of (lowered m))) (begun (count m.base)) told live said OfLines all output has
 
-    ends_well : end.outcome ≡ Good → Tells telling said.outcome
+    ends_well : end.outcome ≡ Good → OutcomeTells telling said.outcome
     ends_well good = as_outcome Good (outcome_is ∙ good) (yes', wrote_run (IsCarriedThrough printed m (run_bounds m)) (carried_through printed m (run_bounds m) plan lines good))
 
-    by_due : (reached : Guided) → state_after (guide_turn printed m (run_bounds m)) (begun (count m.base)) 0 lines ≡ Some reached → (o : Option ℕ) → end.outcome ≡ (unfinished o).outcome → Tells telling said.outcome
+    by_due : (reached : Guided) → state_after (guide_turn printed m (run_bounds m)) (begun (count m.base)) 0 lines ≡ Some reached → (o : Option ℕ) → end.outcome ≡ (unfinished o).outcome → OutcomeTells telling said.outcome
     by_due reached leads None is = ends_well is
     by_due reached leads (Some t) is =
         as_outcome Unfinished (outcome_is ∙ is)
         (yes', wrote_run (λ ls. AreAnswered (guide_turn printed m (run_bounds m)) (begun (count m.base)) ls × EndsUnfinished printed m (run_bounds m) ls) ((reached, leads), ends_unfinished printed m (run_bounds m) plan lines is))
 
-    by_played : Played (guide_turn printed m (run_bounds m)) (guide_ending m (run_bounds m)) (λ text. live_read text ≡ None) (λ outcome. outcome ≡ Good) (begun (count m.base)) 0 lines end → Tells telling said.outcome
+    by_played : Played (guide_turn printed m (run_bounds m)) (guide_ending m (run_bounds m)) (λ text. live_read text ≡ None) (λ outcome. outcome ≡ Good) (begun (count m.base)) 0 lines end → OutcomeTells telling said.outcome
     by_played (all_answered reached leads same) = by_due reached leads (due (lowered m) (run_bounds m) reached.run) (ap (λ (s : Said). s.outcome) same)
     by_played (one_last good) = ends_well good
     by_played (one_stops at stops) =
         as_outcome Script (outcome_is ∙ at) (
           yes',
-          wrote_run (λ ls. StopsAtLine (guide_turn printed m (run_bounds m)) (begun (count m.base)) (λ line. live_read line ≡ None) ls (said_to printed m (run_bounds m) ls).text)
+          wrote_run (λ ls. StopsUnread (guide_turn printed m (run_bounds m)) (begun (count m.base)) (λ line. live_read line ≡ None) ls (said_to printed m (run_bounds m) ls).text)
               (stops_at (guide_turn printed m (run_bounds m)) (begun (count m.base)) (λ line. live_read line ≡ None) lines end.text stops),
         )
 
-    after_yes : Tells telling said.outcome
+    after_yes : OutcomeTells telling said.outcome
     after_yes = by_played (played (guide_turn printed m (run_bounds m)) (guide_ending m (run_bounds m)) (λ text. live_read text ≡ None) (λ outcome. outcome ≡ Good) (guide_answers printed m (run_bounds m)) (begun (count m.base)) 0 lines)
 
-  by_judged : LabelledJudged cap names m (IsOutput (session (guide_turn printed m (run_bounds m)) (guide_ending m (run_bounds m)) (yes_line (load_of (lowered m))) (begun (count m.base))) live said) said → Tells telling said.outcome
+  by_judged : LabelledJudged cap names m ((session (guide_turn printed m (run_bounds m)) (guide_ending m (run_bounds m)) (yes_line (load_of (lowered m))) (begun (count m.base))).output live said) said → OutcomeTells telling said.outcome
   by_judged (inl is) = after_yes is.0 is.1
   by_judged (inr (inl is)) = as_outcome Bad is.0 is.1
   by_judged (inr (inr is)) = as_outcome Full is.0 is.1
 
-  pub run_tells : NoAccepted → cap ≤ most_load → IsOutput (carried_out cap names m) live said → Tells telling said.outcome
+  pub run_tells : NoAccepted → cap ≤ most_load → (run_answer cap names m).output live said → OutcomeTells telling said.outcome
   run_tells no_text capped output =
       by_judged (labelled_judged no_text cap names m (session (guide_turn printed m (run_bounds m)) (guide_ending m (run_bounds m)) (yes_line (load_of (lowered m))) (begun (count m.base))) live said of capped output)

@@ -6,7 +6,7 @@ use Rattle.cstn_check.specs.Growth.{load_of}
 use Rattle.cstn_lines.specs.EditLines.{edit_read}
 use Rattle.cstn_reply.specs.Sessions.{play}
 use Rattle.cstn_edit.specs.Editing.{begun_editing, edit_turn, edit_ending, last_checked}
-use Rattle.cstn_top.specs.Lines.{AreAnswered, StopsAtLine}
+use Rattle.cstn_top.specs.Lines.{AreAnswered, StopsUnread}
 use Rattle.cstn_headline.specs.Telling.{Telling}
 use Rattle.cstn_headline.specs.Sessions.{Wrote}
 
@@ -27,6 +27,6 @@ edit_telling cap live text names net = record {
   full = WroteEdits cap live text names net (AtLastCheck cap names net (λ last. IsSomeAnd last (λ edited. cap < load_of edited)));
   unfinished = ⊥;
   script = WroteEdits cap live text names net
-      (λ lines. StopsAtLine edit_turn (begun_editing cap names net) (λ line. edit_read line ≡ None) lines (play edit_turn edit_ending (begun_editing cap names net) 0 lines).text);
+      (λ lines. StopsUnread edit_turn (begun_editing cap names net) (λ line. edit_read line ≡ None) lines (play edit_turn edit_ending (begun_editing cap names net) 0 lines).text);
   wide = ⊥;
 }

@@ -10,9 +10,9 @@ use Rattle.cstn_reply.specs.Sessions.{play, answers}
 use Rattle.cstn_reply.specs.Texts.{line}
 use Rattle.cstn_reply.specs.declared.output.Outcome.{Outcome}
 use Rattle.cstn_reply.specs.declared.output.Outcome.TheVariants.{Document}
-use Rattle.cstn_top.specs.Lines.{StopsAtLine}
+use Rattle.cstn_top.specs.Lines.{StopsUnread}
 use Rattle.cstn_top.specs.commands.Host.{EachHas, FirstHas, FirstRefused}
-use Rattle.cstn_headline.specs.Telling.{Tells, Telling}
+use Rattle.cstn_headline.specs.Telling.{OutcomeTells, Telling}
 use Rattle.cstn_headline.specs.Accepted.{IsNoText}
 use Rattle.cstn_headline.specs.Sessions.{Wrote, EndsIn}
 
@@ -24,8 +24,8 @@ AreNetworks (bytes ∷ rest) deadline [] = ⊥
 AreNetworks (bytes ∷ rest) deadline (named ∷ all) = HasNetwork bytes deadline (λ names net. (names ≡ named.names) × (net ≡ named.net)) × AreNetworks rest deadline all
 
 -- nothing is due in any open plan
-abbrev pub IsAllDone : HostSession → Type 0
-IsAllDone session = (id : ℕ) → id < 64 → due_in session.files (case_of session id) ≡ None
+abbrev pub ArePlansDone : HostSession → Type 0
+ArePlansDone session = (id : ℕ) → id < 64 → due_in session.files (case_of session id) ≡ None
 
 -- something is due in an open plan: this is the least id of one, and the due moment
 pub record IsLeftOver (session : HostSession) (id due : ℕ) : Type 0 where
@@ -52,14 +52,14 @@ pub record WroteHost (cap : ℕ) (deadline : Option ℕ) (contents : List (List 
 -- too long or too late. Or the first network whose verdict isn't yes has no strategy, or its log has more than `cap` entries.
 abbrev pub host_telling : ℕ → Option ℕ → List (List ℕ) → Option (List ℕ) → List ℕ → Telling
 host_telling cap deadline contents live text = record {
-  good = WroteHost cap deadline contents live text (λ start. EndsIn host_turn start IsAllDone);
+  good = WroteHost cap deadline contents live text (λ start. EndsIn host_turn start ArePlansDone);
   bad = FirstHas contents deadline cap (λ names net. IsNo cap net × IsNoText names net text);
   full = FirstHas contents deadline cap (λ names net. cap < load_of net);
   unfinished = WroteHost cap deadline contents live text EndsLeftOver;
-  script = WroteHost cap deadline contents live text (λ start lines. StopsAtLine host_turn start (λ line'. host_read line' ≡ None) lines (play host_turn host_ending start 0 lines).text);
+  script = WroteHost cap deadline contents live text (λ start lines. StopsUnread host_turn start (λ line'. host_read line' ≡ None) lines (play host_turn host_ending start 0 lines).text);
   wide = ⊥;
 }
 
 -- a document is refused, and those of the files before it are not; or this is told
 abbrev pub HostTells : ℕ → Option ℕ → Outcome → Option (List ℕ) → List ℕ → List (List ℕ) → Type 0
-HostTells cap deadline outcome live text contents = ((outcome ≡ Document) × FirstRefused contents deadline) ⊎ Tells (host_telling cap deadline contents live text) outcome
+HostTells cap deadline outcome live text contents = ((outcome ≡ Document) × FirstRefused contents deadline) ⊎ OutcomeTells (host_telling cap deadline contents live text) outcome

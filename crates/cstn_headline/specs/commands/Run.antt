@@ -13,7 +13,7 @@ use Rattle.cstn_reply.specs.Texts.{yes_line}
 use Rattle.cstn_run.specs.Sessions.{guide_turn, guide_ending}
 use Rattle.cstn_run.specs.Meanings.{GuidesTo, GuideNamesLeast, GuideTellsDue, AcceptsExactly, SeesExactly, IsTimely, said_to, IsCarriedThrough, EndsUnfinished}
 use Rattle.cstn_headline.specs.Verdicts.{IsLabelledNo}
-use Rattle.cstn_top.specs.Lines.{AreAnswered, StopsAtLine}
+use Rattle.cstn_top.specs.Lines.{AreAnswered, StopsUnread}
 use Rattle.cstn_top.specs.Verdicts.{IsLabelledYes}
 use Rattle.cstn_top.specs.commands.Run.{run_bounds}
 use Rattle.cstn_headline.specs.Accepted.{IsNoText}
@@ -47,6 +47,6 @@ run_telling cap live text names m = record {
   unfinished = IsLabelledYes cap m
       × WroteRun live text (map printed_name names) m (λ lines. AreAnswered (guide_turn (map printed_name names) m (run_bounds m)) (begun (count m.base)) lines × EndsUnfinished (map printed_name names) m (run_bounds m) lines);
   script = IsLabelledYes cap m
-      × WroteRun live text (map printed_name names) m (λ lines. StopsAtLine (guide_turn (map printed_name names) m (run_bounds m)) (begun (count m.base)) (λ line. live_read line ≡ None) lines (said_to (map printed_name names) m (run_bounds m) lines).text);
+      × WroteRun live text (map printed_name names) m (λ lines. StopsUnread (guide_turn (map printed_name names) m (run_bounds m)) (begun (count m.base)) (λ line. live_read line ≡ None) lines (said_to (map printed_name names) m (run_bounds m) lines).text);
   wide = ⊥;
 }

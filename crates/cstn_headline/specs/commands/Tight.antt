@@ -5,7 +5,7 @@ use Rattle.cstn_lift.specs.Lowered.{lowered}
 use Rattle.cstn_check.specs.Growth.{load_of}
 use Rattle.cstn_tight.specs.Deadlines.{at_deadline, IsLeastDeadline, least_deadline}
 use Rattle.cstn_reply.specs.Texts.{line}
-use Rattle.cstn_headline.specs.Verdicts.{IsListed, IsRefutedByLog, IsLabelledNo}
+use Rattle.cstn_headline.specs.Verdicts.{HasListedBounds, IsRefutedByLog, IsLabelledNo}
 use Rattle.cstn_top.specs.Verdicts.{IsLabelledYes}
 use Rattle.cstn_lift.specs.Labelled.{Labelled}
 use Rattle.cstn_headline.specs.Accepted.{IsYesText, IsNoText}
@@ -15,7 +15,7 @@ use Rattle.cstn_headline.specs.Telling.{Telling, by_verdict}
 -- refutation
 pub record IsTight (net : Network) (h : ℕ) : Type 0 where
   pub least : IsLeastDeadline net h
-  pub bounds : IsListed (at_deadline net h)
+  pub bounds : HasListedBounds (at_deadline net h)
   pub refuted : (h ≡ 0) ⊎ IsRefutedByLog (at_deadline net (h - 1))
 
 -- a least deadline, a text of bounds that is accepted at it, and a text that refutes the network one tick below, unless the

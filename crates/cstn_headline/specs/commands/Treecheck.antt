@@ -3,9 +3,9 @@ use Rattle.std.specs.Prelude.{◌≡◌, ℕ, List, Some, ◌≤◌, ◌<◌, le
 use Rattle.cstn_net.specs.Networks.{Network}
 use Rattle.cstn_net.specs.Strategies.{IsStrategy}
 use Rattle.cstn_tree.specs.Good.{first_broken, IsUnbroken}
-use Rattle.cstn_tree.specs.Read.{the_tree}
-use Rattle.cstn_tree.specs.Texts.{Told, tells, wrong, told as told_tree}
-use Rattle.cstn_tree.specs.Trees.{table_of}
+use Rattle.cstn_outline.specs.Read.{the_tree}
+use Rattle.cstn_outline.specs.Texts.{Told, tells, wrong, told as told_tree}
+use Rattle.cstn_outline.specs.Trees.{table_of}
 use Rattle.cstn_text.specs.Limits.{most_text}
 use Rattle.cstn_headline.specs.Telling.{Telling, by_check}
 

@@ -37,10 +37,10 @@ small_line counts =
     line (codes "small 64 yes " ++ decimal counts.yes ++ codes " no " ++ decimal counts.no ++ codes " differ " ++ decimal counts.differ)
 
 -- the text of a verdict, where the log may have `cap` entries
-abbrev pub verdict_text : ℕ → Verdict → List ℕ
-verdict_text cap (Yes load) = codes "yes " ++ decimal load
-verdict_text cap (No load) = codes "no " ++ decimal load
-verdict_text cap Full = codes "full " ++ decimal cap
+abbrev pub large_verdict_text : ℕ → Verdict → List ℕ
+large_verdict_text cap (Yes load) = codes "yes " ++ decimal load
+large_verdict_text cap (No load) = codes "no " ++ decimal load
+large_verdict_text cap Full = codes "full " ++ decimal cap
 
 -- the cap of the large network
 abbrev pub large_cap : ℕ
@@ -48,7 +48,7 @@ large_cap = 16384
 
 -- the line of the large network
 abbrev pub large_line : Verdict → List ℕ
-large_line v = line (codes "large 48 " ++ verdict_text large_cap v)
+large_line v = line (codes "large 48 " ++ large_verdict_text large_cap v)
 
 -- what the drill of a number says: the counts of 64 small networks, and the verdict on the large one
 abbrev pub drilled : ℕ → Said

@@ -2,8 +2,8 @@
 use Rattle.std.specs.Prelude.{ℕ, []}
 use Rattle.cstn_edit.specs.Editing.{begun_editing, edit_turn, edit_wants, edit_ending}
 use Rattle.cstn_top.specs.Plans.{wanting_session}
-use Rattle.cstn_top.specs.Answers.{Answer}
+use Rattle.cstn_top.specs.Answers.{NetworkAnswer}
 
 -- what `edit` says of a network: the answers to the edit lines
-abbrev pub edited : ℕ → Answer
-edited cap names net = wanting_session edit_wants edit_turn edit_ending [] (begun_editing cap names net)
+abbrev pub edit_answer : ℕ → NetworkAnswer
+edit_answer cap names net = wanting_session edit_wants edit_turn edit_ending [] (begun_editing cap names net)

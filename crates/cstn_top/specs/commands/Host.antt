@@ -6,7 +6,7 @@ use Rattle.cstn_run.specs.hosted.Sessions.{begun, host_turn, host_wants, host_en
 use Rattle.cstn_run.specs.hosted.Files.{Named, the_file, yes_lines}
 use Rattle.cstn_request.specs.Documents.{HasNetwork, IsRefused}
 use Rattle.cstn_top.specs.Plans.{Plan, wanting_session}
-use Rattle.cstn_top.specs.Answers.{on_document, on_verdict}
+use Rattle.cstn_top.specs.Answers.{on_document, plan_on_verdict}
 
 -- what is said of files with these contents, whose documents are read one after another: the refusal of the first document that
 -- is refused, or `answer` of all networks
@@ -18,7 +18,7 @@ on_documents answer deadline before (bytes ∷ rest) =
 -- what is said of networks that are checked one after another: the first verdict that isn't yes, or `after_yes`
 abbrev pub on_verdicts : ℕ → Plan → List Named → Plan
 on_verdicts cap after_yes [] = after_yes
-on_verdicts cap after_yes (named ∷ rest) = on_verdict cap named.names named.net (on_verdicts cap after_yes rest) (verdict cap named.net)
+on_verdicts cap after_yes (named ∷ rest) = plan_on_verdict cap named.names named.net (on_verdicts cap after_yes rest) (verdict cap named.net)
 
 -- what is said of networks: where each verdict is yes, these lines and then the answers to the host lines
 abbrev pub attended : ℕ → List Named → Plan

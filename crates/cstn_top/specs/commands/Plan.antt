@@ -9,8 +9,9 @@ use Rattle.cstn_reply.specs.declared.output.Outcome.TheVariants.{Document}
 use Rattle.cstn_sentences.specs.declared.errors.PlanError.{PlanError}
 use Rattle.cstn_sentences.specs.declared.errors.PlanError.TheVariants.{Long, Wrong, Range, Twice, NoName, NoLetter, NoDeadline, Net, Lift, Memory}
 use Rattle.cstn_sentences.specs.Plans.{plan}
-use Rattle.cstn_sentences.specs.Refusals.{Refusal, too_long, wrong_word, out_of_range, stands_twice, no_name, no_letter, no_deadline}
-use Rattle.cstn_top.specs.Plans.{Plan, says, judges, a_plan}
+use Rattle.cstn_sentences.specs.Refusals.{PlanRefusal, too_long, wrong_word, out_of_range, stands_twice, no_name, no_letter, no_deadline}
+use Rattle.cstn_top.specs.Plans.{Plan, says}
+use Rattle.cstn_top.specs.Answers.{judges, a_plan}
 use Rattle.cstn_top.specs.commands.Save.{saved}
 
 -- why a plan is refused at a line
@@ -18,7 +19,7 @@ abbrev pub at_line : ℕ → List ℕ → List ℕ
 at_line n what = codes "line " ++ decimal n ++ what
 
 -- why a plan is refused by its lines; texts stand in the printed form of names
-abbrev pub refusal_why : Refusal → List ℕ
+abbrev pub refusal_why : PlanRefusal → List ℕ
 refusal_why too_long = codes "long"
 refusal_why (wrong_word n word) = at_line n (codes " word " ++ decimal word)
 refusal_why (out_of_range n) = at_line n (codes " range")
@@ -45,9 +46,9 @@ abbrev pub IsPlanTold : PlanError → Said → Type 0
 IsPlanTold error said = (why : List ℕ) × IsWhy error why × (said ≡ say Document (codes "plan " ++ why))
 
 -- what is said of the parts of a plan: the canonical document of their labelled network; or why the plan is refused
-abbrev pub planned_of : Result Parts Refusal → Plan
+abbrev pub planned_of : Result Parts PlanRefusal → Plan
 planned_of (Err refusal) = says (say Document (codes "plan " ++ refusal_why refusal))
-planned_of (Ok parts) = judges a_plan parts (saved parts.names (labelled_of parts))
+planned_of (Ok parts) = judges a_plan parts (says (saved parts.names (labelled_of parts)))
 
 -- what `plan` says of a file with these bytes
 abbrev pub planned : List ℕ → Option ℕ → Plan

@@ -11,12 +11,12 @@ use Rattle.cstn_exec.specs.Guides.{begun}
 use Rattle.cstn_reply.specs.Texts.{yes_line}
 use Rattle.cstn_run.specs.Sessions.{guide_turn, guide_ending}
 use Rattle.cstn_top.specs.Plans.{session}
-use Rattle.cstn_top.specs.Answers.{LabelledAnswer, on_verdict}
+use Rattle.cstn_top.specs.Answers.{LabelledAnswer, plan_on_verdict}
 
 -- what `run` says of a labelled network: after yes the answers to the live lines, by the bounds of the live entries of its log
-abbrev pub carried_out : ℕ → LabelledAnswer
-carried_out cap names m =
-    on_verdict cap names (lowered m)
+abbrev pub run_answer : ℕ → LabelledAnswer
+run_answer cap names m =
+    plan_on_verdict cap names (lowered m)
     (session (guide_turn (map printed_name names) m (live_bounds (log_of (lowered m)))) (guide_ending m (live_bounds (log_of (lowered m))))
     (yes_line (load_of (lowered m))) (begun (count m.base)))
     (verdict cap (lowered m))

@@ -1,19 +1,19 @@
 // What is answered to a question. Nothing is read here.
-ghost use Rattle.std.specs.Prelude.{ℕ, ◌≡◌, ◌≤◌, ◌<◌, ◌^◌, List, length, IfOk};
+ghost use Rattle.std.specs.Prelude.{◌≡◌, ◌≤◌, ◌<◌, ◌^◌, length, IfOk};
 ghost use Rattle.std.specs.List.{All};
 ghost use Rattle.cstn_net.specs.Networks.{Constraint};
 ghost use Rattle.cstn_net.specs.Read.{the_network};
 ghost use Rattle.cstn_text.specs.Limits.{most_text};
 ghost use Rattle.cstn_lift.specs.Read.{the_labelled};
 ghost use Rattle.cstn_request.specs.Requests.{network_labels};
-ghost use Rattle.cstn_request.specs.Opened.{AreNamesOf};
+ghost use Rattle.cstn_request.specs.Opened.{AreDocumentNames};
 ghost use Rattle.cstn_reply.specs.Read.{the_said};
-ghost use Rattle.cstn_top.specs.Plans.{says, IsOutput, ComesTo};
-ghost use Rattle.cstn_top.specs.Answers.{by_text};
-ghost use Rattle.cstn_top.specs.Dispatch.{network_answer, network_kind, labelled_answer, labelled_kind, text_answer, document_answer};
-ghost use Rattle.cstn_top.specs.Begun.{IsSound};
+ghost use Rattle.cstn_top.specs.Plans.{ComesTo};
+ghost use Rattle.cstn_top.specs.Answers.{IsByText};
+ghost use Rattle.cstn_top.specs.Dispatch.{network_answer, network_kind, labelled_answer, labelled_kind, IsVerbText, document_said};
+ghost use Rattle.cstn_request.specs.Several.{IsSoundNetwork};
 ghost use Rattle.cstn_top.specs.Prepared.{the_plan, FitsKind};
-ghost use Rattle.cstn_top.specs.Questions.{the_question, HasSmallIds, IsSoundQuestion, kind_of};
+ghost use Rattle.cstn_top.specs.Questions.{the_question, HasSmallIds, IsSoundQuestion, question_kind};
 
 use super::Prepared;
 use super::closed::closed_text;
@@ -44,7 +44,7 @@ use std::alloc::{AllocError, Global};
 pub(crate) fn answer(alloc: Global, question: Question) -> Result<Prepared, AllocError>
     requires sound { IsSoundQuestion question }
     ensures comes { IfOk result (λ prepared. ComesTo (the_question question) (the_plan prepared)) }
-    ensures fits { IfOk result (FitsKind (kind_of question)) }
+    ensures fits { IfOk result (FitsKind (question_kind question)) }
 {
     match question {
         Question::OfNetwork {
@@ -92,7 +92,7 @@ fn answer_network(
     document: NamedNetwork,
     cap: Cap,
 ) -> Result<Prepared, AllocError>
-    requires sound { IsSound document }
+    requires sound { IsSoundNetwork document }
     requires small { HasSmallIds (network_labels verb) document }
     ensures comes { IfOk result (λ prepared. ComesTo (network_answer verb cap.entries document.names (the_network document.network)) (the_plan prepared)) }
     ensures fits { IfOk result (FitsKind (network_kind verb)) }
@@ -132,7 +132,7 @@ fn answer_labelled(
     document: NamedLabelled,
     cap: Cap,
 ) -> Result<Prepared, AllocError>
-    requires names { AreNamesOf document.names (the_network document.labelled.base) }
+    requires names { AreDocumentNames document.names (the_network document.labelled.base) }
     requires ids { All (λ (c : Constraint). c.id < 2 ^ 31) (the_labelled document.labelled).base.constraints }
     ensures comes { IfOk result (λ prepared. ComesTo (labelled_answer verb cap.entries document.names (the_labelled document.labelled)) (the_plan prepared)) }
     ensures fits { IfOk result (FitsKind (labelled_kind verb)) }
@@ -150,10 +150,9 @@ fn check_against(
     document: &NamedNetwork,
     text: &[u8],
 ) -> Result<Said, AllocError>
-    requires sound { IsSound document.now }
+    requires sound { IsSoundNetwork document.now }
     requires short { length text.now ≤ most_text }
-    ensures said { IfOk result (λ said. (live : List ℕ)
-        → IsOutput (by_text (text_answer verb) text.now document.now.names (the_network document.now.network)) live (the_said said)) }
+    ensures said { IfOk result (λ said. IsByText (IsVerbText verb document.now.names text.now (the_network document.now.network)) text.now (the_said said)) }
 {
     match verb {
         TextVerb::Replay => replay_text(alloc, &document.network, &document.names, text),
@@ -168,8 +167,8 @@ fn document_text(
     verb: DocumentVerb,
     document: &NamedLabelled,
 ) -> Result<Said, AllocError>
-    requires names { AreNamesOf document.now.names (the_network document.now.labelled.base) }
-    ensures said { IfOk result (λ said. says (the_said said) ≡ document_answer verb document.now.names (the_labelled document.now.labelled)) }
+    requires names { AreDocumentNames document.now.names (the_network document.now.labelled.base) }
+    ensures said { IfOk result (λ said. the_said said ≡ document_said verb document.now.names (the_labelled document.now.labelled)) }
 {
     match verb {
         DocumentVerb::Save => save_text(alloc, &document.labelled, &document.names),

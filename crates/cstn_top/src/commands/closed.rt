@@ -7,7 +7,6 @@ ghost use Rattle.cstn_check.specs.Growth.{load_of};
 ghost use Rattle.cstn_check.specs.declared.verdicts.Verdict.TheVariants.{Yes};
 ghost use Rattle.cstn_reply.specs.Read.{the_said};
 ghost use Rattle.cstn_top.specs.commands.Closed.{listed, bounds_said};
-ghost use Rattle.cstn_top.specs.Plans.{says};
 
 use cstn_check::{Check, Judged, growth_is_bounded, judge, live_bounds_are_in_range};
 use cstn_closed::Closed;
@@ -27,7 +26,7 @@ pub(crate) fn closed_text(
 ) -> Result<Said, AllocError>
     requires well_formed { IsWellFormed (the_network network) }
     requires named { length names.now ≡ count (the_network network) }
-    ensures said { IfOk result (λ said. says (the_said said) ≡ listed cap.entries names.now (the_network network)) }
+    ensures said { IfOk result (λ said. the_said said ≡ listed cap.entries names.now (the_network network)) }
 {
     growth_is_bounded();
     match judge(alloc, network, names, cap)? {

@@ -3,18 +3,20 @@ ghost use Rattle.std.specs.Prelude.{ℕ, List, ◌≡◌, ◌<◌, ◌^◌, ◌+
 ghost use Rattle.std.specs.List.{All};
 ghost use Rattle.cstn_net.specs.Networks.{count};
 ghost use Rattle.cstn_lift.specs.Read.{the_labelled};
-ghost use Rattle.cstn_follow.specs.Following.{Following as FollowingState, following_ending, verdict_line};
-ghost use Rattle.cstn_follow.specs.Read.{the_following, IsSaidFor};
+ghost use Rattle.cstn_follow.specs.Following.{verdict_line};
+ghost use Rattle.cstn_follow.specs.Marks.{Marked as MarkedState, marked_ending};
+ghost use Rattle.cstn_follow.specs.MarkedRead.{the_marked};
+ghost use Rattle.cstn_follow.specs.Read.{IsSaidFor};
 ghost use Rattle.cstn_reply.specs.Texts.{line};
 ghost use Rattle.cstn_reply.specs.Written.{EndsLine};
 ghost use Rattle.cstn_top.specs.Plans.{ComesTo};
 ghost use Rattle.cstn_top.specs.Prepared.{the_plan, FitsKind};
 ghost use Rattle.cstn_top.specs.Kinds.{a_follow};
-ghost use Rattle.cstn_top.specs.commands.Follow.{heard_text, follow_turn, followed};
+ghost use Rattle.cstn_top.specs.commands.Follow.{heard_text, marked_turn, follow_answer};
 
 use super::Prepared;
 use cstn_check::Verdict;
-use cstn_follow::{Following, Heard, read_spoken};
+use cstn_follow::{Heard, Marked, read_saying};
 use cstn_lift::Labelled;
 use cstn_log::Cap;
 use cstn_reply::{Answer, AnswerText, Outcome, Talk};
@@ -27,28 +29,28 @@ use std::marker::Model;
 #[derive(Drop)]
 pub(crate) struct Follower {
     alloc: Global,
-    following: Following,
+    marked: Marked,
 }
 
 impl Model for Follower {
     ghost use Rattle.std.specs.Prelude.{◌≡◌, slice_get, Some, codes};
-    ghost use Rattle.cstn_follow.specs.Read.{FollowingParts};
+    ghost use Rattle.cstn_follow.specs.MarkedRead.{MarkedParts};
 
-    ghost Value = { FollowingParts };
+    ghost Value = { MarkedParts };
 
-    ghost view = { λ f. f.following };
+    ghost view = { λ f. f.marked };
 
-    ghost invariant = { λ f. slice_get f.following.names 0 ≡ Some (codes "Z") };
+    ghost invariant = { λ f. slice_get f.marked.now.names 0 ≡ Some (codes "Z") };
 }
 
 impl Talk for Follower {
-    ghost State = { FollowingState };
+    ghost State = { MarkedState };
 
-    ghost state = { the_following };
+    ghost state = { the_marked };
 
-    ghost turn = { follow_turn };
+    ghost turn = { marked_turn };
 
-    ghost ending = { following_ending };
+    ghost ending = { marked_ending };
 
     ghost ends = { true };
 
@@ -59,14 +61,14 @@ impl Talk for Follower {
     }
 
     fn answer(&mut self, line: &[u8], text: &mut AnswerText) -> Result<Answer, AllocError> {
-        let said = read_spoken(self.alloc, line)?;
-        let heard = self.following.hear(said)?;
+        let said = read_saying(self.alloc, line)?;
+        let heard = self.marked.hear(said)?;
         put_heard(self.alloc, heard, text)?;
         Ok(Answer::More)
     }
 
     fn ending(&self, text: &mut AnswerText) -> Outcome {
-        self.following.ending(text)
+        self.marked.ending(text)
     }
 }
 
@@ -98,14 +100,14 @@ pub(crate) fn follow_session(
     requires named { length names ≡ count (the_labelled labelled).base }
     requires origin { slice_get names 0 ≡ Some (codes "Z") }
     requires ids { All (λ c. c.id < 2 ^ 31) (the_labelled labelled).base.constraints }
-    ensures comes { IfOk result (λ prepared. ComesTo (followed cap.entries names (the_labelled labelled)) (the_plan prepared)) }
+    ensures comes { IfOk result (λ prepared. ComesTo (follow_answer cap.entries names (the_labelled labelled)) (the_plan prepared)) }
     ensures fits { IfOk result (FitsKind a_follow) }
 {
-    let following = Following::start(alloc, labelled, names, cap)?;
-    let opening = opening(alloc, following.verdict(), cap.entries)?;
+    let marked = Marked::start(alloc, labelled, names, cap)?;
+    let opening = opening(alloc, marked.verdict(), cap.entries)?;
     Ok(Prepared::Follows {
         opening,
-        session: Follower { alloc, following },
+        session: Follower { alloc, marked },
     })
 }
 

@@ -9,7 +9,8 @@ ghost use Rattle.cstn_reply.specs.Texts.{yes_line};
 ghost use Rattle.cstn_exec.specs.Running.{AreShort};
 ghost use Rattle.cstn_run.specs.hosted.SessionRead.{the_names, IsHostSession};
 ghost use Rattle.cstn_request.specs.Limits.{most_files};
-ghost use Rattle.cstn_top.specs.Begun.{the_named, IsSound, IsBegin};
+ghost use Rattle.cstn_top.specs.Begun.{the_named, IsBegin};
+ghost use Rattle.cstn_request.specs.Several.{IsSoundNetwork};
 ghost use Rattle.cstn_top.specs.commands.Host.{attended};
 ghost use Rattle.cstn_top.specs.Plans.{ComesTo};
 ghost use Rattle.cstn_top.specs.Prepared.{the_plan, FitsKind};
@@ -67,7 +68,7 @@ pub(crate) fn host_session(
 ) -> Result<Prepared, AllocError>
     requires some_documents { 1 ≤ length documents.items }
     requires few_documents { length documents.items ≤ most_files }
-    requires sound { All IsSound documents.items }
+    requires sound { All IsSoundNetwork documents.items }
     ensures comes { IfOk result (λ prepared. ComesTo (attended cap.entries (map the_named documents.items)) (the_plan prepared)) }
     ensures fits { IfOk result (FitsKind a_host) }
 {

@@ -2,7 +2,6 @@
 ghost use Rattle.std.specs.Prelude.{ℕ, List, ◌≡◌, ◌++◌, IfOk, codes, decimal};
 ghost use Rattle.cstn_text.specs.PrintedNames.{printed_name};
 ghost use Rattle.cstn_reply.specs.Read.{the_said};
-ghost use Rattle.cstn_top.specs.Plans.{IsOutput};
 ghost use Rattle.cstn_top.specs.commands.Plan.{at_line, planned, IsPlanTold, IsWhy};
 
 use super::save::save_text;
@@ -17,7 +16,7 @@ pub(crate) fn plan_text(
     text: &[u8],
     deadline: Option<u32>,
 ) -> Result<Said, AllocError>
-    ensures said { IfOk result (λ said. (live : List ℕ) → IsOutput (planned text.now deadline) live (the_said said)) }
+    ensures said { IfOk result (λ said. (live : List ℕ) → (planned text.now deadline).output live (the_said said)) }
 {
     match read(alloc, text, deadline) {
         Ok((labelled, names)) => save_text(alloc, &labelled, &names),

@@ -6,16 +6,15 @@ ghost use Rattle.cstn_io.specs.Asked.{and_names};
 ghost use Rattle.cstn_reply.specs.declared.output.Said.{Said as SaidText};
 ghost use Rattle.cstn_request.specs.Requests.{files_of};
 ghost use Rattle.cstn_request.specs.Read.{the_request};
-ghost use Rattle.cstn_top.specs.Questions.{Asks, MayRefuse, IsOfPlan, TellsInstead, IsSoundQuestion, kind_of};
-ghost use Rattle.cstn_top.specs.Dispatch.{kind_at};
-ghost use Rattle.cstn_top.specs.Meanings.{AskedFirst};
+ghost use Rattle.cstn_top.specs.Questions.{Asks, MayRefuse, IsOfPlan, TellsInstead, IsSoundQuestion, question_kind};
+ghost use Rattle.cstn_top.specs.Dispatch.{request_kind};
+ghost use Rattle.cstn_request.specs.Asked.{AskedFirst};
 
-use super::several::open_all;
 use cstn_io::Shelf;
 use cstn_log::Cap;
 use cstn_request::{
     DocumentVerb, LabelledVerb, NamedLabelled, NamedNetwork, NetworkVerb, Release, Request,
-    TextVerb, Unread, open_labelled, open_network, read_sentences, read_text,
+    TextVerb, Unread, open_all, open_labelled, open_network, read_sentences, read_text,
 };
 use std::alloc::Global;
 
@@ -64,7 +63,7 @@ pub(crate) fn ask<F: Shelf>(
     requires may_ask { IsTrue (list_all (F.may_ask shelf.old) (files_of (the_request request))) }
     ensures asks { IfOk result (Asks (the_request request.entry) (F.files shelf.old)) }
     ensures sound { IfOk result IsSoundQuestion }
-    ensures kind { IfOk result (λ question. kind_of question ≡ kind_at (the_request request.entry)) }
+    ensures kind { IfOk result (λ question. question_kind question ≡ request_kind (the_request request.entry)) }
     ensures refused { (said : SaidText) → result ≡ Err (Unread.Told said) → TellsInstead (the_request request.entry) (F.files shelf.old) (F.asked shelf.old)
         (F.asked shelf.new) said }
     ensures accepted { IfOk result (λ question. MayRefuse question → IsOfPlan (the_request request.entry)) }

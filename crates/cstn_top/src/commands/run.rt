@@ -11,7 +11,7 @@ ghost use Rattle.cstn_check.specs.declared.verdicts.Verdict.TheVariants.{Yes};
 ghost use Rattle.cstn_top.specs.Plans.{ComesTo};
 ghost use Rattle.cstn_top.specs.Prepared.{the_plan, FitsKind};
 ghost use Rattle.cstn_top.specs.Kinds.{a_run};
-ghost use Rattle.cstn_top.specs.commands.Run.{carried_out};
+ghost use Rattle.cstn_top.specs.commands.Run.{run_answer};
 
 use super::Prepared;
 use cstn_check::{Check, Judged, judge, yes_line};
@@ -31,7 +31,7 @@ pub(crate) fn run_session(
     cap: Cap,
 ) -> Result<Prepared, AllocError>
     requires named { length names.now ≡ count (the_network labelled.base) }
-    ensures comes { IfOk result (λ prepared. ComesTo (carried_out cap.entries names.now (the_labelled labelled)) (the_plan prepared)) }
+    ensures comes { IfOk result (λ prepared. ComesTo (run_answer cap.entries names.now (the_labelled labelled)) (the_plan prepared)) }
     ensures fits { IfOk result (FitsKind a_run) }
 {
     let (network, labels) = labelled.split();
@@ -56,7 +56,7 @@ fn begin(
     requires load { load ≡ load_of (the_network check.net) }
     requires named { length names.now ≡ count (the_network labels.base) }
     requires few { length names.now ≤ most_time_points }
-    ensures comes { IfOk result (λ prepared. ComesTo (carried_out cap.entries names.now (the_labelled labels)) (the_plan prepared)) }
+    ensures comes { IfOk result (λ prepared. ComesTo (run_answer cap.entries names.now (the_labelled labels)) (the_plan prepared)) }
     ensures fits { IfOk result (FitsKind a_run) }
 {
     let opening = yes_line(alloc, load)?;

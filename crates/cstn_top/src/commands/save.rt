@@ -5,7 +5,6 @@ ghost use Rattle.cstn_net.specs.Read.{the_network};
 ghost use Rattle.cstn_lift.specs.Read.{the_labelled};
 ghost use Rattle.cstn_reply.specs.Read.{the_said};
 ghost use Rattle.cstn_top.specs.commands.Save.{saved};
-ghost use Rattle.cstn_top.specs.Plans.{says};
 
 use cstn_lift::Labelled;
 use cstn_reply::{Outcome, Said};
@@ -21,7 +20,7 @@ pub(crate) fn save_text(
 ) -> Result<Said, AllocError>
     requires named { length names.now ≡ count (the_network labelled.now.base) }
     requires origin { slice_get names.now 0 ≡ Some (codes "Z") }
-    ensures said { IfOk result (λ said. says (the_said said) ≡ saved names.now (the_labelled labelled.now)) }
+    ensures said { IfOk result (λ said. the_said said ≡ saved names.now (the_labelled labelled.now)) }
 {
     let text = write(alloc, labelled, names)?;
     Ok(Said {

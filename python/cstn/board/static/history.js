@@ -29,6 +29,7 @@ const TAGS = { yes: "fits", no: "no", full: "not known" };
 function tag(entry) {
   if (entry.standing === "waits") return h("p", {}, h("span", { class: "tag due" }, "waits"), ` ${entry.why}`);
   if (entry.standing === "fell") return h("p", {}, h("span", { class: "tag late" }, "not taken"), ` ${entry.why}`);
+  if (entry.standing === "known") return h("span", { class: "tag" }, "told before");
   return entry.verdict && h("span", { class: `tag ${entry.verdict}` }, TAGS[entry.verdict]);
 }
 

@@ -1,6 +1,7 @@
-use Rattle.cstn_headline.proofs.OneOutput.{OneJudgement, one_output}
+use Rattle.cstn_headline.proofs.OneOutput.{OneJudgement}
 use Rattle.cstn_headline.proofs.SomeOutput.{TreesMade}
-use Rattle.cstn_headline.proofs.Dispatch.{Laws, has_some}
+use Rattle.cstn_headline.proofs.Verbs.{Laws}
+use Rattle.cstn_headline.proofs.Dispatch.{has_some, one_output}
 use Rattle.cstn_headline.proofs.laws.outputs_are_one.Goals as goal
 
 pub returns : goal.returns

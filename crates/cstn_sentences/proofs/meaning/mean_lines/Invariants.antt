@@ -1,6 +1,6 @@
 use Rattle.std.proofs.Common.{◌≡◌, ◌+◌, ◌≤◌, length}
 use Rattle.cstn_text.specs.Parts.{parts_at}
-use Rattle.cstn_sentences.specs.Words.{lines_of, cut_lines}
+use Rattle.cstn_sentences.specs.Words.{plan_lines, cut_lines}
 use Rattle.cstn_sentences.specs.Meaning.{meant_after, nothing_meant}
 use Rattle.cstn_sentences.specs.SeenDeclared.{the_declared}
 use Rattle.cstn_sentences.specs.SeenMeaning.{the_meaning}
@@ -8,7 +8,7 @@ use Rattle.cstn_sentences.proofs.meaning.mean_lines.Given as goal
 
 abbrev pub invariant-loop-line : goal.invariant-loop-line
 invariant-loop-line l =
-    (meant_after 1 (the_declared l.fn.d) nothing_meant (lines_of l.fn.text)
+    (meant_after 1 (the_declared l.fn.d) nothing_meant (plan_lines l.fn.text)
     ≡ meant_after l.n (the_declared l.fn.d) (the_meaning l.m) (cut_lines (parts_at 10 l.left)))
     × (l.n + length l.left ≤ 8388609)
 

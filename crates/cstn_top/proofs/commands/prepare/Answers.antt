@@ -1,7 +1,7 @@
 use Rattle.std.proofs.Common.{ap, sym, subst}
 use Rattle.std.specs.Prelude.{Err}
 use Rattle.cstn_request.specs.Read.{the_request}
-use Rattle.cstn_top.specs.Kinds.{Kind}
+use Rattle.cstn_top.specs.Kinds.{AnswerKind}
 use Rattle.cstn_top.specs.Prepared.{the_plan, FitsKind}
 use Rattle.cstn_top.specs.Questions.{the_question}
 use Rattle.cstn_top.proofs.Asking.{enough_all, instead_of}
@@ -12,7 +12,7 @@ pub returns-in_ok-answer-in-Ok-clause-plan : goal.returns-in_ok-answer-in-Ok-cla
 returns-in_ok-answer-in-Ok-clause-plan g c = planned_by (the_request c.args.request) (g.F.Shelf.files c.args.shelf.now) c.in-Ok.question c.in_ok-answer-in-Ok.field-0 c.in-Ok.ensures.asks c.in_ok-answer-in-Ok.ensures.comes
 
 pub returns-in_ok-answer-in-Ok-clause-fits : goal.returns-in_ok-answer-in-Ok-clause-fits
-returns-in_ok-answer-in-Ok-clause-fits g c = subst (λ (k : Kind). FitsKind k c.in_ok-answer-in-Ok.field-0) c.in-Ok.ensures.kind c.in_ok-answer-in-Ok.ensures.fits
+returns-in_ok-answer-in-Ok-clause-fits g c = subst (λ (k : AnswerKind). FitsKind k c.in_ok-answer-in-Ok.field-0) c.in-Ok.ensures.kind c.in_ok-answer-in-Ok.ensures.fits
 
 pub returns-in_ok-answer-in-Ok-clause-refused : goal.returns-in_ok-answer-in-Ok-clause-refused
 returns-in_ok-answer-in-Ok-clause-refused g c =

@@ -67,4 +67,4 @@ returns-in-Ok-clause-read_fault g c = λ is.
 
 pub returns-in-Ok-clause-memory : goal.returns-in-Ok-clause-memory
 returns-in-Ok-clause-memory g c = λ is.
-    memory_is _ (the_request c.in-Some.request) (g.F.Shelf.files c.args.shelf.now) (g.S.Source.left c.args.live.now) _ _ c.in-Some.ensures.request c.in-Ok.ensures.plan (c.speak.ensures.memory is)
+    memory_is _ (the_request c.in-Some.request) (g.F.Shelf.files c.args.shelf.now) (g.S.Source.left c.args.live.now) c.in-Ok.prepared _ c.in-Some.ensures.request c.in-Ok.ensures.plan (c.speak.ensures.memory is)

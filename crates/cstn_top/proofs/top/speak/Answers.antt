@@ -1,13 +1,13 @@
-use Rattle.std.specs.Prelude.{List, ℕ, Bool, false}
+use Rattle.std.specs.Prelude.{List, ℕ, false}
 use Rattle.cstn_reply.specs.Written.{LiveState, view}
 use Rattle.cstn_reply.specs.Read.{the_said}
 use Rattle.cstn_run.specs.hosted.Sessions.{host_turn, host_wants, host_ending}
 use Rattle.cstn_run.specs.hosted.SessionRead.{the_host_session}
-use Rattle.cstn_follow.specs.Following.{following_ending}
-use Rattle.cstn_follow.specs.Read.{the_following}
+use Rattle.cstn_follow.specs.Marks.{marked_ending}
+use Rattle.cstn_follow.specs.MarkedRead.{the_marked}
 use Rattle.cstn_run.specs.Sessions.{guided_turn, guided_ending}
 use Rattle.cstn_top.specs.declared.commands.Prepared.TheVariants.{Says, Runs, Edits, Follows, Hosts}
-use Rattle.cstn_top.specs.commands.Follow.{follow_turn}
+use Rattle.cstn_top.specs.commands.Follow.{marked_turn}
 use Rattle.cstn_top.proofs.Endings.{text_end, opened_ends, opened_ended, ends_as, opened_stops, ended_stops, stops_as}
 use Rattle.cstn_top.proofs.top.speak.Goals as goal
 
@@ -28,7 +28,7 @@ returns-in-Edits-clause-ends g c = ends_as _ (Edits c.in-Edits.session) _ _ _ _ 
 pub returns-in-Follows-clause-ends : goal.returns-in-Follows-clause-ends
 returns-in-Follows-clause-ends g c =
     ends_as _ (Follows c.in-Follows.opening c.in-Follows.session) _ _ _ _ _ c.in-Follows.is
-    (opened_ended follow_turn following_ending (the_following c.in-Follows.session) _ _ _ _ _ _ _ c.deref-in-Follows.ensures.value c.converse-in-Follows.ensures.ends)
+    (opened_ended marked_turn marked_ending (the_marked c.in-Follows.session) _ _ _ _ _ _ _ c.deref-in-Follows.ensures.value c.converse-in-Follows.ensures.ends)
 
 pub returns-in-Hosts-clause-ends : goal.returns-in-Hosts-clause-ends
 returns-in-Hosts-clause-ends g c =
@@ -46,7 +46,7 @@ returns-in-Edits-clause-memory g c is = stops_as _ _ (Edits c.in-Edits.session) 
 pub returns-in-Follows-clause-memory : goal.returns-in-Follows-clause-memory
 returns-in-Follows-clause-memory g c is =
     stops_as _ _ (Follows c.in-Follows.opening c.in-Follows.session) _ c.in-Follows.is
-    (ended_stops follow_turn following_ending (the_following c.in-Follows.session) _ _ _ _ c.deref-in-Follows.ensures.value (c.converse-in-Follows.ensures.memory is))
+    (ended_stops marked_turn marked_ending (the_marked c.in-Follows.session) _ _ _ _ c.deref-in-Follows.ensures.value (c.converse-in-Follows.ensures.memory is))
 
 pub returns-in-Hosts-clause-memory : goal.returns-in-Hosts-clause-memory
 returns-in-Hosts-clause-memory g c is =

@@ -1,7 +1,7 @@
 use Rattle.std.proofs.Common.{◌∙◌}
 use Rattle.cstn_net.specs.Read.{the_network}
-use Rattle.cstn_tree.specs.Trees.{table_of}
-use Rattle.cstn_tree.specs.Read.{the_tree}
+use Rattle.cstn_outline.specs.Trees.{table_of}
+use Rattle.cstn_outline.specs.Read.{the_tree}
 use Rattle.cstn_tree.proofs.Checks.{finds, accepts, accepted_strategy}
 use Rattle.cstn_tree.proofs.checking.check.Goals as goal
 

@@ -1,6 +1,6 @@
 use Rattle.cstn_net.specs.Networks.{count}
 use Rattle.cstn_net.specs.Read.{the_network}
-use Rattle.cstn_tree.proofs.Checks.{names_inside}
+use Rattle.cstn_outline.proofs.PrintLemmas.{names_inside}
 use Rattle.cstn_tree.proofs.checking.first_broken.Goals as goal
 
 pub step-requires-clause-inside : goal.step-requires-clause-inside

@@ -3,7 +3,7 @@ use Rattle.cstn_net.specs.Networks.{count}
 use Rattle.cstn_net.specs.Read.{the_network}
 use Rattle.cstn_tree.specs.Good.{start}
 use Rattle.cstn_tree.specs.Walks.{first_broken_in}
-use Rattle.cstn_tree.specs.Read.{the_line}
+use Rattle.cstn_outline.specs.Read.{the_line}
 use Rattle.cstn_tree.specs.Branches.{the_branches, IsWalkOf}
 use Rattle.cstn_tree.proofs.checking.first_broken.Given as goal
 

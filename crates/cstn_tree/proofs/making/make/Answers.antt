@@ -7,11 +7,11 @@ use Rattle.cstn_net.specs.Strategies.{IsLeast}
 use Rattle.cstn_net.specs.Read.{the_network}
 use Rattle.cstn_plan.specs.Plans.{the_bounds}
 use Rattle.cstn_exec.specs.Read.{ExecParts}
-use Rattle.cstn_tree.specs.Trees.{IsAmong, table_of}
+use Rattle.cstn_outline.specs.Trees.{IsAmong, table_of}
 use Rattle.cstn_tree.specs.Good.{IsUnbroken}
 use Rattle.cstn_tree.specs.Made.{IsTreeOf}
-use Rattle.cstn_tree.specs.Written.{FitsText}
-use Rattle.cstn_tree.specs.Read.{the_tree}
+use Rattle.cstn_outline.specs.Written.{FitsText}
+use Rattle.cstn_outline.specs.Read.{the_tree}
 use Rattle.cstn_tree.proofs.MadeTrees.{made_good, made_least, made_among, made_fits}
 use Rattle.cstn_tree.proofs.making.make.Goals as goal
 

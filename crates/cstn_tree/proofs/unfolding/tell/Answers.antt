@@ -5,8 +5,8 @@ use Rattle.cstn_net.specs.Read.{NetworkParts, the_network}
 use Rattle.cstn_plan.specs.Plans.{the_bounds}
 use Rattle.cstn_check.specs.Growth.{log_of, live_bounds}
 use Rattle.cstn_exec.specs.Read.{ExecParts}
-use Rattle.cstn_tree.specs.Read.{the_tree}
-use Rattle.cstn_tree.specs.Texts.{told}
+use Rattle.cstn_outline.specs.Read.{the_tree}
+use Rattle.cstn_outline.specs.Texts.{told}
 use Rattle.cstn_tree.proofs.SayingTrees.{IsMade, tree_said}
 use Rattle.cstn_tree.proofs.unfolding.tell.Goals as goal
 

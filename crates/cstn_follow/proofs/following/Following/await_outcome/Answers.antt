@@ -6,7 +6,7 @@ use Rattle.cstn_lift.specs.Read.{LabelledParts, the_labelled}
 use Rattle.cstn_history.specs.Facts.{FactRefusal, expected_refusal, with_expected}
 use Rattle.cstn_history.specs.Histories.{History}
 use Rattle.cstn_history.specs.Read.{the_history}
-use Rattle.cstn_follow.specs.FactLines.{unless_refused, on_await}
+use Rattle.cstn_follow.specs.FactLines.{unless_fact_refused, on_await}
 use Rattle.cstn_follow.specs.Following.{says}
 use Rattle.cstn_follow.specs.Read.{FollowingParts, following_of, the_following}
 use Rattle.cstn_follow.specs.Sessions.{SessionParts}
@@ -14,7 +14,7 @@ use Rattle.cstn_follow.proofs.Lines.{facts_said, records_network, refused_same}
 use Rattle.cstn_follow.proofs.following.Following.await_outcome.Goals as goal
 
 abbrev told : SessionParts → ℕ → ℕ → Result History FactRefusal
-told s t p = unless_refused (expected_refusal (the_labelled s.network) (the_history s.history) t p) (Ok (with_expected (the_history s.history) t p))
+told s t p = unless_fact_refused (expected_refusal (the_labelled s.network) (the_history s.history) t p) (Ok (with_expected (the_history s.history) t p))
 
 pub invariant_of-self : goal.invariant_of-self
 invariant_of-self c =

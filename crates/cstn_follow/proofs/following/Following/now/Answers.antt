@@ -6,7 +6,7 @@ use Rattle.cstn_lift.specs.Read.{LabelledParts, the_labelled}
 use Rattle.cstn_history.specs.Facts.{FactRefusal, now_refusal, at_now}
 use Rattle.cstn_history.specs.Histories.{History}
 use Rattle.cstn_history.specs.Read.{the_history}
-use Rattle.cstn_follow.specs.FactLines.{unless_refused, on_now}
+use Rattle.cstn_follow.specs.FactLines.{unless_fact_refused, on_now}
 use Rattle.cstn_follow.specs.Following.{says}
 use Rattle.cstn_follow.specs.Read.{FollowingParts, following_of, the_following}
 use Rattle.cstn_follow.specs.Sessions.{SessionParts}
@@ -14,7 +14,7 @@ use Rattle.cstn_follow.proofs.Lines.{facts_said, records_network, refused_same}
 use Rattle.cstn_follow.proofs.following.Following.now.Goals as goal
 
 abbrev told : SessionParts → ℕ → Result History FactRefusal
-told s t = unless_refused (now_refusal (the_history s.history) t) (Ok (at_now (the_history s.history) t))
+told s t = unless_fact_refused (now_refusal (the_history s.history) t) (Ok (at_now (the_history s.history) t))
 
 pub invariant_of-self : goal.invariant_of-self
 invariant_of-self c =

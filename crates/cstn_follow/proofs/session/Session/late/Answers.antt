@@ -8,5 +8,5 @@ use Rattle.cstn_follow.proofs.session.Session.late.Goals as goal
 pub returns-clause-right : goal.returns-clause-right
 returns-clause-right c =
     let s = c.args.self.now in
-    subst (λ (l : Late). IsRightLate (the_labelled s.network) (the_history s.history) c.args.p.index l) (sym c.in_ok-late.ensures.told)
+    subst (λ (l : Late). IsRightLate (the_labelled s.network) (the_history s.history) s.fresh s.cap c.args.p.index l) (sym c.in_ok-late.ensures.told)
     (late_right s c.verdict.ensures.session c.args.p.index)

@@ -9,4 +9,5 @@ use Rattle.cstn_follow.proofs.session.Session.until.Goals as goal
 pub returns-clause-right : goal.returns-clause-right
 returns-clause-right c =
     let s = c.args.self.now in
-    subst (λ (p : Pause). IsRightPause (the_labelled s.network) (the_history s.history) p) (sym c.in_ok-pause.ensures.told) (pause_right s c.verdict.ensures.session)
+    subst (λ (p : Pause). IsRightPause (the_labelled s.network) (the_history s.history) s.fresh s.cap p) (sym c.in_ok-pause.ensures.told)
+    (pause_right s c.verdict.ensures.session)

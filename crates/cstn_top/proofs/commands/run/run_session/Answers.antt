@@ -5,7 +5,7 @@ use Rattle.cstn_lift.specs.Lowered.{lowered}
 use Rattle.cstn_lift.specs.Read.{LabelledParts, the_labelled}
 use Rattle.cstn_reply.specs.Read.{the_said}
 use Rattle.cstn_top.specs.Plans.{ComesTo}
-use Rattle.cstn_top.specs.commands.Run.{carried_out}
+use Rattle.cstn_top.specs.commands.Run.{run_answer}
 use Rattle.cstn_top.specs.Prepared.{the_plan}
 use Rattle.cstn_check.specs.Decisions.{TellsVerdict}
 use Rattle.cstn_check.specs.declared.decisions.Judged.{Judged}
@@ -20,7 +20,7 @@ begin-requires-clause-lowered c =
 
 pub returns-in-Yes-clause-comes : goal.returns-in-Yes-clause-comes
 returns-in-Yes-clause-comes c =
-    subst (λ (l : LabelledParts). IfOk c.begin.result (λ prepared. ComesTo (carried_out c.args.cap.entries c.args.names.now (the_labelled l)) (the_plan prepared))) c.split-network.ensures.labels c.begin.ensures.comes
+    subst (λ (l : LabelledParts). IfOk c.begin.result (λ prepared. ComesTo (run_answer c.args.cap.entries c.args.names.now (the_labelled l)) (the_plan prepared))) c.split-network.ensures.labels c.begin.ensures.comes
 
 pub returns-in-Told-clause-comes : goal.returns-in-Told-clause-comes
 returns-in-Told-clause-comes c =

@@ -3,9 +3,10 @@ use Rattle.std.proofs.lemmas.Bool.{false≢true}
 use Rattle.std.proofs.lemmas.List.{take_all}
 use Rattle.cstn_label.specs.declared.nodes.NodeId.{NodeId}
 use Rattle.cstn_tree.specs.declared.starts.End.{End}
-use Rattle.cstn_tree.specs.Trees.{is_named}
+use Rattle.cstn_outline.specs.Trees.{is_named}
 use Rattle.cstn_tree.specs.Good.{is_kept}
-use Rattle.cstn_tree.specs.Branches.{the_branch, numbers}
+use Rattle.cstn_tree.specs.Branches.{the_branch}
+use Rattle.cstn_outline.specs.Read.{numbers}
 use Rattle.cstn_tree.specs.Starts.{AllPass}
 use Rattle.cstn_tree.proofs.StartLemmas.{not_met, all_met, named_more, named_here}
 use Rattle.cstn_tree.proofs.branches.Branch.meets.Goals as goal

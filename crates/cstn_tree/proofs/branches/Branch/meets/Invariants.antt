@@ -1,8 +1,9 @@
 use Rattle.std.proofs.Common.{ℕ, ◌≡◌, true, take}
 use Rattle.cstn_tree.specs.declared.starts.End.{End}
-use Rattle.cstn_tree.specs.Trees.{is_named}
+use Rattle.cstn_outline.specs.Trees.{is_named}
 use Rattle.cstn_tree.specs.Good.{is_kept}
-use Rattle.cstn_tree.specs.Branches.{the_branch, numbers}
+use Rattle.cstn_tree.specs.Branches.{the_branch}
+use Rattle.cstn_outline.specs.Read.{numbers}
 use Rattle.cstn_tree.specs.Starts.{AllPass}
 use Rattle.cstn_tree.proofs.branches.Branch.meets.Given as goal
 

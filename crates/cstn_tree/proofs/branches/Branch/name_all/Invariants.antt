@@ -2,7 +2,8 @@ use Rattle.std.proofs.Common.{◌≡◌, drop}
 use Rattle.cstn_net.specs.Networks.{count}
 use Rattle.cstn_net.specs.Read.{the_network}
 use Rattle.cstn_tree.specs.Good.{placed_with}
-use Rattle.cstn_tree.specs.Branches.{IsBranchOf, the_branch, numbers}
+use Rattle.cstn_tree.specs.Branches.{IsBranchOf, the_branch}
+use Rattle.cstn_outline.specs.Read.{numbers}
 use Rattle.cstn_tree.proofs.BranchLemmas.{may_name}
 use Rattle.cstn_tree.proofs.branches.Branch.name_all.Given as goal
 

@@ -2,7 +2,7 @@ use Rattle.std.proofs.Common.{ℕ, List, ◌<◌, sym, subst}
 use Rattle.std.specs.List.{All}
 use Rattle.cstn_net.specs.Networks.{count}
 use Rattle.cstn_net.specs.Read.{the_network}
-use Rattle.cstn_tree.proofs.TreeLemmas.{all_numbers}
+use Rattle.cstn_outline.proofs.TreeLemmas.{all_numbers}
 use Rattle.cstn_tree.proofs.walks.Walk.step_at.Goals as goal
 
 pub place-requires-clause-inside : goal.place-requires-clause-inside

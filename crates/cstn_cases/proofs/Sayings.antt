@@ -1,0 +1,76 @@
+-- What is said by cases.
+use Rattle.std.proofs.Common.{ℕ, ◌≡◌, ◌⊎◌, inl, inr, ◌<◌, ◌≤◌, List, [], ◌∷◌, ◌++◌, Option, Some, None, true, false, refl, sym, subst, ap, ◌∙◌}
+use Rattle.std.specs.List.{All}
+use Rattle.std.proofs.lemmas.List.Elements.{All-nil, All-cons, All-append}
+use Rattle.cstn_label.specs.Bounds.{Bound}
+use Rattle.cstn_net.specs.Networks.{count}
+use Rattle.cstn_lift.specs.Labelled.{Labelled}
+use Rattle.cstn_lift.specs.Lowered.{lowered}
+use Rattle.cstn_history.specs.Histories.{History}
+use Rattle.cstn_history.specs.Facts.{with_told}
+use Rattle.cstn_check.specs.Growth.{log_of, load_of, live_bounds}
+use Rattle.cstn_check.specs.Decisions.{verdict, unless_yes}
+use Rattle.cstn_check.specs.declared.verdicts.Verdict.TheVariants.{Yes}
+use Rattle.cstn_reply.specs.Texts.{Said}
+use Rattle.cstn_outline.specs.Trees.{Tree, Line, IsAmong, lines_of, names_on}
+use Rattle.cstn_outline.specs.Trees.Line.{AtLine, AskLine, DoneLine}
+use Rattle.cstn_outline.specs.Read.{the_tree}
+use Rattle.cstn_cases.specs.Limits.{most_branches}
+use Rattle.cstn_cases.specs.Going.{unbegun, with_named, named_then}
+use Rattle.cstn_cases.specs.Cases.{AreCasesFrom, AreCasesOf, IsSoundlyPlanned, branches}
+use Rattle.cstn_cases.specs.Cases.AreCasesFrom.{ends, asks, names}
+use Rattle.cstn_cases.specs.Told.{AreCasesSaid, AreCasesUnless, IsCasesText, IsWideText, tree_said, wide_cases}
+use Rattle.cstn_cases.proofs.Branches.{cases_strategy, cases_least, cases_all_executed, cases_none_ruled_out}
+use Rattle.cstn_cases.proofs.Exists.{some_cases}
+use Rattle.cstn_cases.proofs.Written.{named_below}
+
+abbrev NamesBelow : ℕ → Line → Type 0
+NamesBelow n l = All (λ x. x < n) (names_on l)
+
+module _ (m : Labelled) (bounds : List Bound) where
+  among_from : (h : History) (tree : Tree) → AreCasesFrom m bounds h tree → IsAmong (count m.base) tree
+  among_from h tree (ends g over) = All-cons (NamesBelow (count m.base)) DoneLine [] (All-nil (λ x. x < count m.base)) (All-nil (NamesBelow (count m.base)))
+  among_from h tree (asks g t p one other left is found c d) =
+      All-cons (NamesBelow (count m.base)) (AskLine p) (lines_of one ++ lines_of other) (All-nil (λ x. x < count m.base))
+      (All-append (NamesBelow (count m.base)) (lines_of one) (lines_of other) (among_from (with_told g t p true) one c) (among_from (with_told g t p false) other d))
+  among_from h tree (names g t next left is quiet c) =
+      All-cons (NamesBelow (count m.base)) (AtLine t (named_then m bounds g t)) (lines_of next) (named_below m bounds g t)
+      (among_from (with_named g t (named_then m bounds g t)) next c)
+
+  pub cases_among : (tree : Tree) → AreCasesOf m bounds tree → IsAmong (count m.base) tree
+  cases_among tree cases = among_from unbegun tree cases
+
+module _ (texts : List (List ℕ)) (load : ℕ) (bounds : List Bound) (m : Labelled) (plan : IsSoundlyPlanned m bounds)
+    (live : bounds ≡ live_bounds (log_of (lowered m))) where
+  pub cases_said : load ≡ load_of (lowered m) → (lines : List Line) (said : Said) → lines ≡ lines_of (the_tree lines) → AreCasesOf m bounds (the_tree lines) →
+      branches (the_tree lines) ≤ most_branches → said ≡ tree_said texts load lines → AreCasesUnless texts m None said
+  cases_said same lines said whole cases few is = inl (subst (λ bs. IsCasesText texts (load_of (lowered m)) bs m said) live
+      (subst (λ n. IsCasesText texts n bounds m said) same text))
+    where
+      text : IsCasesText texts load bounds m said
+      text = record {
+        tree = the_tree lines;
+        cases = cases;
+        few = few;
+        strategy = cases_strategy m bounds plan (the_tree lines) cases;
+        least = cases_least m bounds plan (the_tree lines) cases;
+        executed = cases_all_executed m bounds plan (the_tree lines) cases;
+        ruled_out = cases_none_ruled_out m bounds plan (the_tree lines) cases;
+        said_is = is ∙ ap (tree_said texts load) whole;
+      }
+
+  pub wide_said : (said : Said) → ((tree : Tree) → AreCasesOf m bounds tree → most_branches < branches tree) → said ≡ wide_cases m → AreCasesUnless texts m None said
+  wide_said said many is =
+      let some = some_cases m bounds plan in
+      inr (subst (λ bs. IsWideText bs m said) live (record { tree = some.0; cases = some.1; many = many some.0 some.1; said_is = is }))
+
+-- after yes this is said, and else what stands in its place
+pub said_after_yes : (cap : ℕ) (texts : List (List ℕ)) (m : Labelled) (said : Said) (load : ℕ) → verdict cap (lowered m) ≡ Yes load →
+    AreCasesUnless texts m None said → AreCasesSaid cap texts m said
+said_after_yes cap texts m said load decided is =
+    let none : unless_yes cap texts (lowered m) (verdict cap (lowered m)) ≡ None = ap (unless_yes cap texts (lowered m)) decided in
+    subst (λ (o : Option Said). AreCasesUnless texts m o said) (sym none) is
+
+pub said_in_place : (cap : ℕ) (texts : List (List ℕ)) (m : Labelled) (said : Said) → unless_yes cap texts (lowered m) (verdict cap (lowered m)) ≡ Some said →
+    AreCasesSaid cap texts m said
+said_in_place cap texts m said is = subst (λ (o : Option Said). AreCasesUnless texts m o said) (sym is) refl

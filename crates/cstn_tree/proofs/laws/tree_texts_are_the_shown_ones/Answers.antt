@@ -1,5 +1,0 @@
-use Rattle.cstn_tree.proofs.SaidLemmas.{text_said, text_says}
-use Rattle.cstn_tree.proofs.laws.tree_texts_are_the_shown_ones.Goals as goal
-
-pub returns : goal.returns
-returns c = record { said = text_said; says = text_says }
