@@ -1,5 +1,7 @@
 """The board without a browser: who is heard, what is read, and what a page is given."""
 import importlib.util
+import subprocess
+import sys
 import tempfile
 import unittest
 from datetime import datetime, timedelta, timezone
@@ -218,6 +220,12 @@ class Boards(unittest.TestCase):
             file.write_bytes(CLINIC.document)
         self.assertEqual(list(documents(files, None)), ["bed 1", "bed 2"])
         self.assertRaises(ValueError, documents, [files[0], files[0]], None)
+
+    def test_what_is_missing_is_said_of_the_python_at_hand(self) -> None:
+        for prefix, says in (("/usr", "apt-get install python3-flask"), ("/opt/python", "-m pip install flask")):
+            code = f"import sys; sys.prefix = '{prefix}'; sys.modules['waitress'] = None; import cstn.board.__main__"
+            done = subprocess.run([sys.executable, "-c", code], capture_output=True, text=True, check=False)
+            self.assertEqual((done.returncode, says in done.stderr), (1, True), done.stderr)
 
 
 if __name__ == "__main__":

@@ -153,6 +153,24 @@ class Pictures(unittest.TestCase):
         Reader().feed(text)
         self.assertEqual((found["section"], found["option"], found["script"], found["style"]), (7, 7, 1, 1))
 
+    @unittest.skipUnless(HAS_GRAPHVIZ, "Graphviz is not here")
+    def test_a_page_has_the_cases_that_are_wanted_or_left(self) -> None:
+        text = main(["--html", PATHWAY, "--case", "!i"])
+        self.assertEqual(text.count('<section class="case"'), 1)
+        self.assertIn('id="case-2"', text)
+        self.assertIn("1 of 2 cases is here", text)
+        with tempfile.NamedTemporaryFile("w", encoding="utf-8") as file:
+            file.write("did 5 Sample\n")
+            file.flush()
+            self.assertEqual(main(["--html", PATHWAY, file.name]).count('<section class="case"'), 2)
+            file.write("saw 40 i true\n")
+            file.flush()
+            text = main(["--html", PATHWAY, file.name])
+            self.assertEqual(text.count('<section class="case"'), 1)
+            self.assertIn('id="case-1"', text)
+        with self.assertRaisesRegex(Stopped, "there is no such case"):
+            main(["--html", PATHWAY, "--case", "7"])
+
 
 if __name__ == "__main__":
     unittest.main()

@@ -18,11 +18,17 @@ from datetime import datetime, timedelta
 from pathlib import Path
 from types import FrameType
 
+OF_DEBIAN = "/usr"
+"""Where the Python is that Debian's packages serve."""
+PIP = (f"`{sys.executable} -m pip install flask waitress`; Debian's packages serve /usr/bin/python3 alone, which is "
+       "taken if /usr/bin stands first in PATH")
+
 try:
     from waitress.server import create_server
     import flask  # noqa: F401
 except ImportError:
-    sys.exit(f"cstn board: no Flask or no waitress for {sys.executable}: install python3-flask and python3-waitress")
+    remedy = "`apt-get install python3-flask python3-waitress`" if sys.prefix == OF_DEBIAN else PIP
+    sys.exit(f"cstn board: no Flask or no waitress for {sys.executable}: {remedy}")
 
 from cstn.errors import BadDocument, CstnError
 from cstn.plan import Plan

@@ -159,7 +159,8 @@ def still_open(step: Step, it: Look) -> str:
 
 
 def step_data(index: int, step: Step, it: Look) -> Data:
-    return {"index": index, "shown": shown(step.name), "start": step.name == "Z", "observes": step.observes,
+    observes = it.plan.words.get(step.observes, step.observes) if step.observes else None
+    return {"index": index, "shown": shown(step.name), "start": step.name == "Z", "observes": observes,
             "reaction": step.reaction, "label": still_open(step, it), "state": standing(step, it),
             "at": it.outlook.done.get(step.name), "planned": it.ahead.steps.get(step.name),
             "by": it.latest.get(step.name)}

@@ -4,7 +4,7 @@
     ./cstn draw cases FILE [--case CASE]
     ./cstn draw now FILE SESSION [--case CASE]
     ./cstn draw --csv FILE [--case CASE]
-    ./cstn draw --html FILE [SESSION]
+    ./cstn draw --html FILE [SESSION] [--case CASE]
 
 with the options --deadline N, --start HH:MM, --tick SECONDS and --tasks TASKS. docs/draw.md says what each form draws.
 """
@@ -19,6 +19,7 @@ from ..explain.asking import Asked, read_once, read_text
 from ..explain.looks import looks
 from ..explain.names import harmless
 from ..explain.plans import is_plan, take_plan
+from ..explain.shapes import Marks
 from ..explain.spoken import Clock, Spoken, read_clock
 from ..explain.stopped import Stopped
 from ..explain.tasks import Task, read_tasks
@@ -27,7 +28,7 @@ from .network import draw_network
 from .now import draw_now
 from .page import write_page
 from .plans import Plan, add_case, add_latest, chosen, read_network, read_plan
-from .sessions import read_session
+from .sessions import Session, read_session
 from .table import write_table
 
 # Of each form how many files it takes, at least and at most.
@@ -60,6 +61,8 @@ def parsed(words: list[str]) -> Request:
     least, most = FORMS[request.form]
     if not least <= len(request.files) <= most:
         raise Stopped(2, (__doc__ or "").strip())
+    if request.form == "network" and "--case" in request.options:
+        raise Stopped(2, "--case goes with cases, now, --csv and --html.")
     if not re.fullmatch(r"\d{1,7}", request.options.get("--deadline", "0")):
         raise Stopped(2, "N is a number from 0 to 1000000, in ticks")
     return request
@@ -79,17 +82,28 @@ def title_of(path: str) -> str:
     return re.sub(r"[-_]", " ", bare).capitalize() if "." in name else name
 
 
-def drawn_now(request: Request, asked: Asked, plan: Plan) -> str:
-    """The picture of a session, in the case that is wanted, else in the latest one."""
-    session = read_session(asked, read_text(request.files[1], "SESSION"), plan.clock)
-    return draw_now(plan, session, chosen(session.cases, request.options.get("--case", "latest")))
+def told(request: Request, asked: Asked, plan: Plan) -> Session:
+    """The session that is named."""
+    return read_session(asked, read_text(request.files[1], "SESSION"), plan.clock)
 
 
 def page_of(request: Request, asked: Asked, plan: Plan) -> str:
-    """The page, with the session where one is named."""
-    add_latest(asked, plan, list(range(len(plan.cases))))
-    told = [line for _, _, lines in looks(asked, plan.verdict) for line in lines]
-    return write_page(plan, told, drawn_now(request, asked, plan) if len(request.files) > 1 else "")
+    """The page, with the session where one is named: of the cases those that are wanted, else those that the session
+    leaves."""
+    session, wanted = told(request, asked, plan) if len(request.files) > 1 else None, request.options.get("--case")
+    add_case(asked, plan, wanted)
+    places = chosen(plan.cases, wanted)
+    if session and wanted is None:
+        places = [at for at in places if agrees(plan.cases[at].outcomes, session.heard.known)] or places
+    add_latest(asked, plan, places)
+    hints = [line for _, _, lines in looks(asked, plan.verdict) for line in lines]
+    now = draw_now(plan, session, chosen(session.cases, "latest")) if session else ""
+    return write_page(plan, places, hints, now)
+
+
+def agrees(outcomes: Marks, known: Marks) -> bool:
+    """Whether no outcome of a case was told otherwise."""
+    return all(outcomes.get(letter, value) == value for letter, value in known.items())
 
 
 def drawn(request: Request, asked: Asked, plan: Plan) -> str:
@@ -97,7 +111,8 @@ def drawn(request: Request, asked: Asked, plan: Plan) -> str:
     if request.form == "network":
         return draw_network(plan)
     if request.form == "now":
-        return drawn_now(request, asked, plan)
+        session = told(request, asked, plan)
+        return draw_now(plan, session, chosen(session.cases, request.options.get("--case", "latest")))
     if request.form == "--html":
         return page_of(request, asked, plan)
     add_case(asked, plan, request.options.get("--case"))
@@ -108,26 +123,25 @@ def drawn(request: Request, asked: Asked, plan: Plan) -> str:
     return write_table(plan, places) if request.form == "--csv" else draw_cases(plan, places)
 
 
-def clock_of_plan(asked: Asked, files: contextlib.ExitStack, clock: Clock) -> Clock:
+def clock_of_plan(asked: Asked, files: contextlib.ExitStack) -> Clock:
     """Puts the document of a plan in sentences in its place; the clock of the options, or else that of the plan."""
-    Spoken.clock = clock
     if refused := take_plan(asked, files):
         raise Stopped(refused[0], "\n".join(refused[2]))
-    found, Spoken.clock = Spoken.clock, Clock()
-    return found
+    return Spoken.clock
 
 
 def main(words: list[str]) -> str:
     """What is written for the words."""
     request, Spoken.words = parsed(words), {}
     clock: Clock = read_clock(request.options.get("--start"), request.options.get("--tick"))
+    Spoken.clock = clock
     deadline = request.options.get("--deadline")
     with contextlib.ExitStack() as files:
         source, path = files.enter_context(read_once(request.files[0]))
         asked = Asked(path, ["--deadline", deadline] if deadline else [])
         asked.source = source
         if is_plan(request.files[0]):
-            clock = clock_of_plan(asked, files, clock)
+            clock = clock_of_plan(asked, files)
         read_network(asked)
         tasks = tasks_named(asked, request.options.get("--tasks"))
         plan = read_plan(asked, title_of(request.files[0]), clock, tasks, request.form not in ("network", "now"))

@@ -1,5 +1,6 @@
 """A session as a picture: what was done, what time it is, and what is left."""
 from ..explain.following import blamed
+from ..explain.spoken import Spoken
 from .gantt import DONE_AT, Panel, draw_panels, outcomes_in_words
 from .plans import Plan
 from .sessions import Session, next_in_words
@@ -20,7 +21,7 @@ def told_of(plan: Plan, session: Session) -> list[str]:
     if moment is None:
         return ["All is done."] if session.next == "done" else [f"The program says {session.next}."]
     parts = [f"do {', '.join(map(readable, names))}"] if names else []
-    parts += [f"the outcome of {' and '.join(letters)} is awaited"] if letters else []
+    parts += [f"the outcome of {' and '.join(map(Spoken.letter, letters))} is awaited"] if letters else []
     done = len(heard.done.keys() - {"Z"})
     return [f"Yes: what is left can be carried out. {done} steps are done. Next, at {plan.clock.says(moment)}: "
             f"{'; '.join(parts)}."]

@@ -6,9 +6,10 @@ from collections.abc import Iterable
 from importlib.resources import files
 
 from ..explain.networks import constraint, counts_where, where
+from ..explain.spoken import Spoken
 from .gantt import MOST_CASES, draw_cases
 from .network import draw_network
-from .plans import Blame, Plan, chosen
+from .plans import Blame, Plan
 from .svg import element, escaped, readable
 
 
@@ -42,24 +43,28 @@ def counts_of(plan: Plan) -> str:
     return f"{says}, {len(plan.cases)} cases." if len(plan.cases) > 1 else f"{says}."
 
 
-def cases_of(plan: Plan) -> list[str]:
-    """The section of the cases: a chooser, and a picture of each."""
+def cases_of(plan: Plan, places: list[int]) -> list[str]:
+    """The section of some cases, by their places: a chooser, and a picture of each."""
     if not plan.cases:
         return [paragraph(plan.why)]
-    latest = chosen(plan.cases, "latest")[0]
-    drawn = list(range(min(len(plan.cases), MOST_CASES)))
+    latest = max(places, key=lambda at: (plan.cases[at].end, -at))
+    drawn = places[:MOST_CASES]
     options = "".join(element("option", escaped(f"{at + 1}: {where(plan.cases[at].label)[5:] or 'the plan'}; done at "
                                                 f"{plan.clock.says(plan.cases[at].end)}")) for at in drawn)
     parts = []
     if len(drawn) > 1:
-        chooser = element("select", options, id="choice", data_first=str(latest if latest in drawn else 0),
+        chooser = element("select", options, id="choice", data_first=str(drawn.index(latest) if latest in drawn else 0),
                           aria_label="Case")
         before = element("button", "previous", id="before", type="button")
         behind = element("button", "next", id="behind", type="button")
         parts.append(element("p", f"{before} {chooser} {behind}", class_="choose", hidden=""))
-    if len(plan.cases) > len(drawn):
-        parts.append(paragraph(f"{len(plan.cases) - len(drawn)} of {len(plan.cases)} cases are left out: "
+    if len(places) > len(drawn):
+        parts.append(paragraph(f"{len(places) - len(drawn)} of {len(plan.cases)} cases are left out: "
                                "./cstn draw cases FILE --case CASE draws one."))
+    elif len(plan.cases) > len(drawn):
+        are = "is" if len(drawn) == 1 else "are"
+        parts.append(paragraph(f"{len(drawn)} of {len(plan.cases)} cases {are} here: the others were not asked for, or "
+                               "what was told rules them out."))
     for at in drawn:
         parts.append(element("section", scrolled(draw_cases(plan, [at])), class_="case", id=f"case-{at + 1}"))
     return parts
@@ -74,19 +79,21 @@ def row(cells: Iterable[str], tag: str = "td", search: bool = False) -> str:
     return element("tr", inner, data_search="" if search else None)
 
 
-def steps_of(plan: Plan) -> str:
-    """The table of steps: where each is executed, what it tells, when it comes, and how long it can wait."""
+def steps_of(plan: Plan, places: list[int]) -> str:
+    """The table of steps: where each is executed, what it tells, and when it comes and how long it can wait in some
+    cases, by their places."""
     head = row(("Step", "Executed", "Tells", "Planned", "Can wait at least"), "th")
     rows = []
     first = {name: min((it.moments[name] for it in plan.cases if name in it.moments), default=0)
              for name in plan.net.names}
+    cases = [plan.cases[at] for at in places]
     for name in sorted(plan.net.names, key=lambda it: (first[it], plan.net.places[it])):
-        moments = sorted({it.moments[name] for it in plan.cases if name in it.moments})
-        lefts = [it.latest[name] - it.moments[name] for it in plan.cases if name in it.latest]
+        moments = sorted({it.moments[name] for it in cases if name in it.moments})
+        lefts = [it.latest[name] - it.moments[name] for it in cases if name in it.latest]
         letter, label = plan.net.observed.get(name), plan.net.labels.get(name, "")
+        tells = f"{Spoken.letter(letter)}, {plan.clock.lasts(plan.net.reaction(name))} later" if letter else ""
         says = " to ".join(plan.clock.says(it) for it in dict.fromkeys([*moments[:1], *moments[-1:]]))
-        rows.append(row((readable(name), f"only{where(label)[1:]}" if label else "always",
-                         f"{letter}, {plan.clock.lasts(plan.net.reaction(name))} later" if letter else "", says,
+        rows.append(row((readable(name), f"only{where(label)[1:]}" if label else "always", tells, says,
                          plan.clock.lasts(min(lefts)) if lefts else ""), search=True))
     return element("table", element("thead", head) + element("tbody", "\n" + "\n".join(rows) + "\n"))
 
@@ -101,8 +108,8 @@ def constraints_of(plan: Plan) -> str:
     return element("ul", "\n" + "\n".join(items) + "\n")
 
 
-def write_page(plan: Plan, looks: list[str], now: str) -> str:
-    """The page, with a picture of a session or none."""
+def write_page(plan: Plan, places: list[int], looks: list[str], now: str) -> str:
+    """The page, of some cases by their places, with a picture of a session or none."""
     style, script = resource("page.css"), resource("page.js")
     policy = f"default-src 'none'; style-src {digest(style)}; script-src {digest(script)}"
     links = [("cases", "Cases"), ("network", "Network"), ("steps", "Steps"), ("constraints", "Constraints")]
@@ -111,9 +118,10 @@ def write_page(plan: Plan, looks: list[str], now: str) -> str:
     nav = element("nav", "".join(element("a", says, href=f"#{name}") for name, says in links) + search
                   + '<span id="count" role="status"></span>', hidden="")
     body = [element("h1", escaped(plan.title)), verdict_of(plan), paragraph(counts_of(plan)),
-            nav, *([heading("now", "Now"), scrolled(now)] if now else []), heading("cases", "Cases"), *cases_of(plan),
+            nav, *([heading("now", "Now"), scrolled(now)] if now else []),
+            heading("cases", "Cases"), *cases_of(plan, places),
             heading("network", "What waits for what"), scrolled(draw_network(plan)),
-            heading("steps", "Steps"), element("div", steps_of(plan), class_="scroll"),
+            heading("steps", "Steps"), element("div", steps_of(plan, places), class_="scroll"),
             heading("constraints", "Constraints"), constraints_of(plan)]
     if looks:
         body += [heading("looks", "Worth a second look"), *(paragraph(it) for it in looks)]

@@ -10,7 +10,8 @@ from ..explain.networks import Network
 from ..explain.spoken import Clock
 from ..explain.stopped import Stopped
 from ..explain.trees import MOST_IN_WORDS, size
-from ..explain.typed import all_in_lines
+from ..explain.tries import Live
+from ..explain.typed import all_in_lines, has_moments
 from .chains import Link, chain_of
 
 # After a no so many sets of limits are let go, one after another, to tell what is left without them.
@@ -45,7 +46,7 @@ def lines_of(text: str) -> list[str]:
 def read_session(asked: Asked, text: str, clock: Clock) -> Session:
     """Tells the program the lines of a session again, and asks what is left. Refused lines tell nothing. After a no,
     what is left is asked for without the limits that are to blame, one set after another."""
-    lines = all_in_lines(lines_of(text), clock)
+    lines = told_lines(asked, lines_of(text), clock)
     if not lines:
         raise Stopped(2, "SESSION has no line that tells `follow` something, as `did 5 Sample`")
     session = tell_again(asked, lines)
@@ -61,6 +62,14 @@ def read_session(asked: Asked, text: str, clock: Clock) -> Session:
         done = session.heard.done
         session.cases, session.chains = [Case(session.heard.known, {"Z": 0, **done}, session.told)], [[]]
     return session
+
+
+def told_lines(asked: Asked, lines: list[str], clock: Clock) -> list[str]:
+    """The lines as `follow` takes them; it is asked only where that hangs on its answers."""
+    if not has_moments(lines):
+        return [line for line, _ in all_in_lines(asked.net, lines, clock, lambda _: "")]
+    with Live([asked.program, "follow", asked.path, "--deadline", str(asked.net.deadline)], [], 0) as live:
+        return [line for line, _ in all_in_lines(asked.net, lines, clock, live.say)]
 
 
 def tell_again(asked: Asked, lines: list[str]) -> Session:

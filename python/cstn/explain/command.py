@@ -69,7 +69,8 @@ def tell_proof(asked: Asked, text: str) -> tuple[int, Data, list[str]]:
         lines.append(f"With the deadline {Spoken.moment(asked.net.deadline)}:")
         return status, {"least": int(least[1]), **data}, [*lines, *more]
     if is_typed(text):
-        text = answered(asked, text) or text
+        told = answered(asked, text)
+        text, Spoken.takes_words = told or text, bool(told)
     if is_followed(text):
         return tell_session(asked, text)
     if re.match(r"yes \d+\n(at |ask |done)", text):
@@ -299,7 +300,7 @@ def tell(asked: Asked, command: str, text: str | None, alone: bool) -> tuple[int
 
 def main(words: list[str]) -> int:
     Spoken.clock, words = clock_of(words)
-    Spoken.words = {}
+    Spoken.words, Spoken.takes_words = {}, False
     longest, words = longest_of(words)
     command, words, option, alone, as_data = parsed(words)
     if longest is not None and (command in ("plain", "follow") or len(words) > 1):

@@ -21,7 +21,7 @@ ANSWER = re.compile(r"next (?P<next>[0-9]{1,10})(?: do (?P<do>[^ ]+(?: [^ ]+)*?)
                     r"forgiven(?P<forgiven>(?: [0-9]{1,10})*)|step (?P<step>[^ ]+)")
 
 # Lines that are typed, alone or behind `> `, those that an answer may be too, and answers of one line.
-TYPED = re.compile(r"> .*|(did|saw|now|await|expect|add|remove|change|try|cap) .*|by (?!\d+ [^ ]).*|late [A-Za-z]|"
+TYPED = re.compile(r"> .*|(did|saw|now|await|expect|add|remove|change|try|cap) .*|by (?!\d+ [^ ]).*|late [^ ]+|"
                    r"raise \d+|by|next|check|rest|until|verdict|least|forgive|mark|back|cases|digest")
 EITHER = re.compile(r"blame|deadline \d+|step [^ ]+")
 ANSWERED = re.compile(r"(yes|no|full|added|removed|changed|deadline|until|mark|back) [0-9]{1,10}|refused .*|"
@@ -35,6 +35,7 @@ EDIT = re.compile(r"change (?P<number>[0-9]{1,10}) (?P<value>-?[0-9]{1,10})|dead
                   r"add [^ ]+ [^ ]+ (?P<added>-?[0-9]{1,10}) .*")
 NEVER = 1_000_000
 """What `until` and `late` answer if time, or the outcome, makes no difference."""
+ALL_DONE: Data = {"answer": "done", "says": ["All is done."]}
 UNPAIRED = "The typed lines do not stand each before its answer, and are not used."
 
 # What `check` writes after a no, and how what `rest` writes begins and ends.
@@ -56,9 +57,15 @@ def is_followed(text: str) -> bool:
 def is_typed(text: str) -> bool:
     """Whether a text begins with a line that is typed into a session, or with the call behind `$ `."""
     line = text.split("\n")[0]
-    return bool(re.match(r"\$ |(?:> )?(?:(?:did|saw|now|await|expect) \d+\b|late [A-Za-z]$|"
+    return bool(re.match(r"\$ |(?:> )?(?:(?:did|saw|now|await|expect) \d+\b|late [^ ]+$|"
                          r"(?:add|remove|change|deadline|by|try) [^ ]|(?:raise|cap) \d+$|"
                          r"(?:by|next|check|rest|until|verdict|forgive|mark|cases)$)", line))
+
+
+def not_typed(text: str) -> tuple[int, str] | None:
+    """The first line, by its number and words, that is none to be typed, of a text of such lines alone."""
+    return next(((at, line) for at, line in enumerate(text.split("\n"), 1)
+                 if line.strip() and not TYPED.fullmatch(line) and not EITHER.fullmatch(line)), None)
 
 
 def rests(text: str) -> list[tuple[int, int]]:
@@ -133,6 +140,16 @@ class Heard:
             _, source, target, value, label = line.split(" ")
             self.added[int(to[2])] = printed(source), printed(target), int(value), "" if label == "-" else label
 
+    def from_start(self, net: Network) -> set[int]:
+        """The ids of the limits that count from the start, of the document and of those put in."""
+        return net.from_start | {number for number, (source, target, most, _) in self.added.items()
+                                 if source != target and (target if most < 0 else source) == "Z"}
+
+    def limit(self, net: Network, number: int) -> Limit | None:
+        """A limit as it is now, or none where the document lacks it and no line put it in."""
+        limit = net.constraints[number] if number < len(net.constraints) else self.added.get(number)
+        return limit and (*limit[:2], self.values.get(number, limit[2]), limit[3])
+
     def is_late(self, number: int) -> bool:
         """Whether an edit has put in that something comes no earlier than some moment: what happened, and no limit."""
         return number in self.added and self.added[number][1] == "Z" and self.added[number][2] < 0
@@ -154,7 +171,8 @@ def told_of(net: Network, name: str, heard: Heard) -> str:
     moment = heard.awaited.get(letter, heard.done[name] + reaction if name in heard.done else None)
     says = f", and its reaction is {ticks(reaction)}"
     if letter in heard.awaited:
-        says = f"; it was last awaited at {moment} (`await {moment} {letter}`)"
+        at = heard.awaited[letter]
+        says = f"; it was last awaited at {Spoken.moment(at)} (`{Spoken.awaited(at, letter, heard.now)}`)"
     if not heard.typed:
         return says + ", unless `await` told another moment"
     is_late = moment is not None and heard.now >= moment
@@ -249,15 +267,30 @@ def tell_late(net: Network, answer: re.Match[str]) -> Data:
 
 def blamed(net: Network, number: int, heard: Heard) -> str:
     """A constraint that is to blame, in words."""
+    limit = heard.limit(net, number)
     if number >= len(net.constraints):
-        if number not in heard.added:
+        if not limit:
             return f"{number}: a constraint that FILE lacks, so an edit has added it"
-        source, target, most, label = heard.added[number]
-        says = f"{number}: {constraint(source, target, heard.values.get(number, most), label)}, put in by `add`"
+        says = f"{number}: {constraint(*limit)}, put in by `add`"
         return says + (": what was told to come so late, and no limit of the plan" if heard.is_late(number) else "")
-    now = f"it is {heard.values[number]} now" if number in heard.values else "an edit has changed it"
+    now = f"now {constraint(*limit)}" if limit and number in heard.values else "an edit has changed it"
     edited = f", as FILE has it; {now}" if number in heard.changed else ""
     return f"{net.called(number)}: {constraint(*net.constraints[number])}{counts_where(net, number)}{edited}"
+
+
+def edited(net: Network, answer: str, heard: Heard) -> list[str]:
+    """The answer to a limit that was put in or changed, with what the limit is now."""
+    number = int(answer.split(" ")[1])
+    limit = heard.limit(net, number)
+    if not limit:
+        return [answer]
+    is_of_file = number < len(net.constraints)
+    says = [f"{answer.split(' ')[0]} {net.called(number) if is_of_file else number}: {constraint(*limit)}"]
+    own = net.constraints[number] if is_of_file else heard.added[number]
+    if own[2] < 0 < limit[2]:
+        says.append(f"It was: {constraint(*own)}. To change only its number, type it with a -: "
+                    f"`change {number} -{limit[2]}`.")
+    return says
 
 
 def untold(net: Network, numbers: list[int], heard: Heard) -> list[str]:
@@ -386,6 +419,9 @@ def tell_followed(net: Network, text: str,
         if reason := why_refused(net, typed, line, heard):
             told.append({"answer": "refused", "line": typed, "refusal": line, "says": [reason]})
             says.append(f"{f'{typed}: ' if typed else ''}{line}: {reason}")
+        if line == "done" and told[-1:] != [ALL_DONE]:
+            told.append(ALL_DONE)
+            says += [f"done: {it}" for it in ALL_DONE["says"]]
         if answer and not lacks:
             told.append(tell_answer(net, answer, heard, functools.partial(tried, at)))
             says += [f"{line}: {told[-1]['says'][0]}", *told[-1]["says"][1:]]

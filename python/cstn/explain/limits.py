@@ -306,3 +306,17 @@ def tell_repeating(net: Network) -> tuple[list[Data], list[str]]:
         lines.insert(0, "Limits that only repeat what a label asks for. In `follow` they count also if the outcome "
                         "comes early: leave them out if that is not meant.")
     return [{"constraint": number, "observer": target} for number, _, target in found], lines
+
+
+def tell_said_twice(net: Network) -> tuple[list[Data], list[str]]:
+    """The constraints that say what an earlier one says, as data and in words."""
+    first: dict[tuple[str, str, int, str], int] = {}
+    found, lines = [], []
+    for number, (source, target, most, label) in enumerate(net.constraints):
+        other = first.setdefault((source, target, most, written(literals(label))), number)
+        if other != number and source != target:
+            found.append((number, other))
+            lines.append(f"{net.called_both(other, number)}: {constraint(source, target, most, label)}")
+    if lines:
+        lines.insert(0, "Limits that are said twice. Whoever gives one up in a session has to give up both:")
+    return [{"constraint": number, "as": other} for number, other in found], lines

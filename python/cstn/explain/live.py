@@ -6,7 +6,7 @@ from collections.abc import Iterator
 from typing import IO
 
 from .asking import MOST_TRIED, Asked
-from .following import ANSWER, Heard, tell_answer
+from .following import ANSWER, Heard, edited, tell_answer
 from .names import harmless
 from .reasons import why_refused
 from .sessions import TOO_MUCH, tell_told_again
@@ -26,6 +26,7 @@ class Talk:
 
     def __init__(self, asked: Asked) -> None:
         self.asked, self.heard = asked, Heard()
+        self.no: list[str] = []
         words = [asked.program, "follow", asked.path, "--deadline", str(asked.net.deadline)]
         self.child = subprocess.Popen(words, stdin=subprocess.PIPE, stdout=subprocess.PIPE)
         assert self.child.stdin and self.child.stdout
@@ -62,15 +63,22 @@ class Talk:
         return says
 
     def after(self, verdict: str) -> list[str]:
-        """A verdict in words, and what is next, or what is to blame."""
+        """A verdict in words, and what is next, or what is to blame; of a no that stays what is new of it alone."""
         word = verdict.split(" ")[0]
         if word == "full":
             return [f"Whether what is left can be carried out is not known: the program says {verdict}."]
-        return [VERDICTS[word], *self.said(self.ask("next" if word == "yes" else "blame")[0])]
+        answer, before = self.ask("next" if word == "yes" else "blame")[0], self.no
+        says = self.said(answer)
+        self.no = [] if word == "yes" else [answer, *says]
+        numbers = answer.split(" ")[1:]
+        if word == "yes" or before[:1] != [answer] or not numbers:
+            return [VERDICTS[word], *says]
+        limits = f"limit{'s' if len(numbers) > 1 else ''}: {', '.join(numbers)}"
+        return [f"Still no, for the same {limits} (`blame` tells all of it).", *(it for it in says if it not in before)]
 
     def turn(self, typed: str) -> list[str]:
         """What is said to a line that was typed."""
-        line = in_lines(typed, self.heard.now, Spoken.clock)
+        line = in_lines(typed, self.heard.now, Spoken.clock, self.heard.from_start(self.asked.net))
         answer = self.ask(line)
         reason = why_refused(self.asked.net, line, answer[0], self.heard)
         self.heard.take(line, answer[0])
@@ -78,7 +86,9 @@ class Talk:
             return [f"{answer[0] if ' line ' not in answer[0] else 'refused'}: {reason}"]
         if answer[0].split(" ")[0] in ("added", "changed", "removed", "forgiven", "step", "deadline"):
             verdict = self.ask("next")[0]
-            return [*self.said(answer[0]), *self.after(verdict if verdict.startswith(("no ", "full ")) else "yes ")]
+            is_limit = answer[0].startswith(("added ", "changed "))
+            says = edited(self.asked.net, answer[0], self.heard) if is_limit else self.said(answer[0])
+            return [*says, *self.after(verdict if verdict.startswith(("no ", "full ")) else "yes ")]
         if len(answer) == 1 and answer[0].startswith(("yes ", "no ", "full ")):
             return self.after(answer[0])
         if line == "by" and answer[-1] == "end":
@@ -100,6 +110,7 @@ def talk(asked: Asked, typed: Iterator[str]) -> int:
     if isinstance(typed, io.TextIOWrapper):
         typed.reconfigure(errors="surrogateescape")
     session = Talk(asked)
+    Spoken.takes_words = True
     version, verdict = session.read(), session.read()
     say(session.after(verdict) if version.startswith("follow ") else [version])
     try:

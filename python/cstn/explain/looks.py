@@ -4,8 +4,8 @@ from typing import Any
 
 from .asking import Asked
 from .cases import Case, cases_by_labels, cases_of
-from .limits import (ranges, tell_disagreeing, tell_never, tell_past_the_deadline, tell_repeating, tell_shortest,
-                     tell_unlimited)
+from .limits import (ranges, tell_disagreeing, tell_never, tell_past_the_deadline, tell_repeating, tell_said_twice,
+                     tell_shortest, tell_unlimited)
 from .names import shown
 from .networks import Network, constraint, literals, tell_unlabelled, where
 from .shapes import Data, Marks, Tree
@@ -29,6 +29,7 @@ def looks(asked: Asked, verdict: str) -> Iterator[tuple[str, Any, list[str]]]:
     yield "disagreeing_reactions", *tell_disagreeing(net)
     yield "never_in_force", *tell_never(net)
     yield "repeating_a_label", *tell_repeating(net)
+    yield "said_twice", *tell_said_twice(net)
     yield "nothing_waits", *look_at_nothing_waits(net, verdict, tree)
     yield "may_come_before", *tell_may_come_before(net)
     yield "may_be_put_off", *tell_may_be_put_off(net)
@@ -40,7 +41,8 @@ def look_at_shortest(net: Network, is_small: bool, tree: Tree | None) -> tuple[l
         return [], []
     if not is_small:
         return None, ["Which ranges the plan takes at their shortest is not told, since it has up to "
-                      f"{1 << len(net.observers)} ways."]
+                      f"{1 << len(net.observers)} ways. What if each task takes its longest, tells `./cstn explain "
+                      "--longest FILE`."]
     return tell_shortest(net, tree) if tree is not None else (None, [])
 
 

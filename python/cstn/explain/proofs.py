@@ -2,7 +2,8 @@
 import re
 
 from .asking import Asked, ids_of, kept, without
-from .following import is_typed
+from .following import is_typed, not_typed
+from .names import cut
 from .refutations import Refutation, accepted_no, rejected_no
 from .shapes import Data
 from .spoken import Spoken
@@ -27,7 +28,10 @@ def why_none(text: str) -> str:
         return RETURNS
     if re.match(r"yes \d", text):
         return "PROOF is a yes: there is no no to explain."
-    return TYPED_FIRST if is_typed(text) else "PROOF has no refutation: no line `no LOAD` with steps after it."
+    if not is_typed(text):
+        return "PROOF has no refutation: no line `no LOAD` with steps after it."
+    other = not_typed(text)
+    return TYPED_FIRST + (f" Line {other[0]} is none of these: {cut(other[1])}" if other else "")
 
 
 def tell_refutation(asked: Asked, text: str, of_tight: bool) -> tuple[int, Data, list[str]]:

@@ -18,9 +18,11 @@ FORMS = {
     "expect": "expect T NAME", "add": "add FROM TO W LABEL, where LABEL is - if there is none", "remove": "remove ID",
     "change": "change ID W", "deadline": "deadline N", "by": "by, or by NAME", "late": "late LETTER",
     "raise": "raise ID", "step": "step NAME", "cap": "cap N, from 1 to 4194304", "try": "try LINE"}
-NEWER = {"cap": 1, "step": 1, "raise": 1, "expect": 2, "mark": 0, "back": 0, "forgive": 0, "least": 0, "cases": 0,
-         "digest": 0, "until": 0, "late": 1, "verdict": 0}
-"""Lines that not every program has, with how many words stand behind the verb."""
+NEWER = re.compile(r"(?:cap|raise) \d+|step [^ ]+|expect \d+ [^ ]+|late [A-Za-z]|mark|back|forgive|least|cases|"
+                   r"digest|until|verdict")
+"""Lines that not every program has."""
+LETTERS = {"saw": (1, 3), "await": (1, 2), "late": (0, 1)}
+"""Lines with a letter: its place behind the verb, and how many words stand there."""
 REASONS = {
     "F8": "the plan has no room for what this adds", "S1": "there is no room for another constraint: remove one first",
     "S3": "a value is from -1000000000 to 1000000000", "S4": "the label has a mark that is none",
@@ -40,12 +42,14 @@ def reason(net: Network, line: str, code: str, words: list[str], heard: Heard) -
     """Why a line was refused, by the code of the refusal and what stands behind it."""
     name = printed(words[0])
     if code == "line":
-        return no_line(line)
+        return no_line(net, line)
     if code == "F1":
         return f"it is {said(words[0])} already, and time does not go back"
     if code == "F2":
         return no_moment(net, line, int(words[0]), heard)
     if code in ("F3", "S7"):
+        if end := ended(net, line, name):
+            return f"no step is called {name}: write {end}"
         close = near(name, tuple(net.names))
         return f"no step is called {shown(name)}" + (f"; did you mean {shown(close)}?" if close else "")
     if code == "F4":
@@ -69,12 +73,39 @@ def said(moment: str) -> str:
     return Spoken.moment(int(moment)) if moment.isdigit() else moment
 
 
-def no_line(line: str) -> str:
+def ended(net: Network, line: str, name: str) -> str:
+    """How the step is written that a line calls the start or the end of another, as a plan in sentences may; nothing
+    where it does not."""
+    found = re.search(rf" {name} of ([^ ]+)", line) if name in ("start", "end") else None
+    meant = printed(found[1]) + (".end" if name == "end" else "") if found else ""
+    return shown(meant) if meant in net.places else ""
+
+
+def unknown(net: Network, word: str) -> str:
+    """That nobody observes what a word names, and which word may have been meant: a similar one, or that of a step
+    that the word names."""
+    says, words = f"no step observes {word}", {Spoken.word(it): it for it in net.observers}
+    steps = {name.removesuffix(".end"): name for name in net.observed}
+    step = near(word, tuple(steps))
+    if close := near(word, tuple(words)):
+        return f"{says}; did you mean {shown(close)}?"
+    if step:
+        return f"{says}; did you mean {Spoken.word(net.observed[steps[step]])}, which {shown(steps[step])} observes?"
+    return f"{says}; what is observed is {', '.join(map(Spoken.letter, net.observers))}" if words else says
+
+
+def no_line(net: Network, line: str) -> str:
     """Why a line is of no form, as far as its verb tells."""
     verb, *words = line.split(" ")
     if words and re.fullmatch(r"\d{1,3}:[0-5]\d", words[0]):
         return f"{words[0]} is before the start" if Spoken.clock.start is not None else f"{words[0]} is no moment"
-    if NEWER.get(verb) == len(words):
+    place, count = LETTERS.get(verb, (0, 0))
+    if words and len(words) == count and words[0].isdecimal() == (place > 0) and len(words[place]) > 1:
+        return unknown(net, words[place])
+    far = re.search(r" (start|end) of [^ ]+", line)
+    if far and (end := ended(net, line, far[1])):
+        return f"write {end} in place of {far[0].strip()}"
+    if NEWER.fullmatch(line):
         return f"this program has no line `{verb}`"
     form = FORMS.get(verb)
     if form is None:

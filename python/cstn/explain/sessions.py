@@ -4,12 +4,12 @@ import re
 
 from .asking import MOST_TRIED, Asked, kept
 from .conflicts import tell_giving_way
-from .following import EITHER, TYPED, Heard, awaited, rests, stuck, tell_followed
+from .following import Heard, awaited, blamed, not_typed, rests, stuck, tell_followed
 from .networks import Network, ticks
 from .refutations import Refutation, accepted_no
 from .shapes import Data
 from .spoken import Spoken
-from .tries import CHECKS_OF_A_LIMIT, MOST_LIMITS, awaiting, giving_way
+from .tries import CHECKS_OF_A_LIMIT, MOST_LIMITS, Live, awaiting, blamed_without, giving_way
 from .typed import all_in_lines
 
 MOST_TOLD = 12
@@ -57,7 +57,11 @@ def tell_told_again(asked: Asked, heard: Heard, numbers: list[int]) -> tuple[Dat
             return {}, [TOO_MUCH]
         if said:
             return {}, []
-        limits, lines = giving_way(live, values, deadline, asked.later_for(values), asked.net.from_start)
+        limits, lines, vain = giving_way(live, values, deadline, asked.later_for(values), heard.from_start(asked.net))
+        others = blamed_without(live, vain, values[vain]) if vain is not None else []
+        if others:
+            lines += [f"Without {vain} these cannot be met together either:" if len(others) > 1 else
+                      f"Without {vain} this cannot be met either:", *(blamed(asked.net, it, heard) for it in others)]
         waits, more = awaiting(live, heard)
     return {"limits": limits, "waits": waits}, lines + more
 
@@ -120,14 +124,15 @@ class HowFar:
 def answered(asked: Asked, text: str) -> str:
     """Typed lines alone with the answers that `follow` gives to them, where they ask for none with what is next and
     what is to blame; or nothing where they are not such lines. Those with answers of several lines are left out."""
-    lines = [line for line in text.removesuffix("\n").split("\n") if line not in ("by", "check", "rest")]
-    if not all(TYPED.fullmatch(line) or EITHER.fullmatch(line) for line in lines) or lines[0].startswith("> "):
+    if not_typed(text) or text.startswith("> "):
         return ""
-    lines = all_in_lines(lines, Spoken.clock)
+    lines = [line for line in text.split("\n") if line.strip() and line not in ("by", "check", "rest", "cases")]
     lines += [] if any(re.match("(next|by|blame|until|late)", line) for line in lines) else ["next", "blame"]
-    said = asked.answer_at("follow", live="".join(f"{line}\n" for line in lines))[1].split("\n")
-    turns = [f"> {line}\n{answer}\n" for line, answer in zip(lines, said[2:])]
-    return "".join([*(f"{line}\n" for line in said[:2]), *turns]) if len(said) > len(lines) + 2 else ""
+    with Live([asked.program, "follow", asked.path, "--deadline", str(asked.net.deadline)], [], 0) as live:
+        told = all_in_lines(asked.net, lines, Spoken.clock, live.say)
+        end = live.end()
+    turns = [*(f"> {line}\n{answer}\n" for line, answer in told), "done\n" if end == "done" else ""]
+    return "".join([*(f"{line}\n" for line in live.begun), *turns]) if all(answer for _, answer in told) else ""
 
 
 def tell_session(asked: Asked, text: str) -> tuple[int, Data, list[str]]:

@@ -28,7 +28,7 @@ class Clock:
         says = f"{rest // 3600:02d}:{rest % 3600 // 60:02d}"
         if self.start % 60 or self.tick % 60:
             says += f":{rest % 60:02d}"
-        return f"{says} +{days}d" if days > 1 else says
+        return f"{says} +{days}d" if days > 1 or moment * self.tick >= DAY else says
 
     @property
     def unit(self) -> str:
@@ -77,11 +77,22 @@ class Spoken:
 
     clock = Clock()
     words: ClassVar[dict[str, str]] = {}
+    takes_words: ClassVar[bool] = False
+    """Whether the lines of the session may have words and times, so that hints have them too."""
 
     @classmethod
     def moment(cls, tick: int) -> str:
         """A moment in words: where there is a clock its time, and behind it the tick."""
         return str(tick) if cls.clock.start is None else f"{cls.clock.says(tick)} ({tick})"
+
+    @classmethod
+    def awaited(cls, tick: int, letter: str, now: int) -> str:
+        """The line to type by which an outcome is awaited at a moment."""
+        is_near = cls.clock.start is not None and abs(tick - now) * cls.clock.tick < DAY // 2
+        is_whole = is_near and not cls.clock.tick % 60 and not (cls.clock.start or 0) % 60
+        if not cls.takes_words:
+            return f"await {tick} {letter}"
+        return f"await {cls.clock.says(tick).split(' ')[0] if is_whole else tick} {cls.word(letter)}"
 
     @classmethod
     def word(cls, letter: str) -> str:

@@ -11,6 +11,8 @@ from .spoken import Spoken
 
 MOST_LIMITS = 12
 CHECKS_OF_A_LIMIT = 23
+GREATEST = 1000001
+"""A limit of this value limits nothing."""
 
 
 class Live:
@@ -20,8 +22,7 @@ class Live:
         self.child = subprocess.Popen(words, stdin=subprocess.PIPE, stdout=subprocess.PIPE, stderr=subprocess.DEVNULL)
         assert self.child.stdin and self.child.stdout
         self.typed, self.answers, self.now = self.child.stdin, self.child.stdout, now
-        self.read()
-        self.read()
+        self.begun = [self.read(), self.read()]
         for line in lines:
             self.say(line)
 
@@ -29,10 +30,15 @@ class Live:
         return self
 
     def __exit__(self, *_: object) -> None:
-        self.child.communicate()
+        if self.child.returncode is None:
+            self.child.communicate()
 
     def read(self) -> str:
         return self.answers.readline().decode().rstrip("\n")
+
+    def end(self) -> str:
+        """Ends the session; its last line."""
+        return self.child.communicate()[0].decode(errors="replace").rstrip("\n")
 
     def say(self, line: str) -> str:
         """What is answered to a line that has one line as its answer; nothing where the session is over."""
@@ -153,15 +159,25 @@ def instead_at_least(found: Least, is_moment: bool) -> str:
 
 
 def giving_way(live: Live, values: dict[int, int], deadline: int, later: int | None,
-               moments: set[int]) -> tuple[list[Data], list[str]]:
-    """How far each limit would have to give way, as data and in words; `moments` are those that count from the
-    start."""
-    found, lines = [], []
+               moments: set[int]) -> tuple[list[Data], list[str], int | None]:
+    """How far each limit would have to give way, as data and in words; `moments` are those that count from the start.
+    Behind them the first limit without which there is still a no, or none."""
+    found, lines, vain = [], [], None
     for it in least_values(live, values, deadline, later):
         found.append(it.data())
+        vain = it.number if vain is None and it.said is False and it.least is None and it.value > 0 else vain
         stays = ", if all else stays" if it.least is not None else ""
-        lines.append(f"{it.number}: {instead(it, deadline, it.number in moments)}{stays}")
-    return found, lines + untried(values)
+        to_type = f": `change {it.number} {it.least}`" if it.least is not None and not it.is_later else ""
+        lines.append(f"{it.number}: {instead(it, deadline, it.number in moments)}{stays}{to_type}")
+    return found, lines + untried(values), vain
+
+
+def blamed_without(live: Live, number: int, value: int) -> list[int]:
+    """What is to blame if a limit limits nothing; it has its own value again afterwards."""
+    live.say(f"change {number} {GREATEST}")
+    said = re.fullmatch(r"blame((?: \d+)+)", live.say("blame"))
+    live.say(f"change {number} {value}")
+    return [int(it) for it in said[1].split()] if said else []
 
 
 def awaiting(live: Live, heard: Heard) -> tuple[list[Data], list[str]]:
@@ -180,6 +196,6 @@ def awaiting(live: Live, heard: Heard) -> tuple[list[Data], list[str]]:
         live.say(f"await {moment} {letter}")
         if latest is not None:
             found.append({"letter": letter, "awaited": moment, "latest": latest})
-            lines.append(f"or `await {latest} {letter}` in place of `await {moment} {letter}`, if {letter} will be "
-                         "known by then")
+            instead_of, then = (Spoken.awaited(it, letter, heard.now) for it in (moment, latest))
+            lines.append(f"or `{then}` in place of `{instead_of}`, if {Spoken.letter(letter)} will be known by then")
     return found, lines

@@ -1,8 +1,11 @@
 """Lines of `follow` as people type them: with times of the clock, words for letters, and names in quotes."""
 import re
+from collections.abc import Callable, Collection
 
 from ..said import name_of
+from .following import Heard
 from .names import typed
+from .networks import Network
 from .spoken import DAY, Clock, Spoken
 
 WORD = re.compile(r'"[^"]*"|[^ ]+')
@@ -14,35 +17,40 @@ OF_LETTERS = {"saw": 1, "await": 1, "late": 0}
 """The place of the letter behind the verb."""
 
 
-def in_lines(line: str, now: int, clock: Clock) -> str:
-    """A line as `follow` takes it. A time of the clock is the one next to now, and for what is to come the next one;
-    where there is no clock it counts from the start, in minutes. What can't be read so stays as it is."""
+def in_lines(line: str, now: int, clock: Clock, from_start: Collection[int] = ()) -> str:
+    """A line as `follow` takes it. A time of the clock is the one next to now, and for what is to come, as a limit that
+    counts from the start, the next one; where there is no clock it counts from the start, in minutes. What can't be
+    read so stays as it is."""
     verb, *words = WORD.findall(line) or [""]
     if verb == "try" and words:
-        return f"try {in_lines(line.split(' ', 1)[1], now, clock)}"
+        return f"try {in_lines(line.split(' ', 1)[1], now, clock, from_start)}"
     if verb in (*FACTS, "deadline") and words:
         words[0] = moment_of(words[0], now, clock, verb in TO_COME)
     if verb == "change" and len(words) == 2:
-        words[1] = span_of(words[1])
+        is_moment = words[0].isdecimal() and int(words[0]) in from_start
+        words[1] = bound_of(words[1], now, clock) if is_moment else span_of(words[1])
     place = OF_LETTERS.get(verb)
     if place is not None and len(words) > place:
         words[place] = letter_of(words[place])
     if verb == "add" and len(words) >= 3:
-        size = words[2].removeprefix("-")
-        if "Z" in words[:2] and CLOCK.fullmatch(size):
-            words[2] = words[2].replace(size, moment_of(size, now, clock, True))
-        words[2:] = [span_of(words[2]), label_of(words[3:])]
+        bound = bound_of(words[2], now, clock) if "Z" in words[:2] else span_of(words[2])
+        words[2:] = [bound, label_of(words[3:])]
     return " ".join([verb, *(typed(name_of(it)) if it.startswith('"') else it for it in words)])
 
 
-def all_in_lines(lines: list[str], clock: Clock) -> list[str]:
-    """The lines of a session as `follow` takes them."""
-    now, found = 0, []
+def all_in_lines(net: Network, lines: list[str], clock: Clock, say: Callable[[str], str]) -> list[tuple[str, str]]:
+    """The lines of a session as `follow` takes them, each with its answer, which `say` asks for."""
+    heard, found = Heard(), []
     for line in lines:
-        found.append(in_lines(line, now, clock))
-        fact = re.match(r"(?:did|saw|now) (\d{1,7})\b", found[-1])
-        now = max(now, int(fact[1])) if fact else now
+        taken = in_lines(line, heard.now, clock, heard.from_start(net))
+        found.append((taken, say(taken)))
+        heard.take(*found[-1])
     return found
+
+
+def has_moments(lines: list[str]) -> bool:
+    """Whether what some lines mean hangs on the limits that others put in: a limit is changed to a time."""
+    return any(re.fullmatch(r"(?:try )?change \d+ -?\d{1,3}:[0-5]\d", line) for line in lines)
 
 
 def moment_of(word: str, now: int, clock: Clock, is_to_come: bool) -> str:
@@ -57,6 +65,12 @@ def moment_of(word: str, now: int, clock: Clock, is_to_come: bool) -> str:
     first = ((60 * minutes - clock.start) % DAY) // clock.tick
     days = -((first - now) // day) if is_to_come else round((now - first) / day)
     return str(first + day * days) if first + day * days >= 0 else word
+
+
+def bound_of(word: str, now: int, clock: Clock) -> str:
+    """The ticks of a limit that counts from the start, from a time with its sign."""
+    size = word.removeprefix("-")
+    return word[: len(word) - len(size)] + moment_of(size, now, clock, True)
 
 
 def span_of(word: str) -> str:
