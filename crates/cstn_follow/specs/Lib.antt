@@ -16,6 +16,7 @@ pub mod Sessions
 pub mod Copied
 pub mod Replans
 pub mod Forgiving
+pub mod Stepping
 pub mod Answers
 -- Sessions that follow what happens in lines.
 pub mod Following
@@ -27,6 +28,7 @@ pub mod Amending
 pub mod Questions
 pub mod Searches
 pub mod ForgivingLines
+pub mod StepLines
 pub mod Asking
 pub mod Further
 pub mod Hearing

@@ -39,3 +39,14 @@ pub enum RestError {
     #[error("out of memory")]
     Memory(AllocError),
 }
+
+impl From<AllocError> for RestError {
+    ghost use Rattle.std.specs.Prelude.{◌≡◌};
+    ghost use Rattle.cstn_history.specs.declared.errors.RestError.TheVariants.{Memory};
+
+    ghost from_gives = { λ x e. e ≡ Memory x };
+
+    fn from(error: AllocError) -> RestError {
+        RestError::Memory(error)
+    }
+}

@@ -25,14 +25,15 @@ use cstn_net::{
 };
 use std::alloc::{AllocError, Global};
 
-// The time-points that are left, and the number of each time-point among them.
+/// The time-points that are left, and the number of each time-point among them.
 #[derive(Drop)]
-struct Left {
-    points: Vec<NodeId>,
+pub(crate) struct Left {
+    pub(crate) points: Vec<NodeId>,
     numbers: Vec<u16>,
 }
 
-fn left_of(alloc: Global, network: &Labelled, history: &History) -> Result<Left, AllocError>
+/// The time-points that are left.
+pub(crate) fn left_of(alloc: Global, network: &Labelled, history: &History) -> Result<Left, AllocError>
     requires kept { IsKeptFor (the_labelled network.now) history.now }
     ensures points { IfOk result (λ l. map (λ x. x.0) l.points.items ≡ left (the_labelled network.now) (the_history history.now)) }
     ensures numbers { IfOk result (λ l. AreNumbers (the_labelled network.now) (the_history history.now) l.numbers.items) }
@@ -99,8 +100,8 @@ fn push_some(kept: &mut Vec<Constraint>, c: Option<Constraint>) -> Result<(), Al
     Ok(())
 }
 
-// The labels that are left.
-fn labels_left(
+/// The labels that are left.
+pub(crate) fn labels_left(
     alloc: Global,
     network: &Labelled,
     history: &History,
@@ -142,8 +143,8 @@ fn points_left(
     }
 }
 
-// The refusal that a builder's error stands for, which is want of memory.
-fn error_of(error: NetError) -> RestError
+/// The refusal that a builder's error stands for, which is want of memory.
+pub(crate) fn error_of(error: NetError) -> RestError
     ensures memory { net_number error ≡ 0 → rest_number result ≡ 0 }
 {
     match error {
@@ -152,8 +153,8 @@ fn error_of(error: NetError) -> RestError
     }
 }
 
-// Adds the time-points that are left, with what they observe and their reactions.
-fn add_points(
+/// Adds the time-points that are left, with what they observe and their reactions.
+pub(crate) fn add_points(
     builder: &mut Builder,
     network: &Labelled,
     history: &History,
@@ -212,8 +213,8 @@ fn reaction_left(network: &Labelled, history: &History, x: NodeId, p: Prop) -> u
     }
 }
 
-// Puts these constraints in behind those of the network.
-fn insert_all(net: &mut Network, more: &[Constraint])
+/// Puts these constraints in behind those of the network.
+pub(crate) fn insert_all(net: &mut Network, more: &[Constraint])
     requires room { length more.now ≤ net.old.spare }
     requires fit { AreConstraintsFor (the_network net.old) (map the_constraint (net.old.constraints ++ more.now)) }
     ensures inserted { net.new.constraints ≡ net.old.constraints ++ more.now }
@@ -305,8 +306,8 @@ pub fn rest(
     }
 }
 
-// The refusal that a fault stands for, which is want of memory or that there are too many constraints.
-fn refusal_of(fault: LiftError) -> RestError
+/// The refusal that a fault stands for, which is want of memory or that there are too many constraints.
+pub(crate) fn refusal_of(fault: LiftError) -> RestError
     ensures memory { lift_number fault ≡ 0 → rest_number result ≡ 0 }
     ensures constraints { lift_number fault ≢ 0 → result ≡ RestError.TooManyConstraints }
 {
