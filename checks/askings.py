@@ -3,6 +3,7 @@
 The sessions stand in askings.txt. Each answer of theirs that is about moments is the decider's too; the program, where it has all
 lines, says each to the byte. Lines that it lacks it refuses by their number.
 """
+import hashlib
 import os
 import random
 import re
@@ -121,6 +122,18 @@ def worked_by_program(folder):
             check(f"{name}, up to line {len(said)}", run(["follow", *words], live)[1].decode().rpartition("\n")[0].rpartition("\n")[0] + "\n", wanted)
     for (name, *more), status, rows in trees if has_cases() else []:
         case(f"the tree of {name} {more}", ["cases", os.path.join(TOP, "examples", name), *more], status, "".join(f"{row}\n" for row in rows))
+
+
+def digests(folder):
+    """A plan is told by the SHA-256 of what `save` writes, before an edit and after it, and whatever has happened."""
+    if "digest" not in lines_had(folder):
+        return
+    for name, source, _, _, _ in read_table()[0]:
+        words, _ = source_of(folder, source)
+        wanted = hashlib.sha256(run(["save", *words])[1]).hexdigest()
+        said = run(["follow", *words], "digest\nnow 1\ndeadline 999\ndeadline 1000\ndigest\n")[1].decode().split("\n")
+        after = hashlib.sha256(run(["save", words[0], "--deadline", "1000"])[1]).hexdigest()
+        check(f"{name}, its digests", [line for line in said if line.startswith("digest ")], [f"digest {wanted}", f"digest {after}"])
 
 
 def has_cases():

@@ -141,8 +141,7 @@ def dear_forms(folder):
     wide = folder.put("wide", steps_with_outcomes(200, 10))
     check("dear: a tree that is too large for words", explained("--tree", wide)[:2], (10, (
         "The plan can be carried out, and has up to 1024 ways, by 10 outcomes, which are too many for words: "
-        "`./cstn tree` writes them, of the copy of `./cstn explain --plain FILE` if FILE has labels on time-points."
-        "\n")))
+        "`./cstn cases FILE` writes them.\n")))
     chased = folder.put("chased", compact(["Z", "X"], ["X->X -1"], '<data key="Deadline">60000</data>'))
     check("dear: turns", explained(chased, "-", "--only", live=run(["check", chased])[1])[0], GOOD)
     visit = os.path.join(TOP, "examples", "test-and-visit.graphml")
@@ -191,15 +190,13 @@ def hidden(folder):
 def hidden_in_a_plan(plan, name):
     """A name of a plan in each form of what is said of it."""
     no, tree = run(["check", plan])[1], b"yes 1\nat 0 Z\nat 1 %58\n"
-    forms = [(form, plan) for form in ("--json", "--plain", "--conflict", "--tight", "--tree")]
+    forms = [(form, plan) for form in ("--json", "--conflict", "--tight", "--tree")]
     answers = [(plan, it) for it in (f"next 5 do {printed(name)}", f"by 5 {printed(name)}x", "blame 0 1")]
     for words in ((plan,), *forms, *answers, (plan, "-", "no"), (plan, "-", "tree")):
         found = explained(*words[:2], live=no if words[-1] == "no" else tree)
         check(f"a name on a screen: {name!r} {words[0][:9]} {words[1:]}", obeyed(*found[1:]), [])
     points = json.loads(explained("--json", plan)[1])["time_points"]
     check(f"a name as data: {name!r}", [it["name"] for it in points], ["Z", name, f"X{name}"])
-    copied = run(["save", "/dev/stdin"], explained("--plain", plan)[1])[1].split(b"\n")
-    check(f"a name that is copied: {name!r}", copied[5:6], run(["save", plan])[1].split(b"\n")[5:6])
     judged = called(REPLAY, plan, "-", live=no.replace(b"0 base", f"0 base {name}".encode()))
     check(f"a step on a screen: {name!r}", (judged[0], obeyed(*judged[1:])), (SCRIPT, []))
 
@@ -306,7 +303,7 @@ def odd_files(folder):
     found = called((sys.executable, "-B", "-c", NOWHERE, os.path.join(TOP, "python")), "/dev/stdin", live=text)
     check("no folder for a copy, in words", (found[0], found[2].count("\n")), (WORDS, 1))
     for coding in ("ascii", "latin-1", "utf-8"):
-        for words in ((visit,), ("--json", visit), ("--plain", visit), (visit, answer)):
+        for words in ((visit,), ("--json", visit), (visit, answer)):
             found = explained(*words, PYTHONIOENCODING=coding, LC_ALL="C")
             check(f"written as {coding}: {words[0][:9]}", (found[0], "Traceback" in found[2]), (GOOD, False))
     for name, word in (("a moment", "next {}"), ("an id", "blame {}"), ("a step", "by {} Visit"),
@@ -317,8 +314,6 @@ def odd_files(folder):
     found = explained(visit, folder.put("p", late), "--deadline", "9", "--only")
     said = "PROOF has lines that end with CR and LF"
     check("CR and LF in PROOF", (found[0], found[1].partition(",")[0]), (BAD, said))
-    path = folder.put("f", text.replace(b"</edge>", b"</edge><!-- 0: for the label of Visit; do not -->"))
-    check("a comment as in a plain copy", "for a label of the document" in explained(path)[1], False)
 
 
 def drawn(folder):

@@ -334,6 +334,8 @@ DEAR = (
     ("8 MB of words that stand for no letter",
      "deadline 9\nstep X\n" + f"X by 5 if {' and '.join(f'w{n}' for n in range(400))}\n" * 2_390, 5),
     ("8 MB of steps", "deadline 9\n" + "".join(f"step {'x' * 40}{number}\n" for number in range(160_000)), 5),
+    ("8 MB of short rules", "deadline 9\nstep X\n" + "X by 9\n" * 1_198_000, 5),
+    ("8 MB of short tasks", "deadline 9\n" + "".join(f"task T{number} 1\n" for number in range(540_000)), 5),
 )
 
 

@@ -143,6 +143,58 @@ def correct(tally, board, browser):
     tally.check("the edits among what was told", verdicts.count(None), 1)
 
 
+def broken(tally, browser):
+    """Until when nothing need happen, whether a fact would fit before it is told, how late a result may be after a
+    "no", and what is broken given up."""
+    with Served([PATHWAY]) as board:
+        browser.open(board.url)
+        browser.click("the plan", "[data-plan] button")
+        verdict(browser, "yes")
+        browser.says("until when nothing need happen", "#until", "15")
+        it_is(browser, "5")
+        page = board.page("clinical-pathway")
+        did(browser, page, "Sample")
+        browser.says("until when nothing need happen", "#until", "95")
+        browser.says("what cannot wait longer", "#until", "longer: Antibiotic, result i.")
+        dialog(browser, f"[data-step='{step(page, 'Antibiotic')}']", "80")
+        browser.says("what a step waits for", "dialog .fits", "would wait for i")
+        browser.click("the dialog closes", "dialog .buttons button:last-child")
+        late_for_good(tally, browser)
+        dialog(browser, "[data-letter='i']", "45", "true")
+        browser.wait("whether it would fit", "dialog [data-fits='yes']")
+        tell(browser)
+        it_is(browser, "112")
+        verdict(browser, "no")
+        browser.gone("what is broken, before it is", "#broken")
+        did(browser, page, "Antibiotic")
+        browser.says("what is broken", "#broken", "Antibiotic at most 90 ticks after Sample")
+        browser.says("what is left without it", "#broken", "fits again")
+        look(tally, browser, "broken")
+        browser.click("it is given up", "[data-act='forgive']")
+        verdict(browser, "yes")
+        browser.says("what was given up", "#history", "given up, since broken: Antibiotic at most 90")
+        limits = {it["id"]: it["state"] for it in board.page("clinical-pathway")["limits"]}
+        tally.check("the limit that was broken", [it for it in limits.items() if it[1]], [(2, "removed")])
+        lines = board.ask(f"api/plans/{page['id']}/journal")[1]
+        tally.check("what was given up in the journal", lines.split("\n")[-2], "forgive")
+        tally.check("the console", browser.console(), [])
+
+
+def late_for_good(tally, browser):
+    """A result is told to come too late: by when it would have to come."""
+    dialog(browser, "[data-letter='i']", "95", "late")
+    browser.wait("whether it would fit", "dialog [data-fits='yes']")
+    browser.type("#ask-at", "100")
+    browser.wait("whether it would fit", "dialog [data-fits='no']")
+    browser.picture("would-it-fit")
+    tell(browser)
+    verdict(browser, "no")
+    browser.says("by when the result would have to come", "#no [data-late='i']", "come by 95")
+    look(tally, browser, "too-late")
+    browser.click("it comes earlier", "[data-act='come-by']")
+    verdict(browser, "yes")
+
+
 def journal(tally, board):
     """The journal's file is what `follow` takes, to the end."""
     status, lines, headers = board.ask(f"api/plans/{board.plans()['clinical-pathway']}/journal")
@@ -213,7 +265,8 @@ def keyboard(tally, browser):
 
 
 def focus(browser):
-    return browser.run("const it = document.activeElement; return it.ariaLabel || it.innerText || it.tagName")
+    return browser.run("const it = document.activeElement; const own = it.matches('input, select') && it.dataset.key; "
+                       "return it.ariaLabel || own || it.innerText || it.tagName")
 
 
 def reach(browser, keys, label):

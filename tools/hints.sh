@@ -108,7 +108,7 @@ lines_of() {
   case $1 in
     run) echo "moment T, see P true, see P false, due" ;;
     edit) echo "add FROM TO W LABEL (LABEL is - or as in p!q, never with ¬; W is from -1000000000 to 1000000000 and has no +; a space in a name is %20), remove ID, change ID W, check" ;;
-    follow) echo "did T NAME NAME .. (done at T), saw T P true, saw T P false (an outcome at T), now T, await T P (expected at T), next, by NAME, by, until, late P, raise ID, least, verdict, check, blame, rest, try LINE, mark, back, cap N, deadline N, forgive, and add FROM TO W LABEL, remove ID, change ID W" ;;
+    follow) echo "did T NAME NAME .. (done at T), saw T P true, saw T P false (an outcome at T), now T, await T P (expected at T), expect T NAME (not before T), next, by NAME, by, until, late P, raise ID, least, verdict, check, blame, rest, try LINE, mark, back, cap N, deadline N, forgive, step NAME, digest, and add FROM TO W LABEL, remove ID, change ID W" ;;
     host) echo "open ID K, on ID moment T, on ID see P true, on ID see P false, on ID due, close ID" ;;
   esac
 }
@@ -128,24 +128,6 @@ tell_live() {
   say "$1 takes the lines $(lines_of "$1")"
   say "an answer \`refused ..\` changes nothing${meanings:+: $meanings} (what to do: docs/guide.md, \"Every refusal\")"
   [ "$1" != follow ] || say "./cstn explain --follow FILE takes times as 22:14, words for letters and quoted names, and answers in words"
-}
-
-# Says of a copy that ./cstn explain --plain wrote `warning`.
-tell_copy() {
-  [ -f "$1" ] && head -n 5 -- "$1" | grep -qF '<!-- A copy without labels on time-points' || return 0
-  say "$(shown "$1") is a copy without labels, and $warning"
-}
-
-# Of such copies that they are none to be carried out, and, at a terminal, what not to edit in them.
-tell_copies() {
-  case $1 in
-    edit)
-      [ -t 0 ] || return 0
-      warning="has edges that stand there for a label. Do not remove or change their ids: the document has no such constraint"
-      ;;
-    *) warning="names time-points also where their labels do not hold. Do not carry it out: run or follow the document itself" ;;
-  esac
-  each_file tell_copy "$@"
 }
 
 # What a line, or PROOF, is not.
@@ -199,11 +181,11 @@ ask_save() {
 # What a command says that takes no labels on time-points.
 labels_of() {
   case $1 in
-    conflict) echo "conflict takes no labels on time-points; ./cstn explain --conflict FILE asks it of a copy without them, and tells the answer with the lines of FILE" ;;
+    conflict) echo "conflict takes no labels on time-points; ./cstn explain --conflict FILE does, and tells the answer with the lines of FILE" ;;
     edit) echo "edit takes no labels on time-points; follow has the same edits, and takes them" ;;
     host) echo "host takes no labels on time-points; carry out such a document by run, once for each plan" ;;
-    tree) echo "tree takes no labels on time-points; ./cstn explain --plain FILE writes a copy without them, to be checked and edited; ./cstn explain --tree FILE says its tree in words" ;;
-    *) echo "$1 takes no labels on time-points; ./cstn explain --plain FILE writes a copy without them, to be checked and edited" ;;
+    tree) echo "tree takes no labels on time-points; cases does, and writes such a tree; ./cstn explain --tree FILE says it in words" ;;
+    *) echo "$1 takes no labels on time-points; docs/guide.md says under \"Labels on time-points\" which commands do" ;;
   esac
 }
 
@@ -259,6 +241,6 @@ tell_status() {
     7) say "memory was refused; a smaller --cap takes less" ;;
     8) say "the lines ended before everything was executed. Begin again, say the lines that were accepted, and go on" ;;
     9) tell_lines "$1" ;;
-    10) say "too many propositions are observed for a tree; closed and run take the document" ;;
+    10) say "there are too many cases for a tree; closed and run take the document" ;;
   esac
 }

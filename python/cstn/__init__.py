@@ -13,12 +13,14 @@ Moments are ticks, or aware datetimes with a `Clock`. Each name below has a docs
 
 - A plan: `Plan.load(path)` reads a document, or a plan in sentences; `Plan.read` and `Plan.of_sentences` take bytes or
   a text. It has `Step`s and `Limit`s, and `check()` answers a `Verdict`: YES, NO, or UNKNOWN at its cap.
-- What happens: `Did`, `Saw`, `Expect` and `Now` are facts, `Add`, `Change` and `Deadline` edits. With a `key`, the
-  sender's own, an event that is told twice counts once.
+- What happens: `Did`, `Saw`, `Expect`, `NotBefore` and `Now` are facts, `Add`, `AddStep`, `Change`, `Deadline` and
+  `Forgive` edits. With a `key`, the sender's own, an event that is told twice counts once.
 - Carrying it out: a `Follower` over a plan and a journal. `tell` (or `did`, `saw`, `now`) answers a `Receipt` once the
-  event is kept; `correct` puts another event in its place. `next`, `verdict`, `by` and `late` ask one thing, `outlook`
-  all that a screen shows. After a "no", `blame` and `blamed_sets` name limits, and `ways_out` numbers that would do.
-  `what_if` is a copy for trials, `rest` a document of what is left, `history` what was told.
+  event is kept; `correct` puts another event in its place. `next`, `verdict`, `by`, `until` and `late` ask one thing,
+  `outlook` all that a screen shows. After a "no", `blame` and `blamed_sets` name limits, `ways_out`, `give_way` and
+  `least_deadline` numbers that would do, and `forgive` goes on without the limits that were broken. `attempt` is the
+  verdict if an event were told, `what_if` a copy for trials, `cases` how it goes on in each case, `rest` a document of
+  what is left, `digest` says which plan it is, and `history` has what was told.
 - Many plans: a `Host` over a store. `SqliteStore` comes with it, `cstn.postgres.PostgresStore` is for many machines; a
   `Journal` of your own has two calls. `cstn.aio` has the same for `asyncio`, `cstn.sweep` checks many variants.
 - What goes wrong is a `CstnError`. `Refused` is about the event: `Unknown`, `NotYet`, `Contradicts`, `OutOfRange`,
@@ -31,7 +33,7 @@ from cstn.answers import Can, Done, Next, Verdict
 from cstn.clock import Clock
 from cstn.errors import (BadDocument, Busy, Changed, Contradicts, CstnError, Moved, NoProgram, NotKept, NotYet,
                          OutOfRange, OutOfTime, Refused, TooMany, Unavailable, Unknown, WaitsFor, WrongType)
-from cstn.events import Add, Change, Deadline, Did, Event, Expect, Now, Saw
+from cstn.events import Add, AddStep, Change, Deadline, Did, Event, Expect, Forgive, NotBefore, Now, Saw
 from cstn.follower import Follower, Receipt, Trial
 from cstn.host import Host
 from cstn.journal import Journal, MemoryJournal, Store
@@ -40,10 +42,12 @@ from cstn.plan import Limit, Plan, Step
 from cstn.session import Standing, Telling
 from cstn.sqlite import SqliteJournal, SqliteStore
 from cstn.state import Seen
+from cstn.ways import Way
 
 __all__ = [
-    "Add", "Awaited", "BadDocument", "Busy", "Can", "Change", "Changed", "Clock", "Contradicts", "CstnError",
-    "Deadline", "Did", "Done", "Event", "Expect", "Fallen", "Follower", "Host", "Journal", "Late", "Limit",
-    "MemoryJournal", "Moved", "Next", "NoProgram", "NotKept", "NotYet", "Now", "OutOfRange", "OutOfTime", "Outlook",
-    "Plan", "Receipt", "Refused", "Saw", "Seen", "SqliteJournal", "SqliteStore", "Standing", "Step", "Store", "Telling",
-    "TooMany", "Trial", "Unavailable", "Unknown", "Verdict", "Waiting", "WaitsFor", "WayOut", "WrongType"]
+    "Add", "AddStep", "Awaited", "BadDocument", "Busy", "Can", "Change", "Changed", "Clock", "Contradicts",
+    "CstnError", "Deadline", "Did", "Done", "Event", "Expect", "Fallen", "Follower", "Forgive", "Host", "Journal",
+    "Late", "Limit", "MemoryJournal", "Moved", "Next", "NoProgram", "NotBefore", "NotKept", "NotYet", "Now",
+    "OutOfRange", "OutOfTime", "Outlook", "Plan", "Receipt", "Refused", "Saw", "Seen", "SqliteJournal",
+    "SqliteStore", "Standing", "Step", "Store", "Telling", "TooMany", "Trial", "Unavailable", "Unknown", "Verdict",
+    "Waiting", "WaitsFor", "Way", "WayOut", "WrongType"]

@@ -17,11 +17,12 @@ from cstn.answers import Done, Next, Verdict
 from cstn.clock import Clock
 from cstn.errors import Refused
 from cstn.events import Event, Moment
-from cstn.follower import Follower, Receipt
+from cstn.follower import Follower, Receipt, Trial
 from cstn.host import Host
 from cstn.outlook import Late, Outlook, WayOut
 from cstn.plan import Plan
 from cstn.session import Telling
+from cstn.ways import Way
 
 Arguments = ParamSpec("Arguments")
 Found = TypeVar("Found")
@@ -43,8 +44,8 @@ class AsyncFollower:
     def __init__(self, follower: Follower, executor: Executor | None = None) -> None:
         self.follower, self.threads = follower, Threads(executor)
 
-    async def tell(self, event: Event, *, wait: bool = True, expect: int | None = None) -> Receipt:
-        return await self.threads.run(self.follower.tell, event, wait=wait, expect=expect)
+    async def tell(self, event: Event, *, wait: bool = True, keep: bool = False, expect: int | None = None) -> Receipt:
+        return await self.threads.run(self.follower.tell, event, wait=wait, keep=keep, expect=expect)
 
     async def tell_all(self, events: Iterable[Event]) -> list[Receipt | Refused]:
         return await self.threads.run(self.follower.tell_all, list(events))
@@ -57,6 +58,15 @@ class AsyncFollower:
 
     async def now(self, at: Moment) -> Receipt:
         return await self.threads.run(self.follower.now, at)
+
+    async def not_before(self, step: str, at: Moment, key: str | None = None) -> Receipt:
+        return await self.threads.run(self.follower.not_before, step, at, key)
+
+    async def add_step(self, step: str, key: str | None = None) -> Receipt:
+        return await self.threads.run(self.follower.add_step, step, key)
+
+    async def forgive(self, key: str | None = None) -> Receipt:
+        return await self.threads.run(self.follower.forgive, key)
 
     async def correct(self, key: str, instead: Event | None = None, *, expect: int | None = None,
                       own_key: str | None = None) -> Receipt:
@@ -83,8 +93,32 @@ class AsyncFollower:
     async def ways_out(self, *, seconds: float = 60.0) -> tuple[WayOut, ...]:
         return await self.threads.run(self.follower.ways_out, seconds=seconds)
 
+    async def give_way(self, limit: int) -> WayOut | None:
+        return await self.threads.run(self.follower.give_way, limit)
+
+    async def least_deadline(self) -> int | None:
+        return await self.threads.run(self.follower.least_deadline)
+
+    async def until(self) -> int | None:
+        return await self.threads.run(self.follower.until)
+
+    async def latest(self) -> dict[str, int]:
+        return await self.threads.run(self.follower.latest)
+
     async def late(self, letter: str) -> Late:
         return await self.threads.run(self.follower.late, letter)
+
+    async def attempt(self, event: Event, *, now: Moment | None = None) -> Verdict:
+        return await self.threads.run(self.follower.attempt, event, now=now)
+
+    async def use_cap(self, cap: int) -> Verdict:
+        return await self.threads.run(self.follower.use_cap, cap)
+
+    async def cases(self) -> tuple[Way, ...]:
+        return await self.threads.run(self.follower.cases)
+
+    async def digest(self) -> str:
+        return await self.threads.run(self.follower.digest)
 
     async def rest(self) -> bytes:
         return await self.threads.run(self.follower.rest)
@@ -95,9 +129,9 @@ class AsyncFollower:
     async def history(self) -> tuple[Telling, ...]:
         return await self.threads.run(self.follower.history)
 
-    async def what_if(self) -> AsyncFollower:
+    async def what_if(self) -> AsyncTrial:
         """A copy, to be used with `async with`."""
-        return AsyncFollower(await self.threads.run(self.follower.what_if), self.threads.executor)
+        return AsyncTrial(await self.threads.run(self.follower.what_if), self.threads.executor)
 
     async def close(self) -> None:
         await self.threads.run(self.follower.close)
@@ -107,6 +141,20 @@ class AsyncFollower:
 
     async def __aexit__(self, *_: object) -> None:
         await self.close()
+
+
+class AsyncTrial(AsyncFollower):
+    """A `Trial` whose calls are awaited."""
+
+    def __init__(self, trial: Trial, executor: Executor | None = None) -> None:
+        super().__init__(trial, executor)
+        self.trial = trial
+
+    async def mark(self) -> int:
+        return await self.threads.run(self.trial.mark)
+
+    async def back(self) -> int:
+        return await self.threads.run(self.trial.back)
 
 
 class AsyncHost:
@@ -124,8 +172,8 @@ class AsyncHost:
     async def follower(self, name: str) -> AsyncFollower:
         return AsyncFollower(await self.threads.run(self.host.follower, name), self.threads.executor)
 
-    async def due(self, at: int | None = None) -> list[tuple[str, Next | Verdict]]:
-        return await self.threads.run(self.host.due, at)
+    async def due(self, at: int | None = None, *, of: Iterable[str] | None = None) -> list[tuple[str, Next | Verdict]]:
+        return await self.threads.run(self.host.due, at, of=of)
 
     async def close(self) -> None:
         await self.threads.run(self.host.close)

@@ -10,13 +10,16 @@ import weakref
 from typing import NoReturn
 
 from cstn import program as programs
-from cstn.answers import Answer, Can, Verdict, is_taken, parse
-from cstn.errors import OutOfTime, Unavailable
+from cstn.answers import Answer, Can, Marks, Refusal, Until, Verdict, Wide, is_taken, parse
+from cstn.errors import NoProgram, OutOfTime, Unavailable
 
 LONGEST_LINE = 4096
 LONGEST_ANSWER = 200000
 LAST = re.compile(r"memory|read fault|words|script .*|unfinished .*")
 """What the program writes last, where it ends."""
+NEWER = re.compile(r"verdict|until|late [A-Za-z]|raise \d+|least|forgive|cap \d+|mark|back|digest|"
+                   r"expect \d+ [^ ]+|step [^ ]+")
+"""Lines that only an older program refuses as being of no form."""
 
 
 class Child:
@@ -28,8 +31,8 @@ class Child:
 
     def __init__(self, document: bytes, deadline: int | None = None, *, cap: int = programs.CAP,
                  seconds: float = programs.SECONDS, program: str | None = None) -> None:
-        self.cap = cap
-        self.seconds = seconds * max(1.0, cap / programs.CAP) ** 1.5
+        self.usual, self.program = seconds, program
+        self.limit(cap)
         self.buffer = b""
         with programs.in_memory(document) as file:
             words = [programs.find(program), "follow", f"/proc/self/fd/{file}", *programs.options(deadline, cap)]
@@ -95,6 +98,9 @@ class Child:
         self.write(line)
         text = self.line()
         answer = self.parsed(line, text)
+        if isinstance(answer, Refusal) and answer.code == "line" and NEWER.fullmatch(line):
+            self.close()
+            raise NoProgram(f"the program has no line `{line.split(' ')[0]}`: it is older than this package")
         if line == "check" and isinstance(answer, Verdict) and answer.can is Can.NO:
             while self.line() != "end":
                 pass
@@ -112,8 +118,46 @@ class Child:
 
     def verdict(self) -> Verdict:
         """The verdict as it stands, also after an edit, without a refutation."""
-        answer = self.ask("next")
-        return answer if isinstance(answer, Verdict) else Verdict(Can.YES)
+        answer = self.ask("verdict")
+        assert isinstance(answer, Verdict)
+        return answer
+
+    def all_until(self) -> dict[str, int] | Verdict:
+        """Until when each step that is left can wait, one at a time; the verdict after a "no", and where it is
+        unknown."""
+        self.write("by")
+        found: dict[str, int] = {}
+        while (text := self.line()) != "end":
+            answer = self.parsed(f"by {text.rsplit(' ', 1)[-1]}" if text.startswith("by ") else "by", text)
+            if not isinstance(answer, Until):
+                return answer if isinstance(answer, Verdict) else self.fail(f"by was answered {text[:200]!r}")
+            found[answer.step] = answer.at
+        return found
+
+    def cases(self) -> list[str] | Verdict | Wide:
+        """The lines of a tree that says how the plan goes on, by case: of the command `cases` over what is left. After
+        a "no" and where it is unknown the verdict."""
+        return programs.cases(self.rest(), None, self.cap, seconds=self.seconds, program=self.program)
+
+    def mark(self) -> bool:
+        """Sets a mark, to which `back` leads back; not where eight are set."""
+        return isinstance(self.ask("mark"), Marks)
+
+    def back(self) -> bool:
+        """Leads back to where the last mark was set; not where none is."""
+        return isinstance(self.ask("back"), Marks)
+
+    def limit(self, cap: int) -> None:
+        """Notes the cap that it has, and the time limit of an answer: a larger cap takes more."""
+        self.cap = cap
+        self.seconds = self.usual * float(max(1.0, cap / programs.CAP) ** 1.5)
+
+    def use_cap(self, cap: int) -> Verdict:
+        """Goes on with another cap, as if it had been begun with that."""
+        self.limit(cap)
+        answer = self.ask(f"cap {cap}")
+        assert isinstance(answer, Verdict)
+        return answer
 
     def tells(self, line: str) -> bool:
         """Whether a fact or an edit is taken."""

@@ -32,6 +32,14 @@ class Clock:
         """The moment at which a tick begins, in the time zone of the origin."""
         return (in_utc(self.origin) + tick * self.tick).astimezone(self.origin.tzinfo)
 
+    def shown(self, tick: int) -> str:
+        """The moment at which a tick begins, for a person: `2026-03-02 08:51+01:00`."""
+        try:
+            time = self.time_of(tick)
+        except OverflowError:
+            return str(tick)
+        return time.isoformat(" ", "seconds" if time.second or time.microsecond else "minutes")
+
     def now(self) -> int:
         """The tick that it is by the system's clock."""
         return self.tick_of(datetime.now(timezone.utc))

@@ -89,6 +89,18 @@ class Expect(Typed):
 
 
 @dataclass(frozen=True)
+class NotBefore(Typed):
+    """A step cannot be done before a moment, as for a part that comes then. The last one counts; 0 takes it back."""
+
+    step: str
+    at: Moment
+    key: str | None = None
+
+    def __str__(self) -> str:
+        return f"{self.step} not before {self.at}"
+
+
+@dataclass(frozen=True)
 class Now(Typed):
     """It is this moment, and nothing else has happened before."""
 
@@ -134,9 +146,31 @@ class Deadline(Typed):
     key: str | None = None
 
 
-Event = Did | Saw | Expect | Now | Add | Change | Deadline
+@dataclass(frozen=True)
+class Forgive(Typed):
+    """What is broken is broken: each limit that what was done has broken so far is taken out."""
+
+    key: str | None = None
+
+    def __str__(self) -> str:
+        return "what is broken is forgiven"
+
+
+@dataclass(frozen=True)
+class AddStep(Typed):
+    """There is a further step, in every case, which nothing ties to the others yet: `Add` does."""
+
+    step: str
+    key: str | None = None
+
+    def __str__(self) -> str:
+        return f"a further step {self.step}"
+
+
+Event = Did | Saw | Expect | NotBefore | Now | Add | Change | Deadline | Forgive | AddStep
 KINDS: dict[str, type[Event]] = {
-    "did": Did, "saw": Saw, "expect": Expect, "now": Now, "add": Add, "change": Change, "deadline": Deadline}
+    "did": Did, "saw": Saw, "expect": Expect, "not_before": NotBefore, "now": Now, "add": Add, "change": Change,
+    "deadline": Deadline, "forgive": Forgive, "step": AddStep}
 NAMES = {kind: name for name, kind in KINDS.items()}
 
 
@@ -164,6 +198,12 @@ def line_of(event: Event) -> str:
             return f"change {number} {most}"
         case Deadline(at):
             return f"deadline {at}"
+        case Forgive():
+            return "forgive"
+        case NotBefore(step, at):
+            return f"expect {at} {printed(step)}"
+        case AddStep(step):
+            return f"step {printed(step)}"
 
 
 def with_key(event: Event, key: str | None) -> Event:

@@ -1,16 +1,20 @@
 """Many plans of one store, with as many processes as one allows."""
 from __future__ import annotations
 
+import logging
 import threading
 from collections import OrderedDict
+from collections.abc import Iterable
 
 from cstn import program as programs
 from cstn.answers import Next, Verdict
 from cstn.clock import Clock
-from cstn.errors import CstnError, Moved, NotKept, WrongType
+from cstn.errors import CstnError, Moved, NoProgram, NotKept, WrongType
 from cstn.follower import MOST_GROWN, Follower
 from cstn.journal import Head, Store, holding, parsed
 from cstn.plan import Plan
+
+LOG = logging.getLogger("cstn")
 
 
 class Host:
@@ -83,19 +87,23 @@ class Host:
                                             program=self.program)
         return self.documents[key]
 
-    def due(self, at: int | None = None) -> list[tuple[str, Next | Verdict]]:
+    def due(self, at: int | None = None, *, of: Iterable[str] | None = None) -> list[tuple[str, Next | Verdict]]:
         """The plans with something to do, or an outcome to await, by now: by each plan's clock, or at a tick; and those
-        that stand at "no", or of which the verdict is unknown, with that verdict.
+        that stand at "no", or of which the verdict is unknown, with that verdict. With `of` those plans alone.
 
-        Plans without a clock are asked only at a tick. Where one cannot be asked now it is passed over.
+        Plans without a clock are asked only at a tick. Where one cannot be asked now it is passed over, with a warning
+        in the log `cstn`. Raises `NoProgram`, and `KeyError` where a plan of `of` is unknown.
         """
         found = list[tuple[str, Next | Verdict]]()
-        for name in self.plans():
+        for name in self.plans() if of is None else of:
             try:
                 follower = self.follower(name)
                 now = follower.clock.now() if at is None and follower.clock is not None else at
                 following = follower.next() if now is not None else None
-            except CstnError:
+            except NoProgram:
+                raise
+            except CstnError as error:
+                LOG.warning("the plan %r was passed over: %r", name, error)
                 continue
             is_due = isinstance(following, Next) and now is not None and following.at <= now
             if isinstance(following, Next | Verdict) and (is_due or isinstance(following, Verdict)):

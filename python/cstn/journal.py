@@ -11,6 +11,7 @@ from contextlib import AbstractContextManager, nullcontext
 from dataclasses import dataclass
 from datetime import datetime, timedelta
 from typing import Any, Protocol, runtime_checkable
+from zoneinfo import ZoneInfo, ZoneInfoNotFoundError
 
 from cstn.clock import Clock
 from cstn.errors import Changed, Moved
@@ -96,17 +97,21 @@ class Head:
     deadline: int | None = None
     origin: str | None = None
     tick: float | None = None
+    zone: str | None = None
+    """The name of the origin's time zone, if it has one."""
 
     @classmethod
     def of(cls, plan: Plan, clock: Clock | None) -> Head:
-        origin, tick = (clock.origin.isoformat(), clock.tick.total_seconds()) if clock else (None, None)
-        return cls(plan.digest, plan.document_digest, plan.asked_deadline, origin, tick)
+        if clock is None:
+            return cls(plan.digest, plan.document_digest, plan.asked_deadline)
+        return cls(plan.digest, plan.document_digest, plan.asked_deadline, clock.origin.isoformat(),
+                   clock.tick.total_seconds(), getattr(clock.origin.tzinfo, "key", None))
 
     @property
     def clock(self) -> Clock | None:
         if self.origin is None or self.tick is None:
             return None
-        return Clock(datetime.fromisoformat(self.origin), timedelta(seconds=self.tick))
+        return Clock(in_zone(datetime.fromisoformat(self.origin), self.zone), timedelta(seconds=self.tick))
 
     def text(self) -> str:
         return dumped({"head": {"lines": FOLLOW} | {k: v for k, v in vars(self).items() if v is not None}})
@@ -141,6 +146,14 @@ class Forgotten:
 
 
 Entry = Head | Told | Forgotten
+
+
+def in_zone(when: datetime, zone: str | None) -> datetime:
+    """A moment as the clocks of a zone show it; as it is where this machine does not know the zone."""
+    try:
+        return when if zone is None else when.astimezone(ZoneInfo(zone))
+    except (ZoneInfoNotFoundError, ValueError):
+        return when
 
 
 def dumped(data: dict[str, Any]) -> str:

@@ -49,10 +49,17 @@ class Outlook:
     """None after a "no", and where the verdict is unknown."""
     latest: Mapping[str, int]
     """Until when each step that is left can wait, one at a time: these moments do not hold together."""
+    until: int | None
+    """Until when nothing at all may happen: 1,000,000 if nothing but outcomes is left. None after a "no", if nothing is
+    left, and where it was not asked or is not known."""
     awaited: tuple[Awaited, ...]
     done: Mapping[str, int]
     seen: Mapping[str, Seen]
     left_out: tuple[str, ...]
+    ready: Mapping[str, int]
+    """Steps that are not done, each with the moment before which it cannot be."""
+    further: tuple[str, ...]
+    """The steps that were put in."""
     waiting: tuple[Waiting, ...]
     fallen: tuple[Fallen, ...]
     limits: Mapping[int, Limit]
@@ -87,7 +94,7 @@ class Late:
 
 
 def outlook(version: int, session: Session, verdict: Verdict, following: Next | Done | Verdict,
-            latest: Mapping[str, int]) -> Outlook:
+            latest: Mapping[str, int], until: int | None) -> Outlook:
     """The outlook of a session."""
     state = session.state.copy()
     awaited = tuple(Awaited(letter, (observer := state.plan.observers[letter].name), state.done[observer], at)
@@ -96,5 +103,6 @@ def outlook(version: int, session: Session, verdict: Verdict, following: Next | 
                     if it.standing is Standing.WAITS)
     fallen = tuple(Fallen(it.event, it.why) for it in session.tellings.values() if it.standing is Standing.FELL)
     left_out = tuple(step.name for step in state.plan.steps if state.is_left_out(step.name))
-    return Outlook(version, state.now, verdict, None if isinstance(following, Verdict) else following, latest, awaited,
-                   state.done, state.seen, left_out, waiting, fallen, state.limits, state.deadline)
+    return Outlook(version, state.now, verdict, None if isinstance(following, Verdict) else following, latest, until,
+                   awaited, state.done, state.seen, left_out, state.ready, tuple(state.further),
+                   waiting, fallen, state.limits, state.deadline)

@@ -10,11 +10,12 @@ from pathlib import Path
 from typing import Self
 
 from cstn import program as programs
-from cstn.answers import Verdict
-from cstn.errors import Unavailable, WrongType
+from cstn.answers import Can, Verdict, Wide
+from cstn.errors import OutOfTime, TooMany, Unavailable, WrongType
 from cstn.names import Label, literals
 from cstn.said import Said, said
 from cstn.sentences import sentences
+from cstn.ways import Way, ways
 
 ENTITY = re.compile(r"&(amp|lt|gt|quot|#\d+);")
 ENTITIES = {"amp": "&", "lt": "<", "gt": ">", "quot": '"'}
@@ -103,12 +104,28 @@ class Plan:
         """Whether the plan can be carried out, whatever is observed. Raises `OutOfTime`."""
         return programs.check(self.document, self.asked_deadline, cap, seconds=seconds, program=self.program)
 
+    def cases(self, *, cap: int = programs.CAP, seconds: float | None = programs.SECONDS) -> tuple[Way, ...]:
+        """How the plan goes on from its start, by case, each step at its least moment; nothing after a "no". Raises
+        `TooMany` where there are too many cases, `OutOfTime`, and `NoProgram` where the program is too old."""
+        answer = programs.cases(self.document, self.asked_deadline, cap, seconds=seconds, program=self.program)
+        if isinstance(answer, Wide):
+            raise TooMany("wide", f"{answer.letters} outcomes make too many cases")
+        if isinstance(answer, Verdict):
+            if answer.can is Can.UNKNOWN:
+                raise OutOfTime(f"not known within {answer.bounds} bounds")
+            return ()
+        return tuple(ways(iter(answer), {}, {}))
+
     def saved(self, changed: Iterable[Limit] = (), deadline: int | None = None) -> bytes:
         """The canonical document, as `save` writes it: with some limits in place of those of their ids, and a deadline
         of its own."""
         instead = {limit.id: limit for limit in changed}
         limits = [instead.get(limit.id, limit) for limit in self.limits]
         return canonical(self.steps, limits, self.deadline if deadline is None else deadline)
+
+    def steps_with(self, further: Iterable[str]) -> tuple[Step, ...]:
+        """Its steps, and behind them such as were put in: in every case, and without an outcome."""
+        return (*self.steps, *(Step(name, None, 1, {}) for name in further))
 
     @cached_property
     def by_name(self) -> dict[str, Step]:

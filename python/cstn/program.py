@@ -10,7 +10,7 @@ from contextlib import contextmanager
 from functools import lru_cache
 from pathlib import Path
 
-from cstn.answers import Verdict, parse
+from cstn.answers import Verdict, Wide, parse
 from cstn.errors import BadDocument, NoProgram, OutOfTime, Unavailable
 from cstn.explain.names import harmless
 from cstn.refused import why_refused
@@ -92,7 +92,7 @@ def options(deadline: int | None, cap: int | None) -> list[str]:
 def ask(command: str, document: bytes, words: Iterable[str] = (), *, seconds: float | None = SECONDS,
         program: str | None = None) -> tuple[int, str]:
     """The status and the text of one call of the program over a document. Raises `OutOfTime`, `BadDocument`,
-    `Unavailable`."""
+    `Unavailable`, and `NoProgram` where it has no such command."""
     with in_memory(document) as file:
         call = [find(program), command, f"/proc/self/fd/{file}", *words]
         try:
@@ -103,6 +103,8 @@ def ask(command: str, document: bytes, words: Iterable[str] = (), *, seconds: fl
         except OSError as error:
             raise Unavailable(f"{call[0]} cannot be started: {error}") from error
     text = done.stdout.decode(errors="replace")
+    if done.returncode == 2:
+        raise NoProgram(f"the program has no command `{command}`: it is older than this package")
     if done.returncode == 3:
         raise refused_document(text.rstrip("\n"), document)
     if done.returncode not in (0, 1, 4, 10):
@@ -121,6 +123,22 @@ def check(document: bytes, deadline: int | None = None, cap: int = CAP, *, secon
     if not isinstance(verdict, Verdict):
         raise Unavailable(f"check was answered {text[:200]!r}")
     return verdict
+
+
+def cases(document: bytes, deadline: int | None = None, cap: int = CAP, *, seconds: float | None = SECONDS,
+          program: str | None = None) -> list[str] | Verdict | Wide:
+    """The lines of the tree of a document by cases, or why there is none."""
+    _, text = ask("cases", document, options(deadline, cap), seconds=seconds, program=program)
+    first, *lines = text.removesuffix("\n").split("\n")
+    try:
+        answer = parse("cases", first)
+    except ValueError as error:
+        raise Unavailable(str(error)) from error
+    if isinstance(answer, Verdict) and answer.is_yes:
+        return lines
+    if not isinstance(answer, Verdict | Wide):
+        raise Unavailable(f"cases was answered {first[:200]!r}")
+    return answer
 
 
 def refused_document(text: str, document: bytes) -> BadDocument:

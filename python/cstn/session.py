@@ -6,10 +6,11 @@ from dataclasses import dataclass, replace
 from enum import Enum
 
 from cstn import program as programs
-from cstn.answers import Answer, Next, Refusal, Verdict, is_taken
+from cstn.answers import Answer, Can, Next, Refusal, Verdict, is_taken
 from cstn.child import Child
+from cstn.clock import Clock
 from cstn.errors import Changed, Contradicts, NotYet, Refused, WaitsFor
-from cstn.events import Add, Did, Event, Now, Saw, line_of, with_key
+from cstn.events import Add, Did, Event, Forgive, NotBefore, Now, Saw, line_of, with_key
 from cstn.journal import Forgotten, Told
 from cstn.order import levels
 from cstn.plan import Plan
@@ -39,6 +40,17 @@ class Telling:
 
 
 @dataclass(frozen=True)
+class Marked:
+    """What was known where a mark was set."""
+
+    state: State
+    verdict: Verdict | None
+    tellings: dict[str, Telling]
+    covers: int
+    cap: int
+
+
+@dataclass(frozen=True)
 class Limits:
     """What a process may take: bounds of a check, and seconds for an answer."""
 
@@ -49,13 +61,15 @@ class Limits:
 class Session:
     """A child of a plan, and the tellings of its journal in order, by their keys. Not for several threads at once."""
 
-    def __init__(self, plan: Plan, limits: Limits, entries: Sequence[Told | Forgotten] = ()) -> None:
-        self.plan, self.state = plan, State.of(plan)
+    def __init__(self, plan: Plan, limits: Limits, entries: Sequence[Told | Forgotten] = (),
+                 clock: Clock | None = None) -> None:
+        self.plan, self.state = plan, State.of(plan, clock)
         self.child = Child(plan.document, plan.asked_deadline, cap=limits.cap, seconds=limits.seconds,
                            program=plan.program)
         self.verdict: Verdict | None = self.child.first
         self.tellings: dict[str, Telling] = {}
         self.covers = len(entries)
+        self.marks: list[Marked] = []
         try:
             self.tell_anew(entries)
         except BaseException:
@@ -68,12 +82,9 @@ class Session:
         for entry in without_old_times(corrected(entries)):
             telling = self.add(entry.event, entry.when)
             was_taken = not entry.answer.startswith("refused ")
-            if was_taken and (telling.standing is Standing.FELL and not mended or self.is_other(telling, entry)):
+            is_other = is_of_ids(entry.event, mended) and telling.answer != entry.answer
+            if was_taken and (telling.standing is Standing.FELL and not mended or is_other):
                 raise Changed(f"{line_of(entry.event)} is answered {telling.answer}, and was answered {entry.answer}")
-
-    def is_other(self, telling: Telling, entry: Told) -> bool:
-        """Whether an added limit has another id now: each later id would be another one too."""
-        return isinstance(entry.event, Add) and telling.answer != entry.answer
 
     def add(self, event: Event, when: str = "") -> Telling:
         """Tells an event of the journal, whatever becomes of it, and then what waited for it."""
@@ -96,27 +107,70 @@ class Session:
     def tell(self, event: Event) -> Telling:
         """Tells an event, and writes nothing down but what the program has taken. Raises `Refused`."""
         line = line_of(event)
-        try:
-            text, answer = self.child.ask_text(line)
-        except ValueError as error:
-            raise Refused("line", unsayable(event)) from error
+        text, answer = self.said(event, line)
         if isinstance(answer, Refusal):
-            refused = why(answer, event, self.state)
-            if isinstance(refused, Contradicts):
-                refused.with_key = self.recorded_by(event, refused.code)
-            if refused is not None:
-                raise refused
             return Telling(event, Standing.KNOWN, text)
         assert is_taken(answer)
         self.state.take(event, line, answer)
         self.verdict = answer if isinstance(answer, Verdict) else None
         return Telling(event, Standing.TAKEN, text)
 
+    def said(self, event: Event, line: str) -> tuple[str, Answer]:
+        """The answer to a line that says an event, a refusal where it was told before. Raises `Refused`."""
+        try:
+            text, answer = self.child.ask_text(line)
+        except ValueError as error:
+            raise Refused("line", unsayable(event, self.state)) from error
+        if isinstance(answer, Refusal):
+            refused = why(answer, event, self.state)
+            if isinstance(refused, Contradicts):
+                refused.with_key = self.recorded_by(event, refused.code)
+            if refused is not None:
+                raise refused
+        return text, answer
+
+    def attempt(self, event: Event, now: int | None = None) -> Verdict:
+        """What the verdict would be if an event were told, at a moment that it may be by then. Nothing is told. Raises
+        `Refused`."""
+        if now is None or now <= self.state.now:
+            answer = self.said(event, f"try {line_of(event)}")[1]
+            return answer if isinstance(answer, Verdict) else self.now_verdict()
+        if not self.child.mark():
+            raise Refused("M1", "too many marks are set")
+        passed = self.child.ask(f"now {now}")
+        try:
+            answer = self.said(event, f"try {line_of(event)}")[1]
+        except Refused:
+            self.child.back()
+            raise
+        self.child.back()
+        return next(it for it in (answer, passed, Verdict(Can.UNKNOWN)) if isinstance(it, Verdict))
+
+    def mark(self) -> bool:
+        """Sets a mark, to which `back` leads back; not where eight are set."""
+        if not self.child.mark():
+            return False
+        tellings = {key: replace(it) for key, it in self.tellings.items()}
+        self.marks.append(Marked(self.state.copy(), self.verdict, tellings, self.covers, self.child.cap))
+        return True
+
+    def back(self) -> None:
+        """Leads back to where the last mark was set, which is gone then."""
+        self.child.back()
+        marked = self.marks.pop()
+        self.state, self.verdict = marked.state, marked.verdict
+        self.tellings, self.covers = marked.tellings, marked.covers
+        self.child.limit(marked.cap)
+
+    def use_cap(self, cap: int) -> None:
+        """Goes on with another cap."""
+        self.verdict = self.child.use_cap(cap)
+
     def recorded_by(self, event: Event, code: str) -> str | None:
         """The key of the event that told what a refused one contradicts, if one did."""
         step, letter = None, None
         match code, event:
-            case "F4", Did(name):
+            case "F4", Did(name) | NotBefore(name):
                 step = name
             case "F7", Saw(name):
                 letter = name
@@ -176,6 +230,12 @@ class Session:
 
     def close(self) -> None:
         self.child.close()
+
+
+def is_of_ids(event: Event, mended: bool) -> bool:
+    """Whether the ids that an event was answered have to be the same when it is told anew: each later id would be
+    another one after an `Add`; what is forgiven may be something else once a fact was corrected."""
+    return isinstance(event, Add) or isinstance(event, Forgive) and not mended
 
 
 def corrected(entries: Sequence[Told | Forgotten]) -> list[Told]:

@@ -8,7 +8,7 @@ import sqlite3
 import threading
 import time
 from collections.abc import Iterator
-from contextlib import contextmanager
+from contextlib import contextmanager, suppress
 from pathlib import Path
 
 from cstn.errors import Busy, Moved, NotKept
@@ -25,8 +25,8 @@ SECONDS = 20.0
 class SqliteStore:
     """The journals and documents of a file, which is made where there is none. Locks stand in a folder beside it.
 
-    For any number of threads and of processes on one machine; the folder is not to be one of a network. Raises
-    `NotKept` where it cannot be opened, `Busy`.
+    For any number of threads and of processes on one machine; the folder has to be there, and is not to be one of a
+    network. Raises `NotKept` where it cannot be opened, `Busy`.
     """
 
     def __init__(self, path: str | Path, *, seconds: float = SECONDS) -> None:
@@ -34,7 +34,8 @@ class SqliteStore:
         self.locks = self.path + ".locks"
         self.lock = threading.RLock()
         try:
-            os.makedirs(self.locks, exist_ok=True)
+            with suppress(FileExistsError):
+                os.mkdir(self.locks)
             with locked(os.path.join(self.locks, "opening"), seconds, self.path):
                 self.connection = self.opened()
         except (OSError, sqlite3.Error) as error:

@@ -12,6 +12,7 @@ from pathlib import Path
 
 from cstn.answers import Done, Next, Until, Verdict
 from cstn.child import Child
+from cstn.errors import NoProgram, Unavailable
 from cstn.events import Deadline, Did, Event, Change, Saw, line_of
 from cstn.names import printed
 from cstn.plan import Plan
@@ -28,6 +29,19 @@ PLANS = [CLINIC, STROKE, EMERGENCY]
 def reads_plans() -> bool:
     """Whether the program reads plans in sentences: else it answers `words`."""
     return subprocess.run([find(), "plan", os.devnull], stdout=subprocess.DEVNULL, check=False).returncode != 2
+
+
+def lacks(line: str) -> bool:
+    """Whether the program refuses a line as being of no form."""
+    child = Child(CLINIC.document)
+    try:
+        child.ask("did 5 Sample")
+        child.ask(line)
+        return False
+    except (NoProgram, Unavailable):
+        return True
+    finally:
+        child.close()
 
 
 class Folder(unittest.TestCase):

@@ -4,20 +4,21 @@ import subprocess
 import sys
 import tempfile
 import unittest
+from dataclasses import replace
 from datetime import datetime, timedelta, timezone
 from pathlib import Path
 from typing import Any
 from unittest import mock
 
-from cstn import (Add, Change, Deadline, Did, Event, Expect, Follower, Moved, Now, OutOfRange, OutOfTime, Saw,
-                  SqliteStore)
+from cstn import (Add, AddStep, Change, Contradicts, Deadline, Did, Event, Expect, Follower, Forgive, MemoryJournal, Moved,
+                  NotBefore, Now, OutOfRange, OutOfTime, Saw, SqliteStore)
 from cstn.board.guard import Asked, Guard
 from cstn.board.news import MOST, News
 from cstn.board.plans import Board, Document, Timing
 from cstn.board.reading import Wrong, event_of, key_of
 from cstn.board.words import is_least, limit_parts, shown, told
 from cstn.plan import Limit
-from tests.support import CLINIC
+from tests.support import CLINIC, lacks
 
 SERVED = all(importlib.util.find_spec(name) for name in ("flask", "waitress"))
 HOST = "127.0.0.1:8322"
@@ -45,13 +46,19 @@ READ: list[tuple[dict[str, Any], Event | None]] = [
     ({"kind": "saw", "letter": "i", "value": False, "at": 5}, Saw("i", False, 5)),
     ({"kind": "await", "letter": "i", "at": 90}, Expect("i", 90)),
     ({"kind": "now", "at": 0}, Now(0)),
+    ({"kind": "not_before", "step": 2, "at": 80}, NotBefore("Antibiotic", 80)),
+    ({"kind": "step", "name": " Call "}, AddStep("Call")), ({"kind": "did", "step": 5, "at": 5}, Did("Call", 5)),
+    ({"kind": "add", "step": 5, "from": 2, "bound": "least", "value": 30}, Add("Call", "Antibiotic", -30)),
+    ({"kind": "step", "name": " "}, None), ({"kind": "step", "name": "x" * 81}, None),
+    ({"kind": "step", "name": "a\nb"}, None), ({"kind": "step", "name": 5}, None), ({"kind": "step"}, None),
+    ({"kind": "not_before", "step": 6, "at": 80}, None), ({"kind": "not_before", "step": 2, "at": -1}, None),
     ({"kind": "deadline", "at": 400}, Deadline(400)),
     ({"kind": "change", "limit": 2, "value": 107}, Change(2, 107)),
     ({"kind": "change", "limit": 1, "value": 60}, Change(1, -60)),
-    ({"kind": "remove", "limit": 2}, Change(2, None)),
+    ({"kind": "remove", "limit": 2}, Change(2, None)), ({"kind": "forgive"}, Forgive()),
     ({"kind": "add", "step": 2, "from": 1, "bound": "least", "value": 70}, Add("Antibiotic", "Sample", -70)),
     ({"kind": "add", "step": 2, "from": 1, "bound": "most", "value": 70}, Add("Sample", "Antibiotic", 70)),
-    ({}, None), ({"kind": None}, None), ({"kind": "did", "step": 5, "at": 5}, None),
+    ({}, None), ({"kind": None}, None), ({"kind": "did", "step": 6, "at": 5}, None),
     ({"kind": "did", "step": 1, "at": True}, None), ({"kind": "did", "step": 1, "at": 1000001}, None),
     ({"kind": "saw", "letter": "q", "value": True, "at": 5}, None),
     ({"kind": "saw", "letter": ["i"], "value": True, "at": 5}, None),
@@ -67,7 +74,16 @@ SAID = [
     (Limit(0, "Sample", "Z", -10, {"i": False, "s": True}), "Sample at 10 or later, if not i and s"),
 ]
 
-LONG = ("ways_out", "blame", "blamed_sets", "by", "late")
+LONG = ("ways_out", "blame", "blamed_sets", "by", "late", "until", "forgive")
+
+ATTEMPTS = [
+    ({"kind": "did", "step": 1, "at": 15}, {"verdict": "yes", "waits": [], "why": ""}),
+    ({"kind": "did", "step": 1, "at": 16}, {"verdict": "no", "waits": [], "why": ""}),
+    ({"kind": "did", "step": 2, "at": 16}, {"verdict": None, "waits": ["i"], "why": ""}),
+    ({"kind": "saw", "letter": "i", "value": True, "at": 9}, {"verdict": None, "waits": ["Sample"], "why": ""}),
+    ({"kind": "deadline", "at": 1000}, {"verdict": "yes", "waits": [], "why": ""}),
+    ({"kind": "did", "step": 0, "at": 5}, {"verdict": None, "waits": [], "why": "Z was done at 0"})]
+
 
 class Boards(unittest.TestCase):
     def setUp(self) -> None:
@@ -90,10 +106,11 @@ class Boards(unittest.TestCase):
         self.assertTrue(guard.is_token("token"))
 
     def test_what_is_read(self) -> None:
-        limits = {limit.id: limit for limit in CLINIC.limits}
+        with Follower(CLINIC, MemoryJournal()) as follower:
+            outlook = replace(follower.outlook(latest=False), further=("Call",))
         for data, wanted in READ:
             try:
-                found = event_of(data, CLINIC, limits)
+                found = event_of(data, CLINIC, outlook)
             except Wrong:
                 found = None
             self.assertEqual(found, wanted, data)
@@ -140,6 +157,101 @@ class Boards(unittest.TestCase):
         self.assertEqual(moments, [None, None, 120, 240, 250])
         self.assertEqual(board.page(plan, {"i": False})["steps"][2]["planned"], None)
         self.assertEqual(board.journal(plan), "did 5 Sample\nnow 65\nawait 120 i\nchange 2 115\n")
+
+    def test_what_would_fit(self) -> None:
+        board = self.board()
+        plan = next(iter(board.titles()))
+        for event, wanted in ATTEMPTS:
+            with self.subTest(event=event):
+                self.assertEqual(board.attempt(plan, event), wanted)
+        self.assertEqual((board.page(plan, {})["history"], board.page(plan, {})["until"]), ([], 15))
+
+    def test_what_would_fit_is_not_asked_where_that_takes_long(self) -> None:
+        board = self.board()
+        plan = next(iter(board.titles()))
+        nothing: dict[str, Any] = {"verdict": None, "waits": [], "why": ""}
+        event = ATTEMPTS[0][0]
+        with mock.patch.object(Follower, "attempt", side_effect=OutOfTime("too long")) as attempt, \
+                mock.patch("cstn.board.plans.LONGEST_ATTEMPT", -1):
+            self.assertEqual([board.attempt(plan, event) for _ in range(3)], [nothing] * 3)
+            self.assertEqual(attempt.call_count, 1)
+        self.assertEqual(board.attempt(plan, event), nothing)
+        board.tell(plan, event | {"key": "abcdefgh"})
+        self.assertEqual(board.attempt(plan, event)["verdict"], "yes")
+
+    def test_what_would_fit_by_the_clock(self) -> None:
+        board = self.board(Timing(60, datetime.now(timezone.utc) - timedelta(seconds=1201), by_hand=False))
+        plan = next(iter(board.titles()))
+        self.assertEqual(board.attempt(plan, {"kind": "deadline", "at": 900})["verdict"], "no")
+        self.assertEqual(board.attempt(plan, {"kind": "did", "step": 1, "at": 15})["verdict"], "yes")
+        self.assertIn("in the future", board.attempt(plan, {"kind": "did", "step": 1, "at": 150})["why"])
+
+    def test_what_is_broken(self) -> None:
+        board = self.board()
+        plan = next(iter(board.titles()))
+        facts: list[dict[str, Any]] = [
+            {"kind": "did", "step": 1, "at": 5}, {"kind": "saw", "letter": "i", "value": True, "at": 45}]
+        for at, event in enumerate(facts):
+            board.tell(plan, event | {"key": f"abcdefg{at}"})
+        self.assertEqual((board.page(plan, {})["until"], board.page(plan, {})["blame"]), (95, None))
+        board.tell(plan, {"kind": "did", "step": 2, "at": 112, "key": "abcdefg2"})
+        page = board.page(plan, {})
+        self.assertEqual((page["until"], page["blame"]["forgive"]["verdict"]), (None, "yes"))
+        self.assertEqual(page["blame"]["forgive"]["limits"], [page["limits"][2]["parts"]])
+        board.tell(plan, {"kind": "forgive", "key": "abcdefg3"})
+        page = board.page(plan, {})
+        self.assertEqual((page["verdict"], page["limits"][2]["state"]), ("yes", "removed"))
+        self.assertEqual(page["history"][-1]["parts"][0], {"text": "given up, since broken: "})
+        self.assertEqual(board.journal(plan).split("\n")[-2], "forgive")
+
+    def test_a_result_that_is_too_late(self) -> None:
+        board = self.board()
+        plan = next(iter(board.titles()))
+        facts = ({"kind": "did", "step": 1, "at": 5}, {"kind": "await", "letter": "i", "at": 100})
+        for at, event in enumerate(facts):
+            board.tell(plan, event | {"key": f"abcdefg{at}"})
+        blame = board.page(plan, {})["blame"]
+        wanted = [{"letter": "i", "word": "i", "expected": 100, "needed": 95}]
+        self.assertEqual((blame["results"], blame["forgive"]), (wanted, None))
+
+    @unittest.skipIf(lacks("expect 80 Antibiotic"), "the program has no line `expect`")
+    def test_what_cannot_come_before(self) -> None:
+        board = self.board()
+        plan = next(iter(board.titles()))
+        board.tell(plan, {"kind": "did", "step": 1, "at": 5, "key": "abcdefg0"})
+        wait = {"kind": "not_before", "step": 2, "at": 96}
+        self.assertEqual((board.attempt(plan, wait)["verdict"], board.what_if(plan, wait)["verdict"]), ("no", "no"))
+        board.tell(plan, wait | {"at": 80, "key": "abcdefg1"})
+        page = board.page(plan, {})
+        self.assertEqual([page["steps"][2][it] for it in ("ready", "planned", "by")], [80, 80, 95])
+        self.assertEqual(page["history"][-1]["event"], {"kind": "not_before", "step": 2, "at": 80})
+        board.correct(plan, {"version": page["version"], "of": "abcdefg1", "instead": wait})
+        page = board.page(plan, {})
+        self.assertEqual((page["verdict"], page["blame"]["limits"]), ("no", [{"id": 2, "needed": 91}]))
+        board.tell(plan, {"kind": "not_before", "step": 2, "at": 0, "key": "abcdefg2"})
+        page = board.page(plan, {})
+        self.assertEqual((page["verdict"], page["steps"][2]["ready"]), ("yes", None))
+        self.assertEqual(board.journal(plan), "did 5 Sample\nexpect 96 Antibiotic\nexpect 0 Antibiotic\n")
+        self.assertRaises(Contradicts, board.tell, plan, wait | {"step": 1, "key": "abcdefg3"})
+
+    @unittest.skipIf(lacks("step Call"), "the program has no line `step`")
+    def test_a_further_step(self) -> None:
+        board = self.board()
+        plan = next(iter(board.titles()))
+        told: list[dict[str, Any]] = [
+            {"kind": "did", "step": 1, "at": 5}, {"kind": "step", "name": "Call"},
+            {"kind": "add", "step": 5, "from": 1, "bound": "least", "value": 30}]
+        for at, event in enumerate(told):
+            board.tell(plan, event | {"key": f"abcdefg{at}"})
+        step = board.page(plan, {})["steps"][5]
+        wanted = {"shown": "Call", "further": True, "state": "open", "planned": 35, "ready": None}
+        self.assertEqual({it: step[it] for it in wanted}, wanted)
+        self.assertRaises(Contradicts, board.tell, plan, told[1] | {"key": "abcdefg3"})
+        board.tell(plan, {"kind": "did", "step": 5, "at": 36, "key": "abcdefg4"})
+        page = board.page(plan, {})
+        self.assertEqual((page["verdict"], page["steps"][5]["at"]), ("yes", 36))
+        self.assertEqual([it["event"] for it in page["history"] if it["event"]][-1], {"kind": "did", "step": 5, "at": 36})
+        self.assertEqual(board.journal(plan).split("\n")[1:4], ["step Call", "add Call Sample -30 -", "did 36 Call"])
 
     def test_a_correction_of_what_was_seen_before(self) -> None:
         board = self.board()

@@ -6,14 +6,14 @@ from collections.abc import Callable
 from datetime import datetime, timedelta, timezone
 from typing import Any
 
-from cstn import (Add, Can, Change, Changed, Clock, Contradicts, Deadline, Did, Done, Event, Expect, Follower, Host,
-                  Late, MemoryJournal, Moved, Next, NotYet, Now, OutOfRange, Plan, Receipt, Refused, Saw, Seen,
-                  SqliteStore, Standing, TooMany, Unknown, WaitsFor, WrongType)
+from cstn import (Add, Can, Change, Changed, Clock, Contradicts, Deadline, Did, Done, Event, Expect, Follower, Forgive,
+                  Host, Late, MemoryJournal, Moved, Next, NotYet, Now, OutOfRange, OutOfTime, Plan, Receipt, Refused,
+                  Saw, Seen, SqliteStore, Standing, TooMany, Unknown, WaitsFor, WrongType)
 from cstn.answers import Refusal
-from cstn.events import KINDS, from_data
+from cstn.events import KINDS, Moment, from_data
 from cstn.names import printed
 from cstn.session import Limits, Session
-from tests.support import CLINIC, EMERGENCY, answers, answers_to, drawn
+from tests.support import CLINIC, EMERGENCY, STROKE, TOP, answers, answers_to, drawn, reads_plans
 
 REFUSED: list[tuple[Event, type[Refused], str]] = [
     (Did("Nobody", 3), Unknown, "F3"),
@@ -168,6 +168,28 @@ class Followers(unittest.TestCase):
         follower.saw("i", True, 45)
         self.check_contradictions(follower, [(Saw("i", False, 45), True, "#3")])
 
+    def test_what_is_excluded_is_kept(self) -> None:
+        follower = self.follower()
+        follower.did("Sample", 51, "ward 2")
+        kept = follower.tell(Saw("i", True, 40, "lab 2"), keep=True)
+        self.assertEqual((kept.again, kept.fallen, kept.version), (False, ("lab 2",), 3))
+        self.assertEqual(follower.outlook().fallen[0].why, "i came at 40, and Sample was done only at 51")
+        self.assertEqual(follower.tell(Saw("i", True, 40, "lab 2"), keep=True).fallen, ("lab 2",))
+        again = Follower(CLINIC, MemoryJournal([text for _, text in follower.journal.read()]))
+        self.addCleanup(again.close)
+        self.assertEqual([it.event.key for it in again.outlook().fallen], ["lab 2"])
+        self.assertEqual(follower.correct("ward 2", Did("Sample", 15)).taken, ("lab 2",))
+        self.assertEqual(dict(follower.outlook().seen), {"i": Seen(True, 40)})
+
+    def test_what_is_kept_is_corrected(self) -> None:
+        follower = self.follower()
+        follower.did("Sample", 15)
+        follower.tell(Saw("i", True, 4, "lab 2"), keep=True)
+        self.assertEqual(follower.correct("lab 2", Saw("i", True, 40)).fallen, ())
+        self.assertEqual(dict(follower.outlook().seen), {"i": Seen(True, 40)})
+        with self.assertRaises(Contradicts):
+            follower.tell(Saw("i", False, 40, "lab 2"), keep=True)
+
     def check_contradictions(self, follower: Follower,
                              facts: list[tuple[Event, int | bool | None, str | None]]) -> None:
         for event, recorded, key in facts:
@@ -179,12 +201,41 @@ class Followers(unittest.TestCase):
         follower = self.follower()
         events: list[tuple[Event, str]] = [
             (Saw("infection", True, 5), "a letter is one of A to Z, a to z: 'infection'"),
+            (Change(2, 10**10), "10000000000 is no value of a limit: these are from -1000000000 to 1000000000"),
+            (Add("Z", "Sample", -10**9 - 1),
+             "-1000000001 is no value of a limit: these are from -1000000000 to 1000000000"),
+            (Deadline(10**8), "a deadline is at most 1000000, and not 100000000"),
+            (Did("samples", 5), "no step is named 'samples', but one 'Sample'"),
+            (Did("Lunch", 5), "no step is named 'Lunch'"),
             (Expect("ä", 5), "a letter is one of A to Z, a to z: 'ä'"),
             (Did("Sample", 5, ""), "a key is a text that is not empty and does not begin with #: ''")]
         for event, says in events:
             with self.assertRaises(Refused) as caught:
                 follower.tell(event)
             self.assertEqual(str(caught.exception), says)
+
+    @unittest.skipUnless(reads_plans(), "the program reads no plans in sentences")
+    def test_a_word_is_no_letter(self) -> None:
+        follower = self.follower(Plan.load(TOP.parent / "examples" / "clinical-pathway.plan"))
+        with self.assertRaisesRegex(Refused, "a letter is one of A to Z, a to z: 'infection' is the word for i"):
+            follower.saw("infection", True, 5)
+
+    def test_times_are_refused_as_times(self) -> None:
+        clock = Clock(datetime.now(timezone.utc) - timedelta(minutes=30))
+        follower = self.follower(clock=clock)
+        refused: list[tuple[Moment, str]] = [
+            (clock.time_of(-5), f"{clock.time_of(-5)} is before the plan's start, {clock.origin}"),
+            (clock.time_of(90), f"{clock.time_of(90)} is in the future: it is {clock.time_of(30)}, or a clock is wrong"),
+            (90, "90 is in the future: it is 30, or a clock is wrong")]
+        for at, says in refused:
+            with self.assertRaises(OutOfRange) as caught:
+                follower.did("Sample", at)
+            self.assertEqual(str(caught.exception), says)
+        follower.did("Sample", 20)
+        with self.assertRaises(Contradicts) as excluded:
+            follower.saw("i", True, 10)
+        came, done = clock.shown(10), clock.shown(20)
+        self.assertEqual(str(excluded.exception), f"i came at {came}, and Sample was done only at {done}")
 
     def test_there_is_no_room(self) -> None:
         plan = Plan.read(CLINIC.saved([]).replace(b"{(15, ", b"{" + b"(15, \xe2\x8a\xa1)," * 16375 + b"(15, "))
@@ -252,6 +303,118 @@ class Followers(unittest.TestCase):
         follower = self.follower(Plan.read(CLINIC.document, deadline=190))
         follower.tell(Change(7, None))
         self.assertEqual([(way.is_deadline, way.would_do) for way in follower.ways_out()][-1], (True, 195))
+
+    def test_what_is_asked_of_a_yes(self) -> None:
+        follower = self.follower()
+        self.assertEqual((follower.until(), follower.least_deadline(), follower.give_way(2)), (15, 195, None))
+        follower.did("Sample", 5)
+        self.assertEqual((follower.until(), follower.outlook().until), (95, 95))
+        self.assertEqual(follower.latest(), {"Antibiotic": 95, "Review": 125, "Discharge": 360})
+        self.assertEqual(follower.latest(), follower.outlook().latest)
+        self.assertIsNone(follower.outlook(latest=False).until)
+        self.assertRaises(Unknown, follower.give_way, 99)
+        self.assertRaises(NotYet, self.follower().late, "i")
+        follower.saw("i", False, 9)
+        self.assertRaises(Contradicts, follower.late, "i")
+        follower.tell_all([Did("Review", 85), Did("Discharge", 95)])
+        self.assertEqual((follower.until(), follower.latest(), follower.least_deadline()), (None, {}, 95))
+
+    def test_what_is_asked_of_a_no(self) -> None:
+        follower = self.follower(Plan.read(CLINIC.document, deadline=180))
+        found = [(way and (way.is_now, way.would_do)) for way in map(follower.give_way, (3, 7))]
+        self.assertEqual(found, [(-120, -105), (360, None)])
+        self.assertEqual((follower.least_deadline(), follower.until(), follower.latest()), (195, None, {}))
+        follower.tell(Change(1, None))
+        ways = [(way.is_deadline, way.would_do) for way in follower.ways_out()]
+        self.assertEqual(ways, [(False, -110), (False, 0), (True, 190)])
+
+    def test_an_outcome_that_nothing_needs_and_one_of_the_start(self) -> None:
+        nodes = '<graphml><graph><node id="Z"><data key="Obs">p</data><data key="Reaction">10</data></node>' \
+            '<node id="A"/><data key="Deadline">5000</data>'
+        edges = "".join(f'<edge source="{a}" target="{b}"><data key="LabeledValues">{{({most}, {label})}}</data></edge>'
+                        for a, b, most, label in (("Z", "A", 3000, "p"), ("A", "Z", -2000, "")))
+        follower = self.follower(Plan.read(f"{nodes}{edges}</graph></graphml>"))
+        self.assertEqual(follower.late("p"), Late("p", 1000, False))
+        follower = self.follower(STROKE)
+        follower.did("Scan", 3)
+        self.assertEqual(follower.late("b"), Late("b", None, True))
+
+    def test_an_attempt(self) -> None:
+        follower = self.follower()
+        follower.did("Sample", 5)
+        attempts: list[tuple[Event, int | None, Can]] = [
+            (Expect("i", 95), None, Can.YES), (Expect("i", 96), None, Can.NO), (Change(2, 20), None, Can.NO),
+            (Deadline(194), None, Can.NO), (Forgive(), None, Can.YES), (Did("Sample", 5), None, Can.YES),
+            (Saw("i", True, 60), 95, Can.YES), (Saw("i", True, 60), 96, Can.NO), (Did("Sample", 5), 96, Can.NO)]
+        for event, now, can in attempts:
+            with self.subTest(event=event, now=now):
+                self.assertIs(follower.attempt(event, now=now).can, can)
+        for step, error in (("Antibiotic", NotYet), ("Sample", Contradicts), ("Nobody", Unknown)):
+            for moment in (None, 60):
+                with self.subTest(step=step, now=moment), self.assertRaises(error):
+                    follower.attempt(Did(step, 9), now=moment)
+        self.assertEqual((follower.lines(), len(list(follower.journal.read()))), (("did 5 Sample",), 2))
+        self.assertEqual(follower.outlook(latest=False).now, 5)
+
+    def test_what_is_broken_is_forgiven(self) -> None:
+        follower = self.follower()
+        self.assertEqual(follower.forgive("nothing").forgiven, ())
+        follower.tell_all([Did("Sample", 5, "s"), Saw("i", True, 45), Did("Antibiotic", 112, "a")])
+        receipt = follower.forgive("k")
+        self.assertEqual((receipt.forgiven, receipt.verdict.can, receipt.again), ((2,), Can.YES, False))
+        self.assertNotIn(2, follower.outlook().limits)
+        self.assertEqual((follower.forgive("k").again, follower.forgive("k").forgiven), (True, (2,)))
+        follower.release()
+        self.assertEqual((follower.verdict().can, follower.lines()[-1]), (Can.YES, "forgive"))
+        follower.correct("a", Did("Antibiotic", 90))
+        self.assertIn(2, follower.outlook().limits)
+        follower.correct("a", Did("Antibiotic", 112))
+        follower.correct("k")
+        self.assertEqual((follower.verdict().can, follower.blame()), (Can.NO, (2,)))
+
+    def test_a_journal_that_forgave_something_else(self) -> None:
+        follower = self.follower()
+        follower.tell_all([Did("Sample", 20), Forgive()])
+        journal = follower.journal
+        assert isinstance(journal, MemoryJournal)
+        journal.entries[-1] = journal.entries[-1].replace("forgiven 0", "forgiven 1")
+        other = Follower(CLINIC, MemoryJournal(journal.entries))
+        self.addCleanup(other.close)
+        self.assertRaises(Changed, other.verdict)
+
+    def test_marks(self) -> None:
+        follower = self.follower()
+        follower.tell_all([Did("Sample", 5), Saw("i", True, 45)])
+        with follower.what_if() as trial:
+            self.assertRaises(Refused, trial.back)
+            self.assertEqual((trial.mark(), trial.did("Antibiotic", 112).verdict.can), (1, Can.NO))
+            self.assertEqual((trial.mark(), trial.forgive().verdict.can, trial.use_cap(4).can), (2, Can.YES, Can.YES))
+            self.assertEqual((trial.back(), trial.verdict().can, trial.blame()), (1, Can.NO, (2,)))
+            process = trial.session and trial.session.child.process
+            self.assertEqual((trial.blamed_sets(), len(trial.ways_out())), (((2,),), 2))
+            self.assertIs(process, trial.session and trial.session.child.process)
+            trial.release()
+            self.assertEqual((trial.back(), trial.verdict().can, trial.lines()), (0, Can.YES, follower.lines()))
+            self.assertEqual([trial.mark() for _ in range(8)], [1, 2, 3, 4, 5, 6, 7, 8])
+            self.assertRaises(TooMany, trial.mark)
+            trial.did("Antibiotic", 112)
+            self.assertEqual((trial.blame(), trial.back()), ((2,), 7))
+            self.assertEqual((trial.next(), len(trial.history())), (Next(70, ("Antibiotic",)), 2))
+        self.assertEqual(len(follower.history()), 2)
+
+    def test_another_cap(self) -> None:
+        follower = self.follower()
+        process = follower.verdict() and follower.session and follower.session.child.process
+        self.assertEqual(follower.use_cap(9).can, Can.YES)
+        self.assertGreater(follower.allowed.cap, 9)
+        self.assertIs(process, follower.session and follower.session.child.process)
+        for cap in (0, 4194305):
+            self.assertRaises(OutOfRange, follower.use_cap, cap)
+        small = Follower(CLINIC, MemoryJournal(), cap=2, most_cap=2)
+        self.addCleanup(small.close)
+        for question in (small.until, small.least_deadline):
+            self.assertRaises(OutOfTime, question)
+        self.assertEqual((small.latest(), small.use_cap(99).can), ({}, Can.YES))
 
     def test_what_if(self) -> None:
         follower = self.follower()

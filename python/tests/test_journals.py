@@ -8,10 +8,12 @@ import time
 import unittest
 from datetime import datetime, timedelta, timezone
 from pathlib import Path
+from zoneinfo import ZoneInfo
 
-from cstn import (Busy, Clock, Contradicts, Did, Event, Follower, Host, Moved, Next, NotKept, Now, Saw, SqliteStore,
-                  Add, Verdict)
+from cstn import (Busy, Clock, Contradicts, Did, Event, Follower, Host, Moved, Next, NoProgram, NotKept, Now, Saw,
+                  SqliteStore, Add, Verdict)
 from cstn.aio import AsyncFollower, AsyncHost
+from cstn.journal import in_zone
 from tests.support import CLINIC, PLANS, STROKE, TOP, Folder, answers, as_json, drawn
 
 EVENTS: list[Event] = [Did("Antibiotic", 91, "a"), Did("Sample", 5, "s"), Add("Z", "Discharge", 350, key="l"),
@@ -33,6 +35,11 @@ class Sqlite(Folder):
         connection = self.store().connection
         self.assertEqual(connection.execute("pragma journal_mode").fetchone(), ("wal",))
         self.assertEqual(connection.execute("pragma synchronous").fetchone(), (2,))
+
+    def test_a_folder_that_is_not_there(self) -> None:
+        with self.assertRaisesRegex(NotKept, "nowhere/ward.db cannot be opened: .*No such file or directory"):
+            self.store("nowhere/ward.db")
+        self.assertEqual(os.listdir(self.folder), [])
 
     def test_killed_at_each_commit(self) -> None:
         store = self.store()
@@ -232,6 +239,26 @@ class Hosts(Folder):
         self.assertEqual(host.due(), [])
         host.follower("b").did("Sample", 20)
         self.assertEqual([(name, type(it)) for name, it in host.due(10)], [("b", Verdict)])
+        self.assertEqual(host.due(65, of=["a"]), [("a", Next(65, (), ("i",)))])
+        self.assertRaises(KeyError, host.due, 65, of=["c"])
+
+    def test_what_cannot_be_asked_is_said(self) -> None:
+        host = self.host()
+        host.create("a", CLINIC)
+        host.create("b", CLINIC)
+        host.store.journal("a").append(2, "no entry")
+        with self.assertLogs("cstn", "WARNING") as log:
+            self.assertEqual([name for name, _ in host.due(10)], ["b"])
+        self.assertRegex(log.output[0], "the plan 'a' was passed over: Changed")
+        self.assertRaises(NoProgram, Host(host.store, program="/nowhere/cstn").due, 10)
+
+    def test_the_zone_is_kept(self) -> None:
+        origin = datetime(2026, 10, 24, 22, tzinfo=ZoneInfo("Europe/Paris"))
+        self.host().create("one", CLINIC, Clock(origin))
+        clock = self.host().follower("one").clock
+        assert clock is not None
+        self.assertEqual(clock.time_of(540).isoformat(), "2026-10-25T06:00:00+01:00")
+        self.assertEqual(in_zone(origin, "Nowhere/None"), origin)
 
     def test_asyncio(self) -> None:
         async def run() -> list[Next]:
@@ -242,8 +269,13 @@ class Hosts(Folder):
                 async with await first.what_if() as trial:
                     await trial.saw("i", True, 45)
                     assert (await trial.outlook()).seen["i"].value
+                    assert await trial.mark() == 1 and (await trial.forgive()).forgiven == ()
+                    assert await trial.back() == 0 and (await trial.lines())[-1] == "saw 45 i true"
                 assert (await first.late("i")).until == 95 and await first.blame() is None
                 assert await first.ways_out() == () and await first.by("Review") is not None
+                assert await first.until() == 95 and (await first.latest())["Review"] == 125
+                assert await first.least_deadline() == 200 and await first.give_way(2) is None
+                assert (await first.attempt(Saw("i", False, 9))).is_yes and (await first.use_cap(99)).is_yes
                 assert len(await first.history()) == 1 and (await first.rest()).startswith(b"<?xml")
                 await first.correct(f"#{2}", Did("Sample", 6))
                 assert (await first.now(7)).verdict.is_yes and (await first.verdict()).is_yes

@@ -2,9 +2,11 @@
 import unittest
 from datetime import datetime, timedelta, timezone, tzinfo
 
-from cstn.answers import Blame, Can, Done, Edited, Next, Refusal, Until, Verdict, parse
+from cstn.answers import (Blame, Can, Delay, Digest, Done, Edited, Forgiven, Idle, Least, Marks, Next, Raised, Refusal,
+                          Stepped, Until, Verdict, Wide, parse)
 from cstn.clock import Clock
-from cstn.events import Add, Change, Deadline, Did, Event, Expect, Now, Saw, from_data, line_of, to_data
+from cstn.events import (Add, AddStep, Change, Deadline, Did, Event, Expect, Forgive, NotBefore, Now, Saw, from_data,
+                         line_of, to_data)
 from cstn.names import literals, plain, printed, written
 
 ANSWERS = [
@@ -21,13 +23,41 @@ ANSWERS = [
     ("add A B 5 -", "added 8", Edited(8)),
     ("remove 8", "removed 8", Edited(8)),
     ("deadline 9", "deadline 9", Edited(9)),
+    ("until", "until 95", Idle(95)),
+    ("until", "done", Done()),
+    ("until", "no 14", Verdict(Can.NO, 14)),
+    ("late i", "late 95 i", Delay("i", 95)),
+    ("late i", "late none i", Delay("i", None)),
+    ("raise 2", "raise 2 95", Raised(2, 95)),
+    ("raise 3", "raise 3 -105", Raised(3, -105)),
+    ("raise 4", "raise 4 none", Raised(4, None)),
+    ("raise 4", "yes 17", Verdict(Can.YES, 17)),
+    ("least", "least 195", Least(195)),
+    ("least", "least none", Least(None)),
+    ("forgive", "forgiven 2 5", Forgiven((2, 5))),
+    ("forgive", "forgiven", Forgiven(())),
+    ("cap 9", "full 9", Verdict(Can.UNKNOWN, 9)),
+    ("verdict", "yes 17", Verdict(Can.YES, 17)),
+    ("step A%20B", "step A%20B", Stepped("A B")),
+    ("digest", "digest " + 64 * "a", Digest(64 * "a")),
+    ("cases", "wide 17", Wide(17)),
+    ("cases", "no 14", Verdict(Can.NO, 14)),
+    ("mark", "mark 1", Marks(1)),
+    ("back", "back 0", Marks(0)),
+    ("back", "refused M2", Refusal("M2", ())),
+    ("try change 2 95", "yes 20", Verdict(Can.YES, 20)),
+    ("try did 6 A", "refused F4 A 2", Refusal("F4", ("A", "2"))),
     ("did 6 A", "refused F4 A 2", Refusal("F4", ("A", "2"))),
     ("did 6 \u00a0", "refused F3 \u00a0", Refusal("F3", ("\u00a0",))),
     ("remove 9", "refused S2 9", Refusal("S2", ("9",))),
     ("", "refused line 17", Refusal("line", ("17",))),
 ]
 NONE = [("did 5 A", "added 8"), ("by A", "by 95 B"), ("next", "next x"), ("add A B 5 -", "yes 5"), ("did 5 A", ""),
-        ("did 5 A", "yes"), ("did 5 A", "yes -1"), ("did 5 A", "refused F9 A"), ("blame", "blame x"), ("by A", "by 5")]
+        ("did 5 A", "yes"), ("did 5 A", "yes -1"), ("did 5 A", "refused F9 A"), ("blame", "blame x"), ("by A", "by 5"),
+        ("until", "until"), ("until", "until none"), ("until", "late 5 i"), ("late i", "late 5 j"),
+        ("late i", "late -5 i"), ("raise 2", "raise 3 95"), ("raise 2", "raise 2"), ("least", "least -1"),
+        ("forgive", "forgiven x"), ("forgive", "yes 5"), ("mark", "yes 5"), ("step A", "step B"),
+        ("digest", "digest a"), ("digest", "yes 5"), ("cases", "at 0 Z"), ("mark", "mark"), ("back", "mark 1"), ("cap 9", "cap 9")]
 EVENTS: list[tuple[Event, str]] = [
     (Did("A B", 5, "k"), "did 5 A%20B"),
     (Saw("i", False, 5, "k"), "saw 5 i false"),
@@ -38,6 +68,9 @@ EVENTS: list[tuple[Event, str]] = [
     (Change(3, None, "k"), "remove 3"),
     (Change(3, -90, "k"), "change 3 -90"),
     (Deadline(90), "deadline 90"),
+    (Forgive("k"), "forgive"),
+    (NotBefore("A B", 80, "k"), "expect 80 A%20B"),
+    (AddStep("A B", "k"), "step A%20B"),
 ]
 
 

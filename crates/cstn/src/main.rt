@@ -9,7 +9,7 @@ use std::process::ExitCode;
 use std::{env, io};
 
 // The number of this release: each program that is released has a higher one than those before it.
-const RELEASE: u32 = 6;
+const RELEASE: u32 = 7;
 
 // The version of the lines that the program takes and answers: another one where a line or an answer changes its form or meaning.
 const LINES: u32 = 1;

@@ -106,7 +106,7 @@ module _ (a f : Label) (h : History) (letters : IsOnLetters a) (plain : IsPlain 
 
 -- a history with these parts, of whose outcomes none is expected at another moment
 abbrev pub history_of : ℕ → (ℕ → Option ℕ) → (ℕ → Option Bool) → History
-history_of now done told = record { now = now; done = done; told = told; expected = λ p. None }
+history_of now done told = record { now = now; done = done; told = told; expected = λ p. None; ready = λ x. 0 }
 
 -- ---- what was named
 
@@ -168,7 +168,7 @@ pub name_more : (moments : List (Option ℕ)) (t : ℕ) (old : ℕ → Option �
     the_named moments ≡ (λ y. if is_named y xs then Some t else old y) →
     the_named (slice_set moments x (Some t)) ≡ (λ y. if is_named y (xs ++ x ∷ []) then Some t else old y)
 name_more moments t old xs x inside so_far = fun_ext (λ y.
-    set_is moments x t inside y ∙ ap (cond (y == x) (Some t)) (ap (λ f. f y) so_far) ∙ both (is_named y xs) (y == x) (old y)
+    set_is moments x (Some t) None inside y ∙ ap (cond (y == x) (Some t)) (ap (λ f. f y) so_far) ∙ both (is_named y xs) (y == x) (old y)
     ∙ sym (ap (λ b. if b then Some t else old y) (named_push y x xs)))
   where
     both : (a b : Bool) (o : Option ℕ) → cond b (Some t) (if a then Some t else o) ≡ (if a || b then Some t else o)

@@ -6,7 +6,7 @@ pub mod Exists
 -- What the program keeps.
 mod CaseLemmas
 mod NextLemmas
-mod Writes
+pub mod Writes
 mod Written
 -- What is said.
 mod Sayings

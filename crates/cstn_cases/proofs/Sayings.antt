@@ -12,8 +12,8 @@ use Rattle.cstn_check.specs.Growth.{log_of, load_of, live_bounds}
 use Rattle.cstn_check.specs.Decisions.{verdict, unless_yes}
 use Rattle.cstn_check.specs.declared.verdicts.Verdict.TheVariants.{Yes}
 use Rattle.cstn_reply.specs.Texts.{Said}
-use Rattle.cstn_outline.specs.Trees.{Tree, Line, IsAmong, lines_of, names_on}
-use Rattle.cstn_outline.specs.Trees.Line.{AtLine, AskLine, DoneLine}
+use Rattle.cstn_outline.specs.Trees.{Tree, TreeLine, IsAmong, lines_of_tree, names_on}
+use Rattle.cstn_outline.specs.Trees.TreeLine.{AtLine, AskLine, DoneLine}
 use Rattle.cstn_outline.specs.Read.{the_tree}
 use Rattle.cstn_cases.specs.Limits.{most_branches}
 use Rattle.cstn_cases.specs.Going.{unbegun, with_named, named_then}
@@ -24,17 +24,17 @@ use Rattle.cstn_cases.proofs.Branches.{cases_strategy, cases_least, cases_all_ex
 use Rattle.cstn_cases.proofs.Exists.{some_cases}
 use Rattle.cstn_cases.proofs.Written.{named_below}
 
-abbrev NamesBelow : ℕ → Line → Type 0
+abbrev NamesBelow : ℕ → TreeLine → Type 0
 NamesBelow n l = All (λ x. x < n) (names_on l)
 
 module _ (m : Labelled) (bounds : List Bound) where
   among_from : (h : History) (tree : Tree) → AreCasesFrom m bounds h tree → IsAmong (count m.base) tree
   among_from h tree (ends g over) = All-cons (NamesBelow (count m.base)) DoneLine [] (All-nil (λ x. x < count m.base)) (All-nil (NamesBelow (count m.base)))
   among_from h tree (asks g t p one other left is found c d) =
-      All-cons (NamesBelow (count m.base)) (AskLine p) (lines_of one ++ lines_of other) (All-nil (λ x. x < count m.base))
-      (All-append (NamesBelow (count m.base)) (lines_of one) (lines_of other) (among_from (with_told g t p true) one c) (among_from (with_told g t p false) other d))
+      All-cons (NamesBelow (count m.base)) (AskLine p) (lines_of_tree one ++ lines_of_tree other) (All-nil (λ x. x < count m.base))
+      (All-append (NamesBelow (count m.base)) (lines_of_tree one) (lines_of_tree other) (among_from (with_told g t p true) one c) (among_from (with_told g t p false) other d))
   among_from h tree (names g t next left is quiet c) =
-      All-cons (NamesBelow (count m.base)) (AtLine t (named_then m bounds g t)) (lines_of next) (named_below m bounds g t)
+      All-cons (NamesBelow (count m.base)) (AtLine t (named_then m bounds g t)) (lines_of_tree next) (named_below m bounds g t)
       (among_from (with_named g t (named_then m bounds g t)) next c)
 
   pub cases_among : (tree : Tree) → AreCasesOf m bounds tree → IsAmong (count m.base) tree
@@ -42,7 +42,7 @@ module _ (m : Labelled) (bounds : List Bound) where
 
 module _ (texts : List (List ℕ)) (load : ℕ) (bounds : List Bound) (m : Labelled) (plan : IsSoundlyPlanned m bounds)
     (live : bounds ≡ live_bounds (log_of (lowered m))) where
-  pub cases_said : load ≡ load_of (lowered m) → (lines : List Line) (said : Said) → lines ≡ lines_of (the_tree lines) → AreCasesOf m bounds (the_tree lines) →
+  pub cases_said : load ≡ load_of (lowered m) → (lines : List TreeLine) (said : Said) → lines ≡ lines_of_tree (the_tree lines) → AreCasesOf m bounds (the_tree lines) →
       branches (the_tree lines) ≤ most_branches → said ≡ tree_said texts load lines → AreCasesUnless texts m None said
   cases_said same lines said whole cases few is = inl (subst (λ bs. IsCasesText texts (load_of (lowered m)) bs m said) live
       (subst (λ n. IsCasesText texts n bounds m said) same text))

@@ -5,9 +5,9 @@ use Rattle.cstn_label.specs.Bounds.{Bound}
 use Rattle.cstn_lift.specs.Labelled.{Labelled}
 use Rattle.cstn_history.specs.Histories.{History}
 use Rattle.cstn_history.specs.Facts.{with_told}
-use Rattle.cstn_outline.specs.Trees.{Tree, Line, lines_of}
+use Rattle.cstn_outline.specs.Trees.{Tree, TreeLine, lines_of_tree}
 use Rattle.cstn_outline.specs.Trees.Tree.{at, ask, done}
-use Rattle.cstn_outline.specs.Trees.Line.{AtLine, AskLine, DoneLine}
+use Rattle.cstn_outline.specs.Trees.TreeLine.{AtLine, AskLine, DoneLine}
 use Rattle.cstn_outline.specs.Whole.{all_lines}
 use Rattle.cstn_outline.proofs.TreeLemmas.{more_lines}
 use Rattle.cstn_cases.specs.declared.going.Case.{Case}
@@ -18,21 +18,21 @@ use Rattle.cstn_cases.specs.Writing.{the_case, ends_among, AreCasesFromEach, IsB
 
 -- ---- how a branch ends
 
-ends_append : (ls more : List Line) → ends_among (ls ++ more) ≡ ends_among ls + ends_among more
+ends_append : (ls more : List TreeLine) → ends_among (ls ++ more) ≡ ends_among ls + ends_among more
 ends_append [] more = omega arith
 ends_append (AtLine t xs ∷ ls) more = ends_append ls more
 ends_append (AskLine p ∷ ls) more = ends_append ls more
 ends_append (DoneLine ∷ ls) more = let rest = ends_append ls more in omega arith
 
-pub ends_all : (tree : Tree) → ends_among (lines_of tree) ≡ branches tree
+pub ends_all : (tree : Tree) → ends_among (lines_of_tree tree) ≡ branches tree
 ends_all (at t xs next) = ends_all next
-ends_all (ask p one other) = let both = ends_append (lines_of one) (lines_of other) in let left = ends_all one in let right = ends_all other in omega arith
+ends_all (ask p one other) = let both = ends_append (lines_of_tree one) (lines_of_tree other) in let left = ends_all one in let right = ends_all other in omega arith
 ends_all done = refl
 
-pub ends_more : (ls : List Line) (l : Line) → ends_among (ls ++ l ∷ []) ≡ ends_among ls + ends_among (l ∷ [])
+pub ends_more : (ls : List TreeLine) (l : TreeLine) → ends_among (ls ++ l ∷ []) ≡ ends_among ls + ends_among (l ∷ [])
 ends_more ls l = ends_append ls (l ∷ [])
 
-pub ends_upto : (ls more : List Line) → ends_among ls ≤ ends_among (ls ++ more)
+pub ends_upto : (ls more : List TreeLine) → ends_among ls ≤ ends_among (ls ++ more)
 ends_upto ls more = let both = ends_append ls more in omega arith
 
 -- ---- the cases that are still to come
@@ -109,27 +109,27 @@ module _ (m : Labelled) (bounds : List Bound) where
   -- ---- a further line
 
   pub begun_first : (tree : Tree) → AreCasesOf m bounds tree → IsBegunWith m bounds [] (unbegun ∷ []) tree
-  begun_first tree cases = record { trees = tree ∷ []; cases = (cases, tt); lines = append-nil (lines_of tree) }
+  begun_first tree cases = record { trees = tree ∷ []; cases = (cases, tt); lines = append-nil (lines_of_tree tree) }
 
-  pub begun_last : (ls : List Line) (tree : Tree) → IsBegunWith m bounds ls [] tree → ls ≡ lines_of tree
+  pub begun_last : (ls : List TreeLine) (tree : Tree) → IsBegunWith m bounds ls [] tree → ls ≡ lines_of_tree tree
   begun_last ls tree b = go b.trees b.cases b.lines
     where
-      go : (trees : List Tree) → AreCasesFromEach m bounds [] trees → ls ++ all_lines trees ≡ lines_of tree → ls ≡ lines_of tree
+      go : (trees : List Tree) → AreCasesFromEach m bounds [] trees → ls ++ all_lines trees ≡ lines_of_tree tree → ls ≡ lines_of_tree tree
       go [] none e = sym (append-nil ls) ∙ e
       go (x ∷ xs) none e = absurd none
 
-  module _ (ls : List Line) (h : History) (hs : List History) (tree : Tree) where
+  module _ (ls : List TreeLine) (h : History) (hs : List History) (tree : Tree) where
     pub begun_done : is_all_named m h ≡ true → IsBegunWith m bounds ls (h ∷ hs) tree → IsBegunWith m bounds (ls ++ DoneLine ∷ []) hs tree
     begun_done over b = go b.trees b.cases b.lines
       where
-        go : (trees : List Tree) → AreCasesFromEach m bounds (h ∷ hs) trees → ls ++ all_lines trees ≡ lines_of tree →
+        go : (trees : List Tree) → AreCasesFromEach m bounds (h ∷ hs) trees → ls ++ all_lines trees ≡ lines_of_tree tree →
             IsBegunWith m bounds (ls ++ DoneLine ∷ []) hs tree
         go [] none e = absurd none
         go (first ∷ trees) are e = record {
           trees = trees;
           cases = are.1;
           lines = more_lines ls DoneLine (all_lines trees)
-              ∙ ap (λ x. ls ++ (lines_of x ++ all_lines trees)) (sym (over_done h first are.0 over)) ∙ e;
+              ∙ ap (λ x. ls ++ (lines_of_tree x ++ all_lines trees)) (sym (over_done h first are.0 over)) ∙ e;
         }
 
     pub begun_ask : (t p : ℕ) → is_all_named m h ≡ false → going_on m bounds h ≡ Some t → first_awaited m h t ≡ Some p →
@@ -137,7 +137,7 @@ module _ (m : Labelled) (bounds : List Bound) where
         IsBegunWith m bounds (ls ++ AskLine p ∷ []) (with_told h t p true ∷ (with_told h t p false ∷ hs)) tree
     begun_ask t p left is found b = go b.trees b.cases b.lines
       where
-        go : (trees : List Tree) → AreCasesFromEach m bounds (h ∷ hs) trees → ls ++ all_lines trees ≡ lines_of tree →
+        go : (trees : List Tree) → AreCasesFromEach m bounds (h ∷ hs) trees → ls ++ all_lines trees ≡ lines_of_tree tree →
             IsBegunWith m bounds (ls ++ AskLine p ∷ []) (with_told h t p true ∷ (with_told h t p false ∷ hs)) tree
         go [] none e = absurd none
         go (first ∷ trees) are e =
@@ -146,8 +146,8 @@ module _ (m : Labelled) (bounds : List Bound) where
               trees = a.one ∷ (a.other ∷ trees);
               cases = (a.yes_cases, (a.no_cases, are.1));
               lines = more_lines ls (AskLine p) (all_lines (a.one ∷ (a.other ∷ trees)))
-                  ∙ ap (λ l. ls ++ (AskLine p ∷ l)) (sym (append_assoc (lines_of a.one) (lines_of a.other) (all_lines trees)))
-                  ∙ ap (λ x. ls ++ (lines_of x ++ all_lines trees)) (sym a.is) ∙ e;
+                  ∙ ap (λ l. ls ++ (AskLine p ∷ l)) (sym (append_assoc (lines_of_tree a.one) (lines_of_tree a.other) (all_lines trees)))
+                  ∙ ap (λ x. ls ++ (lines_of_tree x ++ all_lines trees)) (sym a.is) ∙ e;
             }
 
     pub begun_at : (t : ℕ) → is_all_named m h ≡ false → going_on m bounds h ≡ Some t → first_awaited m h t ≡ None →
@@ -155,7 +155,7 @@ module _ (m : Labelled) (bounds : List Bound) where
         IsBegunWith m bounds (ls ++ AtLine t (named_then m bounds h t) ∷ []) (with_named h t (named_then m bounds h t) ∷ hs) tree
     begun_at t left is quiet b = go b.trees b.cases b.lines
       where
-        go : (trees : List Tree) → AreCasesFromEach m bounds (h ∷ hs) trees → ls ++ all_lines trees ≡ lines_of tree →
+        go : (trees : List Tree) → AreCasesFromEach m bounds (h ∷ hs) trees → ls ++ all_lines trees ≡ lines_of_tree tree →
             IsBegunWith m bounds (ls ++ AtLine t (named_then m bounds h t) ∷ []) (with_named h t (named_then m bounds h t) ∷ hs) tree
         go [] none e = absurd none
         go (first ∷ trees) are e =
@@ -164,5 +164,5 @@ module _ (m : Labelled) (bounds : List Bound) where
               trees = a.next ∷ trees;
               cases = (a.cases, are.1);
               lines = more_lines ls (AtLine t (named_then m bounds h t)) (all_lines (a.next ∷ trees))
-                  ∙ ap (λ x. ls ++ (lines_of x ++ all_lines trees)) (sym a.is) ∙ e;
+                  ∙ ap (λ x. ls ++ (lines_of_tree x ++ all_lines trees)) (sym a.is) ∙ e;
             }

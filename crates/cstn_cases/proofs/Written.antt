@@ -16,9 +16,9 @@ use Rattle.cstn_history.specs.Histories.{History}
 use Rattle.cstn_history.specs.Facts.{with_told}
 use Rattle.cstn_history.proofs.Settled.{as_told, told_agrees}
 use Rattle.cstn_outline.specs.declared.trees.Line.{Line as ProgramLine}
-use Rattle.cstn_outline.specs.Trees.{Tree, Line, IsAmong, lines_of, names_on}
-use Rattle.cstn_outline.specs.Trees.Line.{AtLine, AskLine, DoneLine}
-use Rattle.cstn_outline.specs.Read.{the_line, the_tree, numbers, AreWhole}
+use Rattle.cstn_outline.specs.Trees.{Tree, TreeLine, IsAmong, lines_of_tree, names_on}
+use Rattle.cstn_outline.specs.Trees.TreeLine.{AtLine, AskLine, DoneLine}
+use Rattle.cstn_outline.specs.Read.{the_tree_line, the_tree, node_numbers, AreWhole}
 use Rattle.cstn_outline.specs.Whole.{all_lines}
 use Rattle.cstn_outline.proofs.TreeLemmas.{tree_back, all_numbers}
 use Rattle.cstn_next.specs.Next.{is_upto}
@@ -52,31 +52,31 @@ module _ (m : Labelled) (bounds : List Bound) (plan : IsSoundlyPlanned m bounds)
     pub here : IsFollowed m bounds case
     here = (All-pop (IsFollowed m bounds) (before ++ case ∷ []) before (Some case) refl w.followed).1
 
-    begun : (tree : Tree) → AreCasesOf m bounds tree → IsBegunWith m bounds (map the_line lines) (h ∷ the_pending before) tree
-    begun tree cases = subst (λ hs. IsBegunWith m bounds (map the_line lines) hs tree) (pending_more before case) (w.begun tree cases)
+    begun : (tree : Tree) → AreCasesOf m bounds tree → IsBegunWith m bounds (map the_tree_line lines) (h ∷ the_pending before) tree
+    begun tree cases = subst (λ hs. IsBegunWith m bounds (map the_tree_line lines) hs tree) (pending_more before case) (w.begun tree cases)
 
-    pub writes_done : is_all_named m h ≡ true → map the_line after ≡ map the_line lines ++ DoneLine ∷ [] → IsWriting m bounds after (ended + 1) before
+    pub writes_done : is_all_named m h ≡ true → map the_tree_line after ≡ map the_tree_line lines ++ DoneLine ∷ [] → IsWriting m bounds after (ended + 1) before
     writes_done over are = record {
       begun = λ tree cases. subst (λ ls. IsBegunWith m bounds ls (the_pending before) tree) (sym are)
-          (begun_done m bounds (map the_line lines) h (the_pending before) tree over (begun tree cases));
+          (begun_done m bounds (map the_tree_line lines) h (the_pending before) tree over (begun tree cases));
       followed = others;
       counted =
-          let more = ap ends_among are ∙ ends_more (map the_line lines) DoneLine in
+          let more = ap ends_among are ∙ ends_more (map the_tree_line lines) DoneLine in
           let old = w.counted in
           omega arith;
     }
 
     module _ (t : ℕ) (left : is_all_named m h ≡ false) (is : going_on m bounds h ≡ Some t) where
       pub writes_ask : (p : ℕ) (cases : List Case) → first_awaited m h t ≡ Some p → AreAsked before case t p cases →
-          map the_line after ≡ map the_line lines ++ AskLine p ∷ [] → IsWriting m bounds after ended cases
+          map the_tree_line after ≡ map the_tree_line lines ++ AskLine p ∷ [] → IsWriting m bounds after ended cases
       writes_ask p cases found a are = record {
         begun = λ tree of. subst (λ ls. IsBegunWith m bounds ls (the_pending cases) tree) (sym are)
-            (subst (λ hs. IsBegunWith m bounds (map the_line lines ++ AskLine p ∷ []) hs tree) (sym pending)
-            (begun_ask m bounds (map the_line lines) h (the_pending before) tree t p left is found (begun tree of)));
+            (subst (λ hs. IsBegunWith m bounds (map the_tree_line lines ++ AskLine p ∷ []) hs tree) (sym pending)
+            (begun_ask m bounds (map the_tree_line lines) h (the_pending before) tree t p left is found (begun tree of)));
         followed = subst (All (IsFollowed m bounds)) (sym a.are)
             (All-push (IsFollowed m bounds) (before ++ a.other ∷ []) a.one (All-push (IsFollowed m bounds) before a.other others other_followed) one_followed);
         counted =
-            let more = ap ends_among are ∙ ends_more (map the_line lines) (AskLine p) in
+            let more = ap ends_among are ∙ ends_more (map the_tree_line lines) (AskLine p) in
             let old = w.counted in
             omega arith;
       }
@@ -103,20 +103,20 @@ module _ (m : Labelled) (bounds : List Bound) (plan : IsSoundlyPlanned m bounds)
           }
 
       pub writes_at : (xs : List ℕ) (cases : List Case) → first_awaited m h t ≡ None → xs ≡ named_then m bounds h t → IsNamed before case t xs cases →
-          map the_line after ≡ map the_line lines ++ AtLine t xs ∷ [] → IsWriting m bounds after ended cases
+          map the_tree_line after ≡ map the_tree_line lines ++ AtLine t xs ∷ [] → IsWriting m bounds after ended cases
       writes_at xs cases quiet names n are = record {
         begun = λ tree of. subst (λ ls. IsBegunWith m bounds ls (the_pending cases) tree) (sym are_named)
-            (subst (λ hs. IsBegunWith m bounds (map the_line lines ++ AtLine t (named_then m bounds h t) ∷ []) hs tree) (sym pending)
-            (begun_at m bounds (map the_line lines) h (the_pending before) tree t left is quiet (begun tree of)));
+            (subst (λ hs. IsBegunWith m bounds (map the_tree_line lines ++ AtLine t (named_then m bounds h t) ∷ []) hs tree) (sym pending)
+            (begun_at m bounds (map the_tree_line lines) h (the_pending before) tree t left is quiet (begun tree of)));
         followed = subst (All (IsFollowed m bounds)) (sym n.are) (All-push (IsFollowed m bounds) before n.next others next_followed);
         counted =
-            let more = ap ends_among are ∙ ends_more (map the_line lines) (AtLine t xs) in
+            let more = ap ends_among are ∙ ends_more (map the_tree_line lines) (AtLine t xs) in
             let old = w.counted in
             omega arith;
       }
         where
-          are_named : map the_line after ≡ map the_line lines ++ AtLine t (named_then m bounds h t) ∷ []
-          are_named = are ∙ ap (λ ys. map the_line lines ++ AtLine t ys ∷ []) names
+          are_named : map the_tree_line after ≡ map the_tree_line lines ++ AtLine t (named_then m bounds h t) ∷ []
+          are_named = are ∙ ap (λ ys. map the_tree_line lines ++ AtLine t ys ∷ []) names
 
           next_is : the_case n.next ≡ with_named h t (named_then m bounds h t)
           next_is = n.next_is ∙ ap (with_named h t) names
@@ -154,30 +154,30 @@ module _ (m : Labelled) (bounds : List Bound) (plan : IsSoundlyPlanned m bounds)
       the_case first ≡ unbegun → IsCase (count m.base) first → IsWriting m bounds lines ended cases
   writes_first lines ended cases first none no_end are is case = record {
     begun = λ tree of.
-        subst (λ ls. IsBegunWith m bounds (map the_line ls) (the_pending cases) tree) (sym none)
+        subst (λ ls. IsBegunWith m bounds (map the_tree_line ls) (the_pending cases) tree) (sym none)
         (subst (λ hs. IsBegunWith m bounds [] hs tree) (sym (ap the_pending are ∙ ap (λ g. g ∷ []) is)) (begun_first m bounds tree of));
     followed = subst (All (IsFollowed m bounds)) (sym are) (All-push (IsFollowed m bounds) [] first (All-nil (IsFollowed m bounds))
         (record { case = case; on_track = subst (IsOnTrack m bounds) (sym is) (unbegun_track m bounds plan) }));
-    counted = no_end ∙ sym (ap (λ ls. ends_among (map the_line ls)) none);
+    counted = no_end ∙ sym (ap (λ ls. ends_among (map the_tree_line ls)) none);
   }
 
   module _ (lines : List ProgramLine) (ended : ℕ) (cases : List Case) (w : IsWriting m bounds lines ended cases) where
-    whole_lines : cases ≡ [] → map the_line lines ≡ lines_of (some_cases m bounds plan).0
+    whole_lines : cases ≡ [] → map the_tree_line lines ≡ lines_of_tree (some_cases m bounds plan).0
     whole_lines none =
         let some = some_cases m bounds plan in
-        begun_last m bounds (map the_line lines) some.0
-        (subst (λ (cs : List Case). IsBegunWith m bounds (map the_line lines) (the_pending cs) some.0) none (w.begun some.0 some.1))
+        begun_last m bounds (map the_tree_line lines) some.0
+        (subst (λ (cs : List Case). IsBegunWith m bounds (map the_tree_line lines) (the_pending cs) some.0) none (w.begun some.0 some.1))
 
-    pub writes_whole : cases ≡ [] → AreWhole (map the_line lines)
+    pub writes_whole : cases ≡ [] → AreWhole (map the_tree_line lines)
     writes_whole none = ((some_cases m bounds plan).0, whole_lines none)
 
-    whole_is : cases ≡ [] → the_tree (map the_line lines) ≡ (some_cases m bounds plan).0
+    whole_is : cases ≡ [] → the_tree (map the_tree_line lines) ≡ (some_cases m bounds plan).0
     whole_is none = ap the_tree (whole_lines none) ∙ tree_back (some_cases m bounds plan).0
 
-    pub writes_cases : cases ≡ [] → AreCasesOf m bounds (the_tree (map the_line lines))
+    pub writes_cases : cases ≡ [] → AreCasesOf m bounds (the_tree (map the_tree_line lines))
     writes_cases none = subst (AreCasesOf m bounds) (sym (whole_is none)) (some_cases m bounds plan).1
 
-    pub writes_few : cases ≡ [] → ended ≤ most_branches → branches (the_tree (map the_line lines)) ≤ most_branches
+    pub writes_few : cases ≡ [] → ended ≤ most_branches → branches (the_tree (map the_tree_line lines)) ≤ most_branches
     writes_few none few =
         let same = ap branches (whole_is none) in
         let all = ends_all (some_cases m bounds plan).0 in
@@ -188,7 +188,7 @@ module _ (m : Labelled) (bounds : List Bound) (plan : IsSoundlyPlanned m bounds)
     pub writes_wide : most_branches < ended → (tree : Tree) → AreCasesOf m bounds tree → most_branches < branches tree
     writes_wide many tree of =
         let b = w.begun tree of in
-        let upto = ends_upto (map the_line lines) (all_lines b.trees) in
+        let upto = ends_upto (map the_tree_line lines) (all_lines b.trees) in
         let lines_are = ap ends_among b.lines in
         let all = ends_all tree in
         let counted = w.counted in

@@ -13,7 +13,7 @@ use Rattle.cstn_next.specs.Next.{is_ready, awaited_from, awaited_moments, earlie
 
 -- nothing was named yet, not even the origin, and nothing was told
 abbrev pub unbegun : History
-unbegun = record { now = 0; done = λ x. None; told = λ p. None; expected = λ p. None }
+unbegun = record { now = 0; done = λ x. None; told = λ p. None; expected = λ p. None; ready = λ x. 0 }
 
 -- these were named at t
 abbrev pub with_named : History → ℕ → List ℕ → History

@@ -9,14 +9,14 @@ use Rattle.cstn_check.specs.Growth.{log_of, load_of, live_bounds}
 use Rattle.cstn_check.specs.Decisions.{verdict, unless_yes}
 use Rattle.cstn_reply.specs.Texts.{Said, say}
 use Rattle.cstn_reply.specs.declared.output.Outcome.TheVariants.{Good, Wide}
-use Rattle.cstn_outline.specs.Trees.{Tree, Line, lines_of, table_of}
-use Rattle.cstn_outline.specs.Texts.{shown}
+use Rattle.cstn_outline.specs.Trees.{Tree, TreeLine, lines_of_tree, table_of}
+use Rattle.cstn_outline.specs.Texts.{tree_shown}
 use Rattle.cstn_cases.specs.Limits.{most_branches}
 use Rattle.cstn_cases.specs.Cases.{AreCasesOf, NamesAllExecuted, NamesNoneRuledOut, branches}
 
 -- the text of a load and of the lines of a tree
-abbrev pub tree_said : List (List ℕ) → ℕ → List Line → Said
-tree_said names load lines = record { outcome = Good; text = shown names load lines }
+abbrev pub tree_said : List (List ℕ) → ℕ → List TreeLine → Said
+tree_said names load lines = record { outcome = Good; text = tree_shown names load lines }
 
 -- What is said of a yes by cases: the load, and the tree by cases. Its table is a labelled strategy and has each time-point that
 -- is executed at its least moment, and the branch of a scenario names exactly what is executed in it.
@@ -28,7 +28,7 @@ pub record IsCasesText (names : List (List ℕ)) (load : ℕ) (bounds : List Bou
   pub least : HasLabelledLeasts m (table_of tree)
   pub executed : NamesAllExecuted m tree
   pub ruled_out : NamesNoneRuledOut m tree
-  pub said_is : said ≡ tree_said names load (lines_of tree)
+  pub said_is : said ≡ tree_said names load (lines_of_tree tree)
 
 -- how many propositions are observed, where the tree has more branches than are told
 abbrev pub wide_cases : Labelled → Said

@@ -11,10 +11,10 @@ use Rattle.cstn_net.specs.Networks.{count}
 use Rattle.cstn_lift.specs.Labelled.{Labelled}
 use Rattle.cstn_history.specs.Histories.{History}
 use Rattle.cstn_history.specs.Facts.{with_told}
-use Rattle.cstn_outline.specs.Trees.{Tree, Line, lines_of}
-use Rattle.cstn_outline.specs.Trees.Line.{AtLine, AskLine, DoneLine}
+use Rattle.cstn_outline.specs.Trees.{Tree, TreeLine, lines_of_tree}
+use Rattle.cstn_outline.specs.Trees.TreeLine.{AtLine, AskLine, DoneLine}
 use Rattle.cstn_outline.specs.declared.trees.Line.{Line as ProgramLine}
-use Rattle.cstn_outline.specs.Read.{the_line, numbers}
+use Rattle.cstn_outline.specs.Read.{the_tree_line, node_numbers}
 use Rattle.cstn_outline.specs.Whole.{all_lines}
 use Rattle.cstn_cases.specs.declared.going.Case.{Case}
 use Rattle.cstn_cases.specs.declared.nexts.Next.{Next}
@@ -39,7 +39,7 @@ the_named moments = λ x. slice_index_or moments x None
 
 -- the history that the program's case stands for
 abbrev pub the_case : Case → History
-the_case c = record { now = c.last; done = the_named c.named.items; told = the_told (marks c.told); expected = λ p. None }
+the_case c = record { now = c.last; done = the_named c.named.items; told = the_told (marks c.told); expected = λ p. None; ready = λ x. 0 }
 
 -- there is a place for each of the n time-points, no moment is above a million, and no mark is unknown
 pub record IsCase (n : ℕ) (c : Case) : Type 0 where
@@ -55,7 +55,7 @@ pub record IsFollowed (m : Labelled) (bounds : List Bound) (c : Case) : Type 0 w
 -- ---- the tree that is written
 
 -- how many of the lines end a branch
-abbrev pub ends_among : List Line → ℕ
+abbrev pub ends_among : List TreeLine → ℕ
 ends_among [] = 0
 ends_among (AtLine t xs ∷ ls) = ends_among ls
 ends_among (AskLine p ∷ ls) = ends_among ls
@@ -69,10 +69,10 @@ AreCasesFromEach m bounds (h ∷ hs) [] = ⊥
 AreCasesFromEach m bounds (h ∷ hs) (tree ∷ trees) = AreCasesFrom m bounds h tree × AreCasesFromEach m bounds hs trees
 
 -- the lines, followed by those of the trees from these histories on, are the lines of the tree
-pub record IsBegunWith (m : Labelled) (bounds : List Bound) (ls : List Line) (hs : List History) (tree : Tree) : Type 0 where
+pub record IsBegunWith (m : Labelled) (bounds : List Bound) (ls : List TreeLine) (hs : List History) (tree : Tree) : Type 0 where
   pub trees : List Tree
   pub cases : AreCasesFromEach m bounds hs trees
-  pub lines : ls ++ all_lines trees ≡ lines_of tree
+  pub lines : ls ++ all_lines trees ≡ lines_of_tree tree
 
 -- the histories of the cases that are still to come, the next one first
 abbrev pub the_pending : List Case → List History
@@ -80,16 +80,16 @@ the_pending cases = map the_case (reverse cases)
 
 -- the lines, followed by those of the cases that are still to come, are those of the tree by cases; and the branches are counted
 pub record IsWriting (m : Labelled) (bounds : List Bound) (lines : List ProgramLine) (ended : ℕ) (cases : List Case) : Type 0 where
-  pub begun : (tree : Tree) → AreCasesOf m bounds tree → IsBegunWith m bounds (map the_line lines) (the_pending cases) tree
+  pub begun : (tree : Tree) → AreCasesOf m bounds tree → IsBegunWith m bounds (map the_tree_line lines) (the_pending cases) tree
   pub followed : All (IsFollowed m bounds) cases
-  pub counted : ended ≡ ends_among (map the_line lines)
+  pub counted : ended ≡ ends_among (map the_tree_line lines)
 
 -- what is next after the history, and that no time-point is left or there is a next moment
 abbrev pub IsNextOf : Labelled → List Bound → History → Next → Type 0
 IsNextOf m bounds h Over = is_all_named m h ≡ true
 IsNextOf m bounds h (Asks t p) = (is_all_named m h ≡ false) × (going_on m bounds h ≡ Some t) × (first_awaited m h t ≡ Some p.index)
 IsNextOf m bounds h (Names t xs) =
-    (is_all_named m h ≡ false) × (going_on m bounds h ≡ Some t) × (first_awaited m h t ≡ None) × (numbers xs.items ≡ named_then m bounds h t)
+    (is_all_named m h ≡ false) × (going_on m bounds h ≡ Some t) × (first_awaited m h t ≡ None) × (node_numbers xs.items ≡ named_then m bounds h t)
 
 -- behind the cases there are two more: in each the outcome of p was told at t after this case, false in the first and true in the
 -- second

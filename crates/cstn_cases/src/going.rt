@@ -12,7 +12,7 @@ ghost use Rattle.cstn_plan.specs.Asked.{moment_of};
 ghost use Rattle.cstn_plan.specs.Plans.{the_bounds};
 ghost use Rattle.cstn_history.specs.Histories.{allows, is_told};
 ghost use Rattle.cstn_history.specs.Facts.{settles, with_told, observed_since};
-ghost use Rattle.cstn_outline.specs.Read.{numbers};
+ghost use Rattle.cstn_outline.specs.Read.{node_numbers};
 ghost use Rattle.cstn_next.specs.Next.{is_ready, awaited_from, awaited_moments};
 ghost use Rattle.cstn_cases.specs.Going.{unbegun, with_named, is_still_open, is_all_named, latest_left, ready_moments};
 ghost use Rattle.cstn_cases.specs.Writing.{told_by, the_case, the_named, IsCase};
@@ -76,7 +76,7 @@ impl Case {
     /// Names time-points at t.
     pub fn name(&mut self, t: u32, xs: &[NodeId])
         requires inside { All (λ x. x.0 < length self.old.named.items) xs.now }
-        ensures named { the_case self.new ≡ with_named (the_case self.old) t (numbers xs.now) }
+        ensures named { the_case self.new ≡ with_named (the_case self.old) t (node_numbers xs.now) }
         ensures wide { length self.new.named.items ≡ length self.old.named.items }
         ensures told { self.new.told ≡ self.old.told }
     {

@@ -7,7 +7,7 @@ ghost use Rattle.cstn_net.specs.Read.{the_network};
 ghost use Rattle.cstn_lift.specs.Lowered.{lowered};
 ghost use Rattle.cstn_lift.specs.Read.{the_labelled};
 ghost use Rattle.cstn_plan.specs.Plans.{the_bounds};
-ghost use Rattle.cstn_outline.specs.Read.{numbers};
+ghost use Rattle.cstn_outline.specs.Read.{node_numbers};
 ghost use Rattle.cstn_next.specs.Next.{earlier, earliest, is_upto};
 ghost use Rattle.cstn_cases.specs.Writing.{the_case, IsFollowed, IsNextOf};
 
@@ -90,7 +90,7 @@ fn is_upto(t: u32, moment: Option<u32>) -> bool
 // The time-points whose moment is t or earlier.
 fn named_upto(alloc: Global, moments: &[Option<u32>], t: u32) -> Result<Vec<NodeId>, AllocError>
     requires few { length moments.now ≤ most_time_points }
-    ensures { IfOk result (λ v. numbers v.items ≡ filter (λ x. is_upto t (slice_index_or moments.now x None)) (range_with_len 0 (length moments.now))) }
+    ensures { IfOk result (λ v. node_numbers v.items ≡ filter (λ x. is_upto t (slice_index_or moments.now x None)) (range_with_len 0 (length moments.now))) }
 {
     let mut named = Vec::new(alloc);
     for x in 0..moments.len() {

@@ -10,7 +10,7 @@ ghost use Rattle.cstn_check.specs.Growth.{load_of};
 ghost use Rattle.cstn_check.specs.declared.verdicts.Verdict.TheVariants.{Yes};
 ghost use Rattle.cstn_reply.specs.Read.{the_said};
 ghost use Rattle.cstn_reply.specs.Texts.{say};
-ghost use Rattle.cstn_outline.specs.Trees.{IsAmong, lines_of};
+ghost use Rattle.cstn_outline.specs.Trees.{IsAmong, lines_of_tree};
 ghost use Rattle.cstn_outline.specs.Read.{the_tree};
 ghost use Rattle.cstn_cases.specs.Told.{AreCasesSaid, AreCasesUnless, tree_said};
 ghost use Rattle.std.specs.Prelude.{None};
@@ -78,7 +78,7 @@ fn show(alloc: Global, tree: &Tree, load: u32, names: &Names) -> Result<Said, Al
     requires low { 1 ≤ load }
     requires high { load ≤ most_load }
     ensures shown { IfOk result (λ said. the_said said ≡ tree_said names.now load tree.now) }
-    ensures whole { tree.now ≡ lines_of (the_tree tree.now) }
+    ensures whole { tree.now ≡ lines_of_tree (the_tree tree.now) }
 {
     tree.lines();
     let text = print(alloc, tree, load, names)?;

@@ -8,7 +8,7 @@ ghost use Rattle.cstn_lift.specs.Lowered.{lowered};
 ghost use Rattle.cstn_lift.specs.Read.{the_labelled};
 ghost use Rattle.cstn_plan.specs.Plans.{the_bounds};
 ghost use Rattle.cstn_outline.specs.Trees.{Tree as TheTree, AtLine, AskLine, DoneLine};
-ghost use Rattle.cstn_outline.specs.Read.{the_line, the_tree, numbers};
+ghost use Rattle.cstn_outline.specs.Read.{the_tree_line, the_tree, node_numbers};
 ghost use Rattle.cstn_cases.specs.Limits.{most_branches};
 ghost use Rattle.cstn_cases.specs.Cases.{AreCasesOf, branches};
 ghost use Rattle.cstn_cases.specs.Writing.{AreAsked, IsNamed, IsWriting};
@@ -103,7 +103,7 @@ impl Writing {
     // Puts a `done`.
     fn end(&mut self) -> Result<(), AllocError>
         requires few { self.old.branches ≤ most_branches }
-        ensures lines { OnOk result (map the_line self.new.lines.items ≡ map the_line self.old.lines.items ++ DoneLine ∷ []) }
+        ensures lines { OnOk result (map the_tree_line self.new.lines.items ≡ map the_tree_line self.old.lines.items ++ DoneLine ∷ []) }
         ensures branches { OnOk result (self.new.branches ≡ self.old.branches + 1) }
         ensures pending { self.new.pending ≡ self.old.pending }
     {
@@ -115,7 +115,7 @@ impl Writing {
     // Puts an `ask`, and the two cases that follow it.
     fn ask(&mut self, alloc: Global, case: Case, t: u32, prop: Prop) -> Result<(), AllocError>
         requires plain { IsPlain (marks case.told) }
-        ensures lines { OnOk result (map the_line self.new.lines.items ≡ map the_line self.old.lines.items ++ AskLine prop.index ∷ []) }
+        ensures lines { OnOk result (map the_tree_line self.new.lines.items ≡ map the_tree_line self.old.lines.items ++ AskLine prop.index ∷ []) }
         ensures branches { self.new.branches ≡ self.old.branches }
         ensures pending { OnOk result (AreAsked self.old.pending.items case t prop.index self.new.pending.items) }
     {
@@ -132,9 +132,9 @@ impl Writing {
     // Puts an `at`, and the case that follows it.
     fn name(&mut self, case: Case, t: u32, xs: Vec<NodeId>) -> Result<(), AllocError>
         requires inside { All (λ x. x.0 < length case.named.items) xs.items }
-        ensures lines { OnOk result (map the_line self.new.lines.items ≡ map the_line self.old.lines.items ++ AtLine t (numbers xs.items) ∷ []) }
+        ensures lines { OnOk result (map the_tree_line self.new.lines.items ≡ map the_tree_line self.old.lines.items ++ AtLine t (node_numbers xs.items) ∷ []) }
         ensures branches { self.new.branches ≡ self.old.branches }
-        ensures pending { OnOk result (IsNamed self.old.pending.items case t (numbers xs.items) self.new.pending.items) }
+        ensures pending { OnOk result (IsNamed self.old.pending.items case t (node_numbers xs.items) self.new.pending.items) }
     {
         let mut next = case;
         next.name(t, &xs);

@@ -10,7 +10,7 @@ use Rattle.cstn_net.specs.declared.constraints.Constraint.{Constraint}
 use Rattle.cstn_net.specs.Networks.{Constraint as TheConstraint, IsWellFormed}
 use Rattle.cstn_net.specs.Read.{NetworkParts, the_network, the_constraint, has_id, without_id, with_most}
 use Rattle.cstn_net.proofs.ChangeLemmas.{same_id, none_taken}
-use Rattle.cstn_change.specs.Changes.{Change, adds, removes, revalues, id_above, has_constraint, without, with_value, constraints_after, fresh_after}
+use Rattle.cstn_change.specs.Changes.{Change, adds, removes, revalues, id_above, has_constraint, constraints_without, with_value, constraints_after, fresh_after}
 
 -- ---- an id above all
 
@@ -76,14 +76,14 @@ has_seen id net (Some k) none = sym (true_from_ne_false (has_constraint (the_net
 
 -- ---- the constraints without one, or with another value of one
 
-pub without_seen : (id : ℕ) (cs : List Constraint) → map the_constraint (without_id id cs) ≡ without id (map the_constraint cs)
+pub without_seen : (id : ℕ) (cs : List Constraint) → map the_constraint (without_id id cs) ≡ constraints_without id (map the_constraint cs)
 without_seen id [] = refl
 without_seen id (c ∷ cs) = elim (cases_Bool (has_id id c)) [
   | inl t ↦ rw t (without_seen id cs)
   | inr f ↦ rw f (ap (λ ds. the_constraint c ∷ ds) (without_seen id cs))
 ]
 
-pub without_none : (id : ℕ) (cs : List Constraint) → All (λ c. c.id ≢ id) cs → map the_constraint cs ≡ without id (map the_constraint cs)
+pub without_none : (id : ℕ) (cs : List Constraint) → All (λ c. c.id ≢ id) cs → map the_constraint cs ≡ constraints_without id (map the_constraint cs)
 without_none id cs others = ap (map the_constraint) (sym (none_taken id cs others)) ∙ without_seen id cs
 
 one_with_seen : (id : ℕ) (most : ℤ) (c : Constraint) → the_constraint (with_most id most c) ≡ with_value id most (the_constraint c)

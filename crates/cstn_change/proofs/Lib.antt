@@ -1,5 +1,6 @@
 -- Ids, and why changes are refused.
 pub mod IdLemmas
+pub mod Values
 pub mod RefusalLemmas
 -- Labelled networks as edited.
 pub mod TimePointLabels

@@ -20,8 +20,8 @@ use Rattle.cstn_lift.specs.Read.{LabelledParts, the_labelled, with_labels}
 use Rattle.cstn_lift.specs.WellFormed.{IsLabelled}
 use Rattle.cstn_history.specs.Histories.{edited}
 use Rattle.cstn_history.proofs.Edited.{completed_new}
-use Rattle.cstn_change.specs.Changes.{without, with_value}
-use Rattle.cstn_change.specs.Read.{HasConstraints}
+use Rattle.cstn_change.specs.Changes.{constraints_without, with_value}
+use Rattle.cstn_change.specs.Read.{OnlyConstraintsDiffer}
 use Rattle.cstn_change.proofs.IdLemmas.{without_seen, without_none, with_most_seen}
 
 -- ---- labelled networks
@@ -68,7 +68,7 @@ lift_many never m e good other (inr lowest) = elim (cases_lt most_constraints (l
 
 -- one constraint more
 pub constraint_added : (old new : NetworkParts) (c : Constraint) (spare : ℕ) → new ≡ record old { constraints = old.constraints ++ c ∷ []; spare = spare }
-    → HasConstraints old new ((the_network old).constraints ++ the_constraint c ∷ [])
+    → OnlyConstraintsDiffer old new ((the_network old).constraints ++ the_constraint c ∷ [])
 constraint_added old new c spare is = record {
   points = ap (λ (n : NetworkParts). n.points) is;
   deadline = ap (λ (n : NetworkParts). n.deadline) is;
@@ -77,7 +77,7 @@ constraint_added old new c spare is = record {
 
 pub constraint_taken : (old new : NetworkParts) (id : ℕ) (o : Option Constraint) → IsNone o ↔ All (λ c. c.id ≢ id) old.constraints → IfNone o (new ≡ old)
     → IfSome o (λ c. new ≡ record old { constraints = without_id id old.constraints; spare = old.spare + 1 })
-    → HasConstraints old new (without id (the_network old).constraints)
+    → OnlyConstraintsDiffer old new (constraints_without id (the_network old).constraints)
 constraint_taken old new id None none same gone = record {
   points = ap (λ (n : NetworkParts). n.points) same;
   deadline = ap (λ (n : NetworkParts). n.deadline) same;
@@ -91,7 +91,7 @@ constraint_taken old new id (Some c) none same gone = record {
 }
 
 pub value_changed : (old new : NetworkParts) (id : ℕ) (most : ℤ) → new ≡ record old { constraints = map (with_most id most) old.constraints }
-    → HasConstraints old new (map (with_value id most) (the_network old).constraints)
+    → OnlyConstraintsDiffer old new (map (with_value id most) (the_network old).constraints)
 value_changed old new id most is = record {
   points = ap (λ (n : NetworkParts). n.points) is;
   deadline = ap (λ (n : NetworkParts). n.deadline) is;
@@ -100,7 +100,7 @@ value_changed old new id most is = record {
 
 -- what is edited of a copy is edited of the network
 pub copy_edited : (old copy new : NetworkParts) (cs : List TheConstraint → List TheConstraint) (spare : ℕ) → copy ≡ record old { spare = spare }
-    → HasConstraints copy new (cs (the_network copy).constraints) → HasConstraints old new (cs (the_network old).constraints)
+    → OnlyConstraintsDiffer copy new (cs (the_network copy).constraints) → OnlyConstraintsDiffer old new (cs (the_network old).constraints)
 copy_edited old copy new cs spare is edited = record {
   points = edited.points ∙ ap (λ (n : NetworkParts). n.points) is;
   deadline = edited.deadline ∙ ap (λ (n : NetworkParts). n.deadline) is;

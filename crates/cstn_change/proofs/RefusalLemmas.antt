@@ -24,7 +24,7 @@ use Rattle.cstn_net.proofs.Observed.{place_of}
 use Rattle.cstn_net.proofs.Same.{same_prop}
 use Rattle.cstn_facts.proofs.Filters.{none_passes, position_at}
 use Rattle.cstn_facts.proofs.Options.{none_where}
-use Rattle.cstn_change.specs.Changes.{EditedNetwork, adds, removes, revalues, Refusal, EditLimit, NoRoom, NoSuch, ValueRange, NotPlain, NotObserved, is_value}
+use Rattle.cstn_change.specs.Changes.{EditedNetwork, adds, removes, revalues, ChangeRefusal, EditLimit, NoRoom, NoSuch, ValueRange, NotPlain, NotObserved, is_value}
 use Rattle.cstn_change.specs.Changes.{least_unobserved, has_constraint, refusal}
 
 -- the test of the value passes exactly where it is in range
@@ -119,7 +119,7 @@ module _ (net : Network) (a : Label) where
 -- ---- the first reason that applies, of an addition
 
 module _ (net : Network) (edits room fresh x y : ℕ) (most : ℤ) (a : Label) where
-  abbrev why : Option Refusal
+  abbrev why : Option ChangeRefusal
   why = refusal room (record { net = net; fresh = fresh; edits = edits }) (adds x y most a)
 
   pub add_at_limit : most_edits ≤ edits → Some EditLimit ≡ why

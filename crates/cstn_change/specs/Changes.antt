@@ -37,14 +37,14 @@ pub data Change : Type 0 where
 -- Why a change is refused. S1: there are as many constraints as there may be. S2: no constraint has the id. S3: the value is out
 -- of range. S4: the label isn't plain. S5: nothing observes a proposition that it names. S6: there were as many edits as there
 -- may be. S7: no time-point has the name of an end.
-pub data Refusal : Type 0 where
-  NoRoom : (room : ℕ) → Refusal
-  NoSuch : (id : ℕ) → Refusal
-  ValueRange : (most : ℤ) → Refusal
-  NotPlain : Refusal
-  NotObserved : (prop : ℕ) → Refusal
-  EditLimit : Refusal
-  UnknownEnd : (name : List ℕ) → Refusal
+pub data ChangeRefusal : Type 0 where
+  NoRoom : (room : ℕ) → ChangeRefusal
+  NoSuch : (id : ℕ) → ChangeRefusal
+  ValueRange : (most : ℤ) → ChangeRefusal
+  NotPlain : ChangeRefusal
+  NotObserved : (prop : ℕ) → ChangeRefusal
+  EditLimit : ChangeRefusal
+  UnknownEnd : (name : List ℕ) → ChangeRefusal
 
 -- the value is from -1,000,000,000 to 1,000,000,000 ticks
 abbrev pub is_value : ℤ → Bool
@@ -59,7 +59,7 @@ abbrev pub has_constraint : Network → ℕ → Bool
 has_constraint net id = list_any (λ c. c.id == id) net.constraints
 
 -- the first reason for which a change of the network is refused, where there may be `room` constraints; none where it is accepted
-abbrev pub refusal : ℕ → EditedNetwork → Change → Option Refusal
+abbrev pub refusal : ℕ → EditedNetwork → Change → Option ChangeRefusal
 refusal room e (adds from to most a) =
     if nat_le most_edits e.edits then Some EditLimit
     else if nat_le room (length e.net.constraints) then Some (NoRoom room)
@@ -76,8 +76,8 @@ refusal room e (revalues id most) =
 -- ---- what is accepted
 
 -- the constraints without the one of this id
-abbrev pub without : ℕ → List Constraint → List Constraint
-without id cs = filter (λ c. not (c.id == id)) cs
+abbrev pub constraints_without : ℕ → List Constraint → List Constraint
+constraints_without id cs = filter (λ c. not (c.id == id)) cs
 
 -- the constraint, with another value where it has this id
 abbrev pub with_value : ℕ → ℤ → Constraint → Constraint
@@ -90,7 +90,7 @@ new_constraint id from to most a = record { id = id; from = from; to = to; most 
 -- the constraints after a change, where one that is added comes last and has this id
 abbrev pub constraints_after : List Constraint → ℕ → Change → List Constraint
 constraints_after cs fresh (adds from to most a) = cs ++ new_constraint fresh from to most a ∷ []
-constraints_after cs fresh (removes id) = without id cs
+constraints_after cs fresh (removes id) = constraints_without id cs
 constraints_after cs fresh (revalues id most) = map (with_value id most) cs
 
 -- an id above all that were ever used, after a change
@@ -100,8 +100,8 @@ fresh_after fresh (removes id) = fresh
 fresh_after fresh (revalues id most) = fresh
 
 -- the network as edited by one change more
-abbrev pub after : EditedNetwork → Change → EditedNetwork
-after e change = record {
+abbrev pub edited_by : EditedNetwork → Change → EditedNetwork
+edited_by e change = record {
   net = record e.net { constraints = constraints_after e.net.constraints e.fresh change };
   fresh = fresh_after e.fresh change;
   edits = e.edits + 1;
@@ -112,17 +112,17 @@ abbrev pub edited_base : Labelled → ℕ → ℕ → EditedNetwork
 edited_base m fresh edits = record { net = m.base; fresh = fresh; edits = edits }
 
 -- one of two by whether a change is accepted or refused
-abbrev pub if_accepted : {S : Type 0} → Option Refusal → S → S → S
+abbrev pub if_accepted : {S : Type 0} → Option ChangeRefusal → S → S → S
 if_accepted None next now = next
 if_accepted (Some why) next now = now
 
 -- ---- what an accepted change may be
 
 -- the ends of a constraint that is added are time-points
-abbrev pub IsBetween : Network → Change → Type 0
-IsBetween net (adds from to most a) = (from < count net) × (to < count net)
-IsBetween net (removes id) = Unit {0}
-IsBetween net (revalues id most) = Unit {0}
+abbrev pub HasTimePointEnds : Network → Change → Type 0
+HasTimePointEnds net (adds from to most a) = (from < count net) × (to < count net)
+HasTimePointEnds net (removes id) = Unit {0}
+HasTimePointEnds net (revalues id most) = Unit {0}
 
 -- a constraint with this value and label can be added, where there may be `n`
 pub record CanAdd (n : ℕ) (net : Network) (most : ℤ) (a : Label) : Type 0 where

@@ -2,8 +2,8 @@
 ghost use Rattle.std.specs.Prelude.{◌≡◌, [], OnOk};
 ghost use Rattle.cstn_reply.specs.Texts.{line};
 ghost use Rattle.cstn_change.specs.Changes.{UnknownEnd};
-ghost use Rattle.cstn_change.specs.ChangeLines.{refused_text, accepted_text};
-ghost use Rattle.cstn_change.specs.Read.{the_change, the_refusal};
+ghost use Rattle.cstn_change.specs.ChangeLines.{refused_change_text, accepted_text};
+ghost use Rattle.cstn_change.specs.Read.{the_change, the_change_refusal};
 
 use crate::changes::Change;
 use crate::errors::EditError;
@@ -14,7 +14,7 @@ use std::alloc::{AllocError, Global};
 /// Puts the line that refuses an edit, by S1 to S6.
 pub fn put_refusal(text: &mut AnswerText, error: EditError)
     requires empty { text.old ≡ [] }
-    ensures line { text.new ≡ line (refused_text (the_refusal error)) }
+    ensures line { text.new ≡ line (refused_change_text (the_change_refusal error)) }
 {
     match error {
         EditError::EditLimit => text.put_word(b"refused S6"),
@@ -29,7 +29,7 @@ pub fn put_refusal(text: &mut AnswerText, error: EditError)
 /// Puts the line that refuses an edit, by S7, since no time-point has the name of an end. Fails for want of memory alone.
 pub fn put_unknown_end(alloc: Global, text: &mut AnswerText, name: &str) -> Result<(), AllocError>
     requires empty { text.old ≡ [] }
-    ensures line { OnOk result (text.new ≡ line (refused_text (UnknownEnd name.now))) }
+    ensures line { OnOk result (text.new ≡ line (refused_change_text (UnknownEnd name.now))) }
 {
     let line = format!(in alloc; "refused S7 {}\n", print_name(alloc, name)?)?;
     text.extend(line.as_bytes())

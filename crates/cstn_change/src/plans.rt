@@ -10,8 +10,8 @@ ghost use Rattle.cstn_lift.specs.Read.{the_labelled};
 ghost use Rattle.cstn_lift.specs.WellFormed.{IsLabelled};
 ghost use Rattle.cstn_lift.specs.Lowered.{lowered};
 ghost use Rattle.cstn_history.specs.Histories.{edited};
-ghost use Rattle.cstn_change.specs.Changes.{CanChange, IsBetween, constraints_after, fresh_after, without, with_value};
-ghost use Rattle.cstn_change.specs.Read.{HasConstraints, the_change};
+ghost use Rattle.cstn_change.specs.Changes.{CanChange, HasTimePointEnds, constraints_after, fresh_after, constraints_without, with_value};
+ghost use Rattle.cstn_change.specs.Read.{OnlyConstraintsDiffer, the_change};
 
 use crate::changes::Change;
 use crate::laws::ids_stay_below;
@@ -28,7 +28,7 @@ pub fn changed(
     fresh: u32,
     change: Change,
 ) -> Result<Option<Labelled>, AllocError>
-    requires between { IsBetween (the_labelled network.now).base (the_change change) }
+    requires between { HasTimePointEnds (the_labelled network.now).base (the_change change) }
     requires possible { CanChange most_constraints (the_labelled network.now).base (the_change change) }
     requires above { All (λ c. c.id < fresh) (the_labelled network.now).base.constraints }
     ensures edited { IfOk result (λ o. IfSome o (λ l. the_labelled l
@@ -104,10 +104,10 @@ fn changed_network(
     fresh: u32,
     change: Change,
 ) -> Result<Network, AllocError>
-    requires between { IsBetween (the_network net.now) (the_change change) }
+    requires between { HasTimePointEnds (the_network net.now) (the_change change) }
     requires possible { CanChange most_constraints (the_network net.now) (the_change change) }
     requires above { All (λ c. c.id < fresh) net.now.constraints }
-    ensures edited { IfOk result (λ n. HasConstraints net.now n (constraints_after (the_network net.now).constraints fresh (the_change change))) }
+    ensures edited { IfOk result (λ n. OnlyConstraintsDiffer net.now n (constraints_after (the_network net.now).constraints fresh (the_change change))) }
 {
     match change {
         Change::Add {
@@ -137,7 +137,7 @@ fn with_constraint(alloc: Global, net: &Network, c: Constraint) -> Result<Networ
     requires above { All (λ d. d.id < c.id) net.now.constraints }
     requires constraint { IsConstraint (the_network net.now) (the_constraint c) }
     requires value { IsValue c.most }
-    ensures edited { IfOk result (λ n. HasConstraints net.now n ((the_network net.now).constraints ++ the_constraint c ∷ [])) }
+    ensures edited { IfOk result (λ n. OnlyConstraintsDiffer net.now n ((the_network net.now).constraints ++ the_constraint c ∷ [])) }
 {
     let mut base = net.copy(alloc)?;
     base.reserve(net.constraints().len() as u32 + 1)?;
@@ -147,7 +147,7 @@ fn with_constraint(alloc: Global, net: &Network, c: Constraint) -> Result<Networ
 
 // The network without the constraint of this id.
 fn without_constraint(alloc: Global, net: &Network, id: u32) -> Result<Network, AllocError>
-    ensures edited { IfOk result (λ n. HasConstraints net.now n (without id (the_network net.now).constraints)) }
+    ensures edited { IfOk result (λ n. OnlyConstraintsDiffer net.now n (constraints_without id (the_network net.now).constraints)) }
 {
     let mut base = net.copy(alloc)?;
     base.take_out(id);
@@ -157,7 +157,7 @@ fn without_constraint(alloc: Global, net: &Network, id: u32) -> Result<Network, 
 // The network in which the constraint of this id has this value.
 fn with_value(alloc: Global, net: &Network, id: u32, most: i32) -> Result<Network, AllocError>
     requires value { IsValue most }
-    ensures edited { IfOk result (λ n. HasConstraints net.now n (map (with_value id most) (the_network net.now).constraints)) }
+    ensures edited { IfOk result (λ n. OnlyConstraintsDiffer net.now n (map (with_value id most) (the_network net.now).constraints)) }
 {
     let mut base = net.copy(alloc)?;
     base.set_most(id, most);

@@ -9,7 +9,7 @@ ghost use Rattle.cstn_net.specs.Limits.{most_edits};
 ghost use Rattle.cstn_net.specs.Networks.{IsValue, IsLeastUnobserved};
 ghost use Rattle.cstn_net.specs.Read.{the_network};
 ghost use Rattle.cstn_change.specs.Changes.{adds, removes, revalues, refusal, has_constraint, CanAdd, CanChange};
-ghost use Rattle.cstn_change.specs.Read.{the_change, the_refusal};
+ghost use Rattle.cstn_change.specs.Read.{the_change, the_change_refusal};
 
 use crate::changes::Change;
 use crate::errors::EditError;
@@ -19,7 +19,7 @@ use cstn_net::{MAX_EDITS, Network, is_value};
 /// The first reason for which a change of the network is refused, where `edits` changes were accepted before and there may be
 /// `room` constraints; none where it can be made.
 pub fn refusal(net: &Network, edits: u32, room: u32, change: Change) -> Option<EditError>
-    ensures refusal { (fresh : ℕ) → option_map the_refusal result
+    ensures refusal { (fresh : ℕ) → option_map the_change_refusal result
         ≡ refusal room (record { net = the_network net.now; fresh = fresh; edits = edits }) (the_change change) }
     ensures below { IfNone result (edits < most_edits) }
     ensures possible { IfNone result (CanChange room (the_network net.now) (the_change change)) }
@@ -48,7 +48,7 @@ pub fn add_refusal(
     ensures observed { (p : DeclaredProp) → ((result ≡ Some (EditError.NotObserved p))
         ↔ ((edits < most_edits) × (length net.now.constraints < room) × IsValue most × IsPlain (marks label)
         × IsLeastUnobserved (the_network net.now) (marks label) p.index)) }
-    ensures refusal { (fresh x y : ℕ) → option_map the_refusal result
+    ensures refusal { (fresh x y : ℕ) → option_map the_change_refusal result
         ≡ refusal room (record { net = the_network net.now; fresh = fresh; edits = edits }) (adds x y most (marks label)) }
     ensures below { IfNone result (edits < most_edits) }
     ensures possible { IfNone result (CanAdd room (the_network net.now) most (marks label)) }
@@ -77,7 +77,7 @@ pub fn remove_refusal(net: &Network, edits: u32, id: u32) -> Option<EditError>
     ensures limit { (result ≡ Some EditError.EditLimit) ↔ (most_edits ≤ edits) }
     ensures none { (other : ℕ) → ((result ≡ Some (EditError.NoSuch other))
         ↔ ((edits < most_edits) × All (λ c. c.id ≢ id) net.now.constraints × (other ≡ id))) }
-    ensures refusal { (room fresh : ℕ) → option_map the_refusal result
+    ensures refusal { (room fresh : ℕ) → option_map the_change_refusal result
         ≡ refusal room (record { net = the_network net.now; fresh = fresh; edits = edits }) (removes id) }
     ensures below { IfNone result (edits < most_edits) }
     ensures present { IfNone result (All (λ c. c.id ≢ id) net.now.constraints → ⊥) }
@@ -98,7 +98,7 @@ pub fn revalue_refusal(net: &Network, edits: u32, id: u32, most: i32) -> Option<
         ↔ ((edits < most_edits) × All (λ c. c.id ≢ id) net.now.constraints × (other ≡ id))) }
     ensures value { (v : ℤ) → ((result ≡ Some (EditError.ValueRange v))
         ↔ ((edits < most_edits) × (All (λ c. c.id ≢ id) net.now.constraints → ⊥) × (IsValue most → ⊥) × (v ≡ most))) }
-    ensures refusal { (room fresh : ℕ) → option_map the_refusal result
+    ensures refusal { (room fresh : ℕ) → option_map the_change_refusal result
         ≡ refusal room (record { net = the_network net.now; fresh = fresh; edits = edits }) (revalues id most) }
     ensures below { IfNone result (edits < most_edits) }
     ensures possible { IfNone result (IsValue most) }

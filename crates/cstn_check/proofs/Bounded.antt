@@ -21,10 +21,10 @@ use Rattle.cstn_label.specs.Bounds.{Bound, Dominates}
 use Rattle.cstn_label.specs.Marks.{is_absent, is_plain}
 use Rattle.cstn_rules.specs.Rules.{finished}
 use Rattle.cstn_rules.specs.Derivations.{Entry}
-use Rattle.cstn_check.specs.Kept.{AllGood, IsBoundOf, IsKept, IsRanged}
+use Rattle.cstn_check.specs.Kept.{AllGood, MarksObserved, IsKeptList, IsRanged}
 use Rattle.cstn_rules.specs.Tests.{chain_of, wait_for as wait_by, wait_of}
 use Rattle.cstn_label.specs.Tests.{dominates}
-use Rattle.cstn_check.specs.Growth.{Instance, why_of, is_covered, is_refuted, of_one, of_two, conclusion, grown, log_of, observed, most_entries}
+use Rattle.cstn_check.specs.Growth.{Instance, why_of, is_covered, is_refuted, of_one, of_two, conclusion, grown, log_of, count_observed, most_entries}
 use Rattle.cstn_log.specs.Entries.{bases}
 use Rattle.cstn_check.proofs.Decided.{HasLetters, dominates_true}
 use Rattle.cstn_check.specs.Growth.Instance.{chain_at, wait_at}
@@ -71,7 +71,7 @@ label_code a [] = 0
 label_code a (None ∷ os) = label_code a os
 label_code a (Some p ∷ os) = label_code a os * 4 + digit (a p)
 
-label_code_lt : (a : Label) (os : List (Option ℕ)) → label_code a os < 4 ^ observed os
+label_code_lt : (a : Label) (os : List (Option ℕ)) → label_code a os < 4 ^ count_observed os
 unfolding label_code
 label_code_lt a [] = omega arith
 label_code_lt a (None ∷ os) = label_code_lt a os
@@ -101,7 +101,7 @@ moment_is (pos n) h = refl
 moment_is (negsuc n) h = absurd (omega (arith, ints))
 
 code : Network → Bound → ℕ
-code net b = (b.node * (net.deadline + 2) + moment b.least) * 4 ^ observed net.observes + label_code b.label net.observes
+code net b = (b.node * (net.deadline + 2) + moment b.least) * 4 ^ count_observed net.observes + label_code b.label net.observes
 
 moment_lt : (net : Network) (b : Bound) → IsRanged net b → moment b.least < net.deadline + 2
 moment_lt net b r =
@@ -111,7 +111,7 @@ moment_lt net b r =
     let m : pos (moment b.least) ≤ℤ pos (limit net b.node + 1) = subst (λ z. z ≤ℤ pos (limit net b.node + 1)) (sym e) h in
     omega (arith, ints)
 
-code_lt : (net : Network) (b : Bound) → IsBoundOf net b → IsRanged net b → code net b < most_entries net
+code_lt : (net : Network) (b : Bound) → MarksObserved net b → IsRanged net b → code net b < most_entries net
 unfolding code
 code_lt net b good r = digits_lt (digits_lt good.node (moment_lt net b r)) (label_code_lt b.label net.observes)
 
@@ -119,11 +119,11 @@ same_within : (m n : Mark) → m ≡ n → IsMarkWithin m n
 same_within m n e = grind arith
 
 -- two bounds of one number dominate each other
-code_dominates : (net : Network) (a b : Bound) → IsBoundOf net a → IsRanged net a → IsRanged net b → code net a ≡ code net b → Dominates a b
+code_dominates : (net : Network) (a b : Bound) → MarksObserved net a → IsRanged net a → IsRanged net b → code net a ≡ code net b → Dominates a b
 unfolding code
 code_dominates net a b good r t e =
     let one = same_from_place (a.node * (net.deadline + 2) + moment a.least) (label_code a.label net.observes)
-    (b.node * (net.deadline + 2) + moment b.least) (label_code b.label net.observes) (4 ^ observed net.observes)
+    (b.node * (net.deadline + 2) + moment b.least) (label_code b.label net.observes) (4 ^ count_observed net.observes)
     (label_code_lt a.label net.observes) (label_code_lt b.label net.observes) e in
     let two = same_from_place a.node (moment a.least) b.node (moment b.least) (net.deadline + 2) (moment_lt net a r) (moment_lt net b t) one.0 in
     let least_a = moment_is a.least r.low in
@@ -188,13 +188,13 @@ covered_at (x ∷ xs) zero e r there d =
 covered_at (x ∷ xs) (suc k) e r there d = or_right (dominates x.bound r) (is_covered xs r) (covered_at xs k e r there d)
 
 module _ (net : Network) (wf : IsNetwork net) (letters : HasLetters net) where
-  good_conclusion : (L : List Entry) (i : Instance) (r : Bound) → OfNetwork net i → AllGood net L → conclusion net L i ≡ Some r → IsBoundOf net r
+  good_conclusion : (L : List Entry) (i : Instance) (r : Bound) → OfNetwork net i → AllGood net L → conclusion net L i ≡ Some r → MarksObserved net r
   good_conclusion L (chain_at c j) r of good e =
       conclusion_good net L (chain_at c j) r good (All-contains (IsConstraint net) net.constraints c wf.constraints of) e
   good_conclusion L (wait_at i j) r of good e = conclusion_good net L (wait_at i j) r good tt e
 
-  pub kept_more : (L : List Entry) (i : Instance) (r : Bound) → OfNetwork net i → IsKept net L → conclusion net L i ≡ Some r →
-      is_covered L r ≡ false → is_refuted net L ≡ false → IsKept net (with_entry L i r)
+  pub kept_more : (L : List Entry) (i : Instance) (r : Bound) → OfNetwork net i → IsKeptList net L → conclusion net L i ≡ Some r →
+      is_covered L r ≡ false → is_refuted net L ≡ false → IsKeptList net (with_entry L i r)
   kept_more L i r of k e free on =
       let new : Entry = record { bound = r; why = why_of i } in
       let ext : Extends L (with_entry L i r) = record { more = new ∷ []; is = refl } in
@@ -248,7 +248,7 @@ module _ (net : Network) (wf : IsNetwork net) (letters : HasLetters net) where
       bases_length zero = refl
       bases_length (suc n) = length-append (bases n) _ ∙ (let e = bases_length n in omega arith)
 
-  pub bases_kept : IsKept net (bases (count net))
+  pub bases_kept : IsKeptList net (bases (count net))
   bases_kept = record {
     good = bases_good net (count net) (omega arith);
     based = λ x here. bases_cover (count net) x here;
@@ -290,7 +290,7 @@ module _ (net : Network) (wf : IsNetwork net) (letters : HasLetters net) where
     | inr there ↦ codes_below xs m (λ k e at. below (suc k) e at) q there
   ]
 
-  kept_short : (L : List Entry) → IsKept net L → length L ≤ most_entries net
+  kept_short : (L : List Entry) → IsKeptList net L → length L ≤ most_entries net
   kept_short L k =
       subst (λ n. n ≤ most_entries net) (length-map L code_of)
       (length-le_from_distinct_below (map code_of L) (most_entries net)
@@ -299,11 +299,11 @@ module _ (net : Network) (wf : IsNetwork net) (letters : HasLetters net) where
       (code_dominates net e.bound f.bound (good_at net L i e k.good at_i) (k.ranged i e at_i) (k.ranged j f at_j) codes)))
       (codes_below L (most_entries net) (λ i e at. code_lt net e.bound (good_at net L i e k.good at) (k.ranged i e at))))
 
-  pub grown_kept : (start : List Entry) (n : ℕ) → IsKept net start → IsKept net (grown net start n)
-  grown_kept = grown_keeps net (IsKept net) kept_more
+  pub grown_kept : (start : List Entry) (n : ℕ) → IsKeptList net start → IsKeptList net (grown net start n)
+  grown_kept = grown_keeps net (IsKeptList net) kept_more
 
-  pub grown_short : (start : List Entry) (n : ℕ) → IsKept net start → length (grown net start n) ≤ most_entries net
+  pub grown_short : (start : List Entry) (n : ℕ) → IsKeptList net start → length (grown net start n) ≤ most_entries net
   grown_short start n k = kept_short (grown net start n) (grown_kept start n k)
 
-  pub log_kept : IsKept net (log_of net)
+  pub log_kept : IsKeptList net (log_of net)
   log_kept = grown_kept (bases (count net)) (length (bases (count net)) + most_entries net) bases_kept

@@ -15,7 +15,7 @@ use Rattle.cstn_log.specs.Entries.{State, the_entries}
 use Rattle.cstn_rules.specs.Tests.{chain_of}
 use Rattle.cstn_check.specs.Growth.{Instance, is_refuted, of_one, step, tried, chains_at}
 use Rattle.cstn_check.specs.Growth.Instance.{chain_at}
-use Rattle.cstn_check.specs.Turns.{IsTaken}
+use Rattle.cstn_check.specs.Turns.{HasBecome}
 use Rattle.cstn_check.proofs.Lists.{get_kept}
 use Rattle.cstn_check.proofs.Grows.{step_idle, tried_extends}
 use Rattle.cstn_check.proofs.Sequences.{tried_append, chains_next}
@@ -57,7 +57,7 @@ chains_passed net L M cs j low (suc p) e upto short there none is = elim (cases_
 
 -- an entry stays at its place
 pub entry_stays : (net : Network) (old new : State) (is : List Instance) (j : ℕ) (e : Entry) →
-    IsTaken net old new (tried net (the_entries old.entries) is) false → slice_get (the_entries old.entries) j ≡ Some e →
+    HasBecome net old new (tried net (the_entries old.entries) is) false → slice_get (the_entries old.entries) j ≡ Some e →
     slice_get (the_entries new.entries) j ≡ Some e
 entry_stays net old new is j e t there =
     let L = the_entries old.entries in
@@ -66,8 +66,8 @@ entry_stays net old new is j e t there =
 -- a turn's chains go on at the next constraint that ends at the entry's time-point
 pub chains_to : (net : Network) (old new : State) (cs : List DeclaredConstraint) (j low p : ℕ) (e : Entry) → low ≤ p → p ≤ length cs →
     slice_get (the_entries old.entries) j ≡ Some e → ((k : ℕ) → low ≤ k → k < p → k < length cs → get_or (ends cs) k 0 ≡ e.bound.node → ⊥) →
-    IsTaken net old new (tried net (the_entries old.entries) (chains_at (map the_constraint (take low cs)) j)) false →
-    IsTaken net old new (tried net (the_entries old.entries) (chains_at (map the_constraint (take p cs)) j)) false
+    HasBecome net old new (tried net (the_entries old.entries) (chains_at (map the_constraint (take low cs)) j)) false →
+    HasBecome net old new (tried net (the_entries old.entries) (chains_at (map the_constraint (take p cs)) j)) false
 chains_to net old new cs j low p e upto short there none t =
     let is = chains_passed net (the_entries old.entries) (the_entries new.entries) cs j low p e upto short
     (entry_stays net old new (chains_at (map the_constraint (take low cs)) j) j e t there) none t.entries in

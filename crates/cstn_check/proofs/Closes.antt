@@ -12,7 +12,7 @@ use Rattle.cstn_rules.specs.Rules.{Refutes, IsBase, IsChain, IsWait}
 use Rattle.cstn_rules.specs.Derivations.{Entry}
 use Rattle.cstn_rules.specs.declared.entries.Why.TheVariants.{Base}
 use Rattle.cstn_rules.specs.Closed.{IsCovered, IsClosed}
-use Rattle.cstn_check.specs.Kept.{AllGood, IsBoundOf}
+use Rattle.cstn_check.specs.Kept.{AllGood, MarksObserved}
 use Rattle.cstn_rules.specs.Tests.{refutes, chain_of, wait_of}
 use Rattle.cstn_label.specs.Tests.{dominates}
 use Rattle.cstn_check.specs.Growth.{is_covered, is_live, is_refuted, of_one, of_two, conclusion, waits_below, grown, live_bounds}
@@ -148,11 +148,11 @@ module _ (net : Network) (start : List Entry) (n : ℕ) (wf : IsNetwork net) (le
     observed = λ b has.
         let at = listed_live (grown net start n) b has in
         let g = good_at net (grown net start n) at.place at.entry good at.there in
-        (subst (λ x. IsBoundOf net x) at.bound g).observed;
+        (subst (λ x. MarksObserved net x) at.bound g).observed;
     nodes = λ b has.
         let at = listed_live (grown net start n) b has in
         let g = good_at net (grown net start n) at.place at.entry good at.there in
-        (subst (λ x. IsBoundOf net x) at.bound g).node;
+        (subst (λ x. MarksObserved net x) at.bound g).node;
     base = base_covered;
     chain = chain_covered;
     wait = wait_covered;

@@ -22,7 +22,7 @@ use Rattle.cstn_rules.specs.Tests.{refutes, chain_of, wait_for as wait_by, wait_
 use Rattle.cstn_label.specs.Tests.{dominates, is_within}
 use Rattle.cstn_check.specs.Growth.{Instance, why_of, is_covered, is_refuted, premises_live, of_one, of_two, conclusion, with_conclusion, step, tried, turn, grown, log_of, load_of}
 use Rattle.cstn_check.specs.Growth.Instance.{chain_at, wait_at}
-use Rattle.cstn_check.specs.Kept.{AllGood, IsBoundOf}
+use Rattle.cstn_check.specs.Kept.{AllGood, MarksObserved}
 use Rattle.cstn_check.specs.Deadlines.{is_late, is_any_late, past_limit, upto_late}
 use Rattle.cstn_check.proofs.Grows.{Each, each_turn, step_extends}
 use Rattle.cstn_check.proofs.GoodLemmas.{GoodInstance, good_more, bases_good, conclusion_good}
@@ -250,7 +250,7 @@ refuted_more low L e r =
 
 module _ (low : Network) (L : List Entry) (i : Instance) (early : AllEarly low L) (good : AllGood low L) where
   -- what the two conclusions make of the list
-  with_lower : (o u : Option Bound) → Alike low o u → ((q : Bound) → u ≡ Some q → IsBoundOf low q) →
+  with_lower : (o u : Option Bound) → Alike low o u → ((q : Bound) → u ≡ Some q → MarksObserved low q) →
       IsLower low (with_conclusion L i o) (with_conclusion L i u)
   with_lower None None a of = inl (record { same = refl; early = early; good = good })
   with_lower None (Some q) a of = absurd a

@@ -15,7 +15,7 @@ use Rattle.cstn_rules.proofs.Sound.{refuting_fails}
 use Rattle.cstn_rules.specs.Derivations.{Entry, IsDerivation}
 use Rattle.cstn_rules.proofs.Derived.{each_holds}
 use Rattle.cstn_rules.specs.Closed.{IsClosed}
-use Rattle.cstn_check.specs.Kept.{IsKept}
+use Rattle.cstn_check.specs.Kept.{IsKeptList}
 use Rattle.cstn_check.specs.Turns.{IsRefutedLast, LastRefutes}
 use Rattle.cstn_plan.specs.Asked.{AllSound, asked}
 use Rattle.cstn_plan.proofs.Strategies.{asked_strategy, asked_least}
@@ -100,7 +100,7 @@ grown_refuted_last net L n small last =
     only_refuted_last net (grown net L n)
     (grown_last net L n (λ k e there before. stands_false net e.bound (small k e there) (last.before k e there (omega arith))))
 
-pub kept_small : (net : Network) (L : List Entry) → HasLetters net → IsKept net L → AreOnLetters L
+pub kept_small : (net : Network) (L : List Entry) → HasLetters net → IsKeptList net L → AreOnLetters L
 kept_small net L letters kept k e there = good_small net e.bound letters (good_at net L k e kept.good there)
 
 -- ---- the list that is grown from one that growth can go on from

@@ -4,8 +4,8 @@ use Rattle.std.specs.Prelude.{◌↔◌, nat_lt, if◌then◌else◌, None, Some
 use Rattle.cstn_net.specs.Networks.{Network, IsWellFormed}
 use Rattle.cstn_net.specs.Strategies.{IsConsistent}
 use Rattle.cstn_net.specs.Read.{NetworkParts, the_network}
-use Rattle.cstn_log.specs.Cuts.{part}
-use Rattle.cstn_refute.specs.Texts.{shown}
+use Rattle.cstn_log.specs.Cuts.{last_with_ancestors}
+use Rattle.cstn_refute.specs.Texts.{refutation_shown}
 use Rattle.cstn_check.specs.Checks.{CheckParts}
 use Rattle.cstn_check.specs.Turns.{LastRefutes}
 use Rattle.cstn_check.specs.Growth.{is_refuted, log_of, load_of}
@@ -80,10 +80,10 @@ yes_decided cap load net check good is is_yes =
     decided c n good' tells' = (verdict_yes c n good' tells'.1 tells'.2, tells'.0)
 
 -- what is said after a check has answered no
-pub no_decided : (cap load : ℕ) (net : NetworkParts) (names : List (List ℕ)) (said : Said) (check after : CheckParts) → check ≡ record { net = net; cap = cap; verdict = None; tries = 0 } → after.net ≡ check.net → ((l : ℕ) → (No load ≡ No l ↔ ((l ≡ load_of (the_network check.net)) × (load_of (the_network check.net) ≤ check.cap) × LastRefutes (the_network check.net) (log_of (the_network check.net))))) → said ≡ record { outcome = Bad; text = shown names (load_of (the_network after.net)) (part (log_of (the_network after.net))) } → unless_yes cap names (the_network net) (verdict cap (the_network net)) ≡ Some said
+pub no_decided : (cap load : ℕ) (net : NetworkParts) (names : List (List ℕ)) (said : Said) (check after : CheckParts) → check ≡ record { net = net; cap = cap; verdict = None; tries = 0 } → after.net ≡ check.net → ((l : ℕ) → (No load ≡ No l ↔ ((l ≡ load_of (the_network check.net)) × (load_of (the_network check.net) ≤ check.cap) × LastRefutes (the_network check.net) (log_of (the_network check.net))))) → said ≡ record { outcome = Bad; text = refutation_shown names (load_of (the_network after.net)) (last_with_ancestors (log_of (the_network after.net))) } → unless_yes cap names (the_network net) (verdict cap (the_network net)) ≡ Some said
 no_decided cap load net names said check after is same is_no said_is =
     subst (λ (c : CheckParts). unless_yes c.cap names (the_network c.net) (verdict c.cap (the_network c.net)) ≡ Some said) is
-    (decided check.cap (the_network check.net) ((is_no load).0 refl) (said_is ∙ ap (λ (n : NetworkParts). record { outcome = Bad; text = shown names (load_of (the_network n)) (part (log_of (the_network n))) }) same))
+    (decided check.cap (the_network check.net) ((is_no load).0 refl) (said_is ∙ ap (λ (n : NetworkParts). record { outcome = Bad; text = refutation_shown names (load_of (the_network n)) (last_with_ancestors (log_of (the_network n))) }) same))
   where
-    decided : (c : ℕ) (n : Network) → (load ≡ load_of n) × (load_of n ≤ c) × LastRefutes n (log_of n) → said ≡ record { outcome = Bad; text = shown names (load_of n) (part (log_of n)) } → unless_yes c names n (verdict c n) ≡ Some said
+    decided : (c : ℕ) (n : Network) → (load ≡ load_of n) × (load_of n ≤ c) × LastRefutes n (log_of n) → said ≡ record { outcome = Bad; text = refutation_shown names (load_of n) (last_with_ancestors (log_of n)) } → unless_yes c names n (verdict c n) ≡ Some said
     decided c n tells' so = ap (unless_yes c names n) (verdict_no c n tells'.1 tells'.2) ∙ ap (λ (s : Said). Some s) (sym so)

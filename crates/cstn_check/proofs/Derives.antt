@@ -15,7 +15,7 @@ use Rattle.cstn_rules.specs.Rules.{finished, IsChain, IsWait}
 use Rattle.cstn_rules.specs.Derivations.{Entry, IsEarlier, Follows, IsDerivation}
 use Rattle.cstn_rules.specs.declared.entries.Why.{Why}
 use Rattle.cstn_rules.specs.declared.entries.Why.TheVariants.{Base, Chain, Wait}
-use Rattle.cstn_check.specs.Kept.{AllGood, IsBoundOf}
+use Rattle.cstn_check.specs.Kept.{AllGood, MarksObserved}
 use Rattle.cstn_rules.specs.Tests.{chain_of, wait_for as wait_by, wait_of}
 use Rattle.cstn_check.specs.Growth.{Instance, why_of, is_covered, is_refuted, premises_live, of_one, of_two, conclusion, with_conclusion, step, tried, turn, grown}
 use Rattle.cstn_log.specs.Entries.{bases}
@@ -128,7 +128,7 @@ chain_when net c b r small joined_small e =
           let f : ⊥ = cc in absurd f
     ]
 
-pub chain_is : (net : Network) (c : Constraint) (b r : Bound) → HasLetters net → IsConstraint net c → IsBoundOf net b →
+pub chain_is : (net : Network) (c : Constraint) (b r : Bound) → HasLetters net → IsConstraint net c → MarksObserved net b →
     chain_of net c b ≡ Some r → IsChain net c b r
 chain_is net c b r letters good_c good e =
     chain_when net c b r (small_of net b.label letters good.observed)

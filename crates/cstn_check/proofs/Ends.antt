@@ -5,7 +5,7 @@ use Rattle.cstn_net.specs.Networks.{Network, IsNetwork, IsWellFormed, count}
 use Rattle.cstn_rules.specs.Derivations.{Entry}
 use Rattle.cstn_log.specs.Entries.{bases}
 use Rattle.cstn_log.proofs.DerivedLemmas.{length_bases}
-use Rattle.cstn_check.specs.Kept.{IsKept}
+use Rattle.cstn_check.specs.Kept.{IsKeptList}
 use Rattle.cstn_check.specs.Growth.{is_refuted, grown, grow, log_of, load_of, most_entries}
 use Rattle.cstn_check.proofs.Decided.{HasLetters}
 use Rattle.cstn_check.proofs.Lists.{Extends, extends_itself, length_upto}
@@ -13,7 +13,7 @@ use Rattle.cstn_check.proofs.Grows.{grown_extends, grown_idle}
 use Rattle.cstn_check.proofs.Bounded.{bases_kept, grown_short}
 use Rattle.cstn_check.proofs.Last.{refuted_stays}
 
-module _ (net : Network) (wf : IsNetwork net) (letters : HasLetters net) (list : List Entry) (kept : IsKept net list) where
+module _ (net : Network) (wf : IsNetwork net) (letters : HasLetters net) (list : List Entry) (kept : IsKeptList net list) where
   pub all_turns : length (grow net list) ≤ length list + most_entries net
   all_turns = let s = grown_short net wf letters list (length list + most_entries net) kept in omega arith
 

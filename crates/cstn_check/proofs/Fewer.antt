@@ -13,7 +13,7 @@ use Rattle.cstn_net.specs.Read.{NetworkParts, the_network, the_constraint, witho
 use Rattle.cstn_net.specs.declared.constraints.Constraint.{Constraint as DeclaredConstraint}
 use Rattle.cstn_net.proofs.ChangeLemmas.{none_taken}
 use Rattle.cstn_net.proofs.WellFormed.{well_formed_with}
-use Rattle.cstn_check.specs.Givers.{without}
+use Rattle.cstn_check.specs.Givers.{network_without}
 
 -- ---- lists
 
@@ -66,7 +66,7 @@ map_without id (c ∷ cs) = elim (cases_Bool (not (eqb c.id id))) [
 -- what is left when the constraint of an id was taken out, if it was there
 pub taken_out : (id : ℕ) (old new : NetworkParts) (r : Option DeclaredConstraint) → (IsNone r ↔ All (λ c. c.id ≢ id) old.constraints) → IfNone r (new ≡ old) →
     IfSome r (λ _. new ≡ record old { constraints = without_id id old.constraints; spare = old.spare + 1 }) →
-    the_network new ≡ without id (the_network old)
+    the_network new ≡ network_without id (the_network old)
 taken_out id old new None absent same gone =
     ap the_network (same)
     ∙ ap (λ cs. record (the_network old) { constraints = cs })

@@ -14,7 +14,7 @@ use Rattle.cstn_label.specs.Bounds.{Bound}
 use Rattle.cstn_label.specs.Marks.{is_absent, is_plain}
 use Rattle.cstn_rules.specs.Rules.{finished}
 use Rattle.cstn_rules.specs.Derivations.{Entry}
-use Rattle.cstn_check.specs.Kept.{AllGood, IsBoundOf}
+use Rattle.cstn_check.specs.Kept.{AllGood, MarksObserved}
 use Rattle.cstn_plan.proofs.FinishLemmas.{kept_own}
 use Rattle.cstn_rules.specs.Tests.{chain_of, wait_for as wait_by, wait_of}
 use Rattle.cstn_check.specs.Growth.{Instance, why_of, is_covered, is_refuted, premises_live, of_one, of_two, conclusion, with_conclusion, step, tried, turn, grown}
@@ -24,9 +24,9 @@ use Rattle.cstn_check.specs.Growth.Instance.{chain_at, wait_at}
 use Rattle.cstn_check.proofs.Grows.{Each, each_turn}
 use Rattle.cstn_label.specs.OnLetters.{IsOnLetters}
 
-pub good_at : (net : Network) (L : List Entry) (k : ℕ) (e : Entry) → AllGood net L → slice_get L k ≡ Some e → IsBoundOf net e.bound
+pub good_at : (net : Network) (L : List Entry) (k : ℕ) (e : Entry) → AllGood net L → slice_get L k ≡ Some e → MarksObserved net e.bound
 good_at net [] k e h there = let f : ⊥ = cc in absurd f
-good_at net (x ∷ xs) zero e h there = let same : x ≡ e = cc in subst (λ y. IsBoundOf net y.bound) same h.0
+good_at net (x ∷ xs) zero e h there = let same : x ≡ e = cc in subst (λ y. MarksObserved net y.bound) same h.0
 good_at net (x ∷ xs) (suc k) e h there = good_at net xs k e h.1 there
 
 pub good_more : (net : Network) (L M : List Entry) → AllGood net L → AllGood net M → AllGood net (L ++ M)
@@ -34,7 +34,7 @@ good_more net [] M h k = k
 good_more net (x ∷ xs) M h k = (h.0, good_more net xs M h.1 k)
 
 -- a bound of the network marks propositions from 0 to 51 alone
-pub good_small : (net : Network) (b : Bound) → HasLetters net → IsBoundOf net b → IsOnLetters b.label
+pub good_small : (net : Network) (b : Bound) → HasLetters net → MarksObserved net b → IsOnLetters b.label
 good_small net b letters good = λ p past. elim (absent_or_not (b.label p)) [
   | inl none ↦ none
   | inr marked ↦ let o = good.observed p marked in let l = letters o.0 p o.1 in absurd (omega arith)
@@ -57,20 +57,20 @@ without_observed : (net : Network) (a : Label) (p : ℕ) → IsOnObserved net a 
 unfolding Seen
 without_observed net a p h = λ q. kept_without (Seen net q) a p q (λ f. absurd (f refl)) (h q)
 
-finished_good : (net : Network) (b : Bound) → b.node < count net → IsOnObserved net b.label → IsBoundOf net (finished net b)
+finished_good : (net : Network) (b : Bound) → b.node < count net → IsOnObserved net b.label → MarksObserved net (finished net b)
 unfolding Seen
 finished_good net b here h = record {
   node = here;
   observed = λ q. kept_own (Seen net q) (slice_index_or net.observes b.node None) b.label q (λ f. absurd (f refl)) (h q);
 }
 
-pub chain_good : (net : Network) (c : Constraint) (b r : Bound) → IsConstraint net c → IsBoundOf net b → chain_of net c b ≡ Some r → IsBoundOf net r
+pub chain_good : (net : Network) (c : Constraint) (b r : Bound) → IsConstraint net c → MarksObserved net b → chain_of net c b ≡ Some r → MarksObserved net r
 chain_good net c b r good_c good e =
     elim (cases_Bool ((eqb b.node c.to) && (is_plain b.label && is_plain (joined b.label c.label)))) [
       | inl given ↦
           let at = cond-true _ (Some (finished net (record { node = c.from; least = b.least -ℤ c.most; label = joined b.label c.label }))) None given in
           let same : finished net (record { node = c.from; least = b.least -ℤ c.most; label = joined b.label c.label }) ≡ r = cc in
-          subst (λ x. IsBoundOf net x) same
+          subst (λ x. MarksObserved net x) same
           (finished_good net (record { node = c.from; least = b.least -ℤ c.most; label = joined b.label c.label }) good_c.from
           (joined_observed net b.label c.label good.observed good_c.observed))
       | inr none ↦
@@ -78,7 +78,7 @@ chain_good net c b r good_c good e =
           let f : ⊥ = cc in absurd f
     ]
 
-pub wait_good : (net : Network) (o : Option ℕ) (seen b r : Bound) → IsBoundOf net seen → IsBoundOf net b → wait_by net o seen b ≡ Some r → IsBoundOf net r
+pub wait_good : (net : Network) (o : Option ℕ) (seen b r : Bound) → MarksObserved net seen → MarksObserved net b → wait_by net o seen b ≡ Some r → MarksObserved net r
 wait_good net None seen b r good_seen good e = let f : ⊥ = cc in absurd f
 wait_good net (Some p) seen b r good_seen good e =
     let made : Bound = record {
@@ -90,7 +90,7 @@ wait_good net (Some p) seen b r good_seen good e =
       | inr marked ↦
           let at = cond-false (is_absent (b.label p)) None (Some (finished net made)) marked in
           let same : finished net made ≡ r = cc in
-          subst (λ x. IsBoundOf net x) same
+          subst (λ x. MarksObserved net x) same
           (finished_good net made good.node
           (joined_observed net seen.label (without b.label p) good_seen.observed (without_observed net b.label p good.observed)))
       | inl none ↦
@@ -103,12 +103,12 @@ GoodInstance net (chain_at c j) = IsConstraint net c
 GoodInstance net (wait_at i j) = Unit {0}
 
 one_good : (net : Network) (L : List Entry) (c : Constraint) (o : Option Entry) (j : ℕ) (r : Bound) → AllGood net L →
-    IsConstraint net c → slice_get L j ≡ o → of_one (chain_of net c) o ≡ Some r → IsBoundOf net r
+    IsConstraint net c → slice_get L j ≡ o → of_one (chain_of net c) o ≡ Some r → MarksObserved net r
 one_good net L c None j r h good at e = let f : ⊥ = cc in absurd f
 one_good net L c (Some x) j r h good at e = chain_good net c x.bound r good (good_at net L j x h at) e
 
 two_good : (net : Network) (L : List Entry) (o u : Option Entry) (i j : ℕ) (r : Bound) → AllGood net L →
-    slice_get L i ≡ o → slice_get L j ≡ u → of_two (wait_of net) o u ≡ Some r → IsBoundOf net r
+    slice_get L i ≡ o → slice_get L j ≡ u → of_two (wait_of net) o u ≡ Some r → MarksObserved net r
 two_good net L None u i j r h at_i at_j e = let f : ⊥ = cc in absurd f
 two_good net L (Some x) None i j r h at_i at_j e = let f : ⊥ = cc in absurd f
 two_good net L (Some x) (Some y) i j r h at_i at_j e =
@@ -116,12 +116,12 @@ two_good net L (Some x) (Some y) i j r h at_i at_j e =
     (good_at net L j y h at_j) e
 
 pub conclusion_good : (net : Network) (L : List Entry) (i : Instance) (r : Bound) → AllGood net L → GoodInstance net i →
-    conclusion net L i ≡ Some r → IsBoundOf net r
+    conclusion net L i ≡ Some r → MarksObserved net r
 conclusion_good net L (chain_at c j) r h good e = one_good net L c (slice_get L j) j r h good refl e
 conclusion_good net L (wait_at i j) r h good e = two_good net L (slice_get L i) (slice_get L j) i j r h refl refl e
 
 with_good : (net : Network) (L : List Entry) (i : Instance) (o : Option Bound) → AllGood net L →
-    ((r : Bound) → o ≡ Some r → IsBoundOf net r) → AllGood net (with_conclusion L i o)
+    ((r : Bound) → o ≡ Some r → MarksObserved net r) → AllGood net (with_conclusion L i o)
 with_good net L i None h g = h
 with_good net L i (Some r) h g = elim (cases_Bool (premises_live L i && not (is_covered L r))) [
   | inl new ↦ subst (λ G. AllGood net G) (sym (cond-true _ _ _ new))

@@ -7,21 +7,21 @@ use Rattle.std.proofs.lemmas.Bool.{cases_lt, cond-true, cond-false, lt-ltb, le-l
 use Rattle.cstn_check.specs.declared.halving.Span.{Span}
 use Rattle.cstn_check.specs.Search.{middle, halved, halving}
 
-halving_zero : (says : ℕ → Option Bool) (s : Span) → halving says 0 s ≡ Some s.low
+pub halving_zero : (says : ℕ → Option Bool) (s : Span) → halving says 0 s ≡ Some s.low
 unfolding halving
 halving_zero says s = refl
 
-halving_turn : (says : ℕ → Option Bool) (n : ℕ) (s : Span) → halving says (suc n) s
+pub halving_turn : (says : ℕ → Option Bool) (n : ℕ) (s : Span) → halving says (suc n) s
     ≡ (if nat_lt s.low s.high then option_and_then (halving says n) (halved s (says (middle s))) else Some s.low)
 unfolding halving
 halving_turn says n s = refl
 
 -- one moment is left
-halving_over : (says : ℕ → Option Bool) (n : ℕ) (s : Span) → s.high ≤ s.low → halving says n s ≡ Some s.low
+pub halving_over : (says : ℕ → Option Bool) (n : ℕ) (s : Span) → s.high ≤ s.low → halving says n s ≡ Some s.low
 halving_over says zero s over = halving_zero says s
 halving_over says (suc n) s over = halving_turn says n s ∙ cond-false (nat_lt s.low s.high) _ _ (le-ltb s.low s.high over)
 
-halving_more : (says : ℕ → Option Bool) (n : ℕ) (s : Span) → s.low < s.high → halving says (suc n) s ≡ option_and_then (halving says n) (halved s (says (middle s)))
+pub halving_more : (says : ℕ → Option Bool) (n : ℕ) (s : Span) → s.low < s.high → halving says (suc n) s ≡ option_and_then (halving says n) (halved s (says (middle s)))
 halving_more says n s more = halving_turn says n s ∙ cond-true (nat_lt s.low s.high) _ _ (lt-ltb s.low s.high more)
 
 -- ---- one try, after k of 20

@@ -9,7 +9,7 @@ use Rattle.cstn_rules.specs.Derivations.{Entry}
 use Rattle.cstn_log.specs.Entries.{bases}
 use Rattle.cstn_check.specs.Growth.{Instance, why_of, is_covered, is_refuted, premises_live, conclusion, with_conclusion, step, tried, chains_at, waits_below, turn, grown, log_of}
 use Rattle.cstn_check.specs.Growth.Instance.{chain_at, wait_at}
-use Rattle.cstn_check.specs.Givers.{is_by, gave, with_some, without}
+use Rattle.cstn_check.specs.Givers.{is_by, gave, with_some, network_without}
 use Rattle.cstn_check.proofs.Lists.{Extends, none_before}
 use Rattle.cstn_check.proofs.Grows.{tried_extends}
 use Rattle.cstn_check.proofs.Sequences.{tried_append}
@@ -97,5 +97,5 @@ none_but id list none i fails = by (eqb i id) refl fails
     by false other fails = absurd (both_ways true fails refl)
 
 -- a constraint that gave no entry can be taken out
-pub log_without : (net : Network) (id : ℕ) → gave id (log_of net) ≡ false → log_of (without id net) ≡ log_of net
+pub log_without : (net : Network) (id : ℕ) → gave id (log_of net) ≡ false → log_of (network_without id net) ≡ log_of net
 log_without net id none = log_same net (λ i. not (eqb i id)) (none_but id (log_of net) none)

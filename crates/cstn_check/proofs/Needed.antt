@@ -3,7 +3,7 @@ use Rattle.std.proofs.Common.{ℕ, ◌≡◌, ◌≤◌, Bool, true, false, not,
 use Rattle.std.proofs.lemmas.Bool.{or_parts, and_from, ne_eqb, both_ways, false_from_ne_true}
 use Rattle.std.proofs.lemmas.Grind.{get_or_default_zero}
 use Rattle.cstn_net.specs.Networks.{Network, IsWellFormed}
-use Rattle.cstn_check.specs.Givers.{gave, ids_of, is_of, with_some, without}
+use Rattle.cstn_check.specs.Givers.{gave, ids_of, is_of, with_some, network_without}
 use Rattle.cstn_check.specs.Growth.{load_of}
 use Rattle.cstn_check.specs.Needs.{said, IfNo, IsNeeded, Stands, is_idle}
 use Rattle.cstn_check.specs.Verdicts.{is_consistent}
@@ -49,17 +49,17 @@ module _ (says : Network → Option Bool) (net : Network) (needed : List ℕ) (i
   other : (i : ℕ) → is_of needed i ≡ true → not (eqb i id) ≡ true
   other i need = ap not (ne_eqb i id (λ same. both_ways (is_of needed i) (ap (is_of needed) same ∙ idle) need))
 
-  pub idle_said : says (without id net) ≡ Some false
+  pub idle_said : says (network_without id net) ≡ Some false
   idle_said = stands (λ i. not (eqb i id)) other
 
-  pub idle_stands : Stands says (without id net) needed
+  pub idle_stands : Stands says (network_without id net) needed
   idle_stands test has =
       ap says (some_twice net (λ i. not (eqb i id)) test)
       ∙ stands (λ i. not (eqb i id) && test i) (λ i need. and_from (not (eqb i id)) (test i) (other i need) (has i need))
 
 -- what is known of it
 pub idle_known : (says : Network → Option Bool) (net : Network) (id : ℕ) (last : Finding) → is_idle last id ≡ true → IfNo last (Stands says net) →
-    (says (without id net) ≡ Some false) × IfNo last (Stands says (without id net))
+    (says (network_without id net) ≡ Some false) × IfNo last (Stands says (network_without id net))
 idle_known says net id Full idle stands = absurd (both_ways false refl idle)
 idle_known says net id (Yes load) idle stands = absurd (both_ways false refl idle)
 idle_known says net id (No needed) idle stands =

@@ -13,8 +13,8 @@ use Rattle.cstn_rules.specs.Derivations.{Entry, IsDerivation}
 use Rattle.cstn_rules.specs.Read.{the_entry}
 use Rattle.cstn_log.specs.Entries.{State, the_entries}
 use Rattle.cstn_check.specs.Growth.{is_refuted, grow, most_entries}
-use Rattle.cstn_check.specs.Kept.{IsKept}
-use Rattle.cstn_check.specs.Turns.{IsOpen, IsTaken, IsCut, IsLonger, IsGrowable, IsOutcome, IsGrown, IsRefutedLast, LastRefutes}
+use Rattle.cstn_check.specs.Kept.{IsKeptList}
+use Rattle.cstn_check.specs.Turns.{IsOpen, HasBecome, IsCutShort, IsLongerLog, IsGrowable, IsOutcome, IsGrown, IsRefutedLast, LastRefutes}
 use Rattle.cstn_check.specs.declared.growth.Grown.{Grown}
 use Rattle.cstn_check.specs.declared.growth.Grown.TheVariants.{Closed, Refuted, Full}
 use Rattle.cstn_check.proofs.Decided.{refutes_true}
@@ -27,9 +27,9 @@ use Rattle.cstn_check.proofs.Ends.{grow_at_refuted}
 use Rattle.cstn_log.proofs.StepLemmas.{entry_read}
 
 -- a list whose last entry refutes doesn't grow
-pub refuted_itself : (net : Network) (s : State) (k : ℕ) (e : DeclaredEntry) → IsWellFormed net → IsKept net (the_entries s.entries) →
+pub refuted_itself : (net : Network) (s : State) (k : ℕ) (e : DeclaredEntry) → IsWellFormed net → IsKeptList net (the_entries s.entries) →
     length s.entries ≤ s.cap → slice_get s.entries k ≡ Some e → Refutes net (the_bound e.bound) →
-    IsTaken net s s (grow net (the_entries s.entries)) true
+    HasBecome net s s (grow net (the_entries s.entries)) true
 refuted_itself net s k e good kept short there refutes =
     let L = the_entries s.entries in
     let over = refuted_from_last net L k (the_entry e) (entry_read s.entries k e there) (refutes_true net (the_bound e.bound) refutes) in
@@ -37,7 +37,7 @@ refuted_itself net s k e good kept short there refutes =
     record { entries = sym same; refuted_is = sym (ap (is_refuted net) same ∙ over); longer = longer_itself s short }
 
 -- a log in which no entry but perhaps the last refutes, and the last doesn't, is open
-pub open_from : (net : Network) (s : State) (e : DeclaredEntry) → IsGrowable net s → IsKept net (the_entries s.entries) →
+pub open_from : (net : Network) (s : State) (e : DeclaredEntry) → IsGrowable net s → IsKeptList net (the_entries s.entries) →
     length s.entries ≤ s.cap → s.cap ≤ most_load → slice_get s.entries (length s.entries - 1) ≡ Some e →
     ¬ Refutes net (the_bound e.bound) → IsOpen net s
 open_from net s e growable kept short few there not =
@@ -55,7 +55,7 @@ open_from net s e growable kept short few there not =
     }
 
 -- an empty log is open
-pub open_empty : (net : Network) (s : State) → IsGrowable net s → IsKept net (the_entries s.entries) → s.cap ≤ most_load → length s.entries ≡ 0 → IsOpen net s
+pub open_empty : (net : Network) (s : State) → IsGrowable net s → IsKeptList net (the_entries s.entries) → s.cap ≤ most_load → length s.entries ≡ 0 → IsOpen net s
 open_empty net s growable kept few none = record {
   nodes = growable.nodes;
   derivation = growable.derivation;
@@ -70,7 +70,7 @@ open_empty net s growable kept few none = record {
     none_refutes (e ∷ entries) is = absurd (omega (arith, is))
 
 module _ (net : Network) (old new : State) where
-  longer_of : (r : Grown) → IsOutcome net old new r → IsLonger old new
+  longer_of : (r : Grown) → IsOutcome net old new r → IsLongerLog old new
   longer_of Closed o = (o.closed refl).longer
   longer_of Refuted o = (o.refuted refl).longer
   longer_of Full o = (o.full refl).longer
@@ -78,14 +78,14 @@ module _ (net : Network) (old new : State) where
   entries_long : length (the_entries new.entries) ≡ length new.entries
   entries_long = length-map new.entries the_entry
 
-  taken_short : (list : List Entry) (r : Bool) → IsTaken net old new list r → length list ≤ old.cap
+  taken_short : (list : List Entry) (r : Bool) → HasBecome net old new list r → length list ≤ old.cap
   taken_short list r t =
       let long = entries_long in
       let same = ap length t.entries in
       let short = t.longer.short in
       omega arith
 
-  cut_long : (list : List Entry) → IsCut old new list → old.cap < length list
+  cut_long : (list : List Entry) → IsCutShort old new list → old.cap < length list
   cut_long list k =
       let long = entries_long in
       let full = k.full in
@@ -93,7 +93,7 @@ module _ (net : Network) (old new : State) where
       let sum = length-append (the_entries new.entries) (k.front.next ∷ k.front.rest) in
       omega arith
 
-  cut_take : (list : List Entry) → IsCut old new list → the_entries new.entries ≡ take old.cap list
+  cut_take : (list : List Entry) → IsCutShort old new list → the_entries new.entries ≡ take old.cap list
   cut_take list k =
       let long : length (the_entries new.entries) ≡ old.cap = entries_long ∙ k.full in
       sym (ap (take old.cap) (sym k.front.is)
@@ -113,7 +113,7 @@ module _ (net : Network) (old new : State) where
   grown_is Refuted o not = (o.refuted refl).entries
   grown_is Full o not = absurd (not refl)
 
-  refutes_last : IsRefutedLast net (the_entries old.entries) → IsTaken net old new (grow net (the_entries old.entries)) true →
+  refutes_last : IsRefutedLast net (the_entries old.entries) → HasBecome net old new (grow net (the_entries old.entries)) true →
       LastRefutes net (the_entries new.entries)
   refutes_last last t =
       refuted_by_last net (the_entries new.entries) (entries_small new.entries)
@@ -121,7 +121,7 @@ module _ (net : Network) (old new : State) where
       (grown_refuted_last net (the_entries old.entries) (length (the_entries old.entries) + most_entries net) (entries_small old.entries) last))
       (ap (is_refuted net) t.entries ∙ sym t.refuted_is)
 
-  stands : IsTaken net old new (grow net (the_entries old.entries)) false → LastRefutes net (the_entries new.entries) → ⊥
+  stands : HasBecome net old new (grow net (the_entries old.entries)) false → LastRefutes net (the_entries new.entries) → ⊥
   stands t l =
       false≢true (t.refuted_is ∙ ap (is_refuted net) (sym t.entries) ∙ last_refuted net (the_entries new.entries) l)
 
@@ -144,7 +144,7 @@ FirstDerive = (net : Network) (steps more : List Entry) → IsDerivation net (st
 
 -- after growth, however it ended, the list of the log is a derivation
 derived_after : FirstDerive → (net : Network) (old new : State) (r : Grown) → IsWellFormed net → IsDerivation net (the_entries old.entries) →
-    IsKept net (the_entries old.entries) → IsOutcome net old new r → IsDerivation net (the_entries new.entries)
+    IsKeptList net (the_entries old.entries) → IsOutcome net old new r → IsDerivation net (the_entries new.entries)
 derived_after first net old new r good derivation kept o = by_answer r o
   where
     whole : IsDerivation net (grow net (the_entries old.entries))
@@ -160,7 +160,7 @@ derived_after first net old new r good derivation kept o = by_answer r o
 
 -- and it is what the answer says
 pub is_grown : FirstDerive → (net : Network) (old new : State) (r : Grown) → IsWellFormed net → IsGrowable net old →
-    IsKept net (the_entries old.entries) → IsOutcome net old new r → IsGrown net old new r
+    IsKeptList net (the_entries old.entries) → IsOutcome net old new r → IsGrown net old new r
 is_grown first net old new r good growable kept o =
     let longer = longer_of net old new r o in
     record {

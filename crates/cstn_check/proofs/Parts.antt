@@ -6,7 +6,7 @@ use Rattle.std.proofs.lemmas.Bool.{cases_Bool, or_left, or_right, or_cases, and_
 use Rattle.cstn_net.specs.Networks.{Network, Constraint, IsWellFormed}
 use Rattle.cstn_facts.proofs.Pairs.{pairs_map}
 use Rattle.cstn_facts.proofs.Filters.{filter_twice}
-use Rattle.cstn_check.specs.Givers.{ids_of, is_of, but, with_some, with_ids, without, IsPart}
+use Rattle.cstn_check.specs.Givers.{ids_of, is_of, but, with_some, with_ids, network_without, IsPart}
 use Rattle.cstn_check.proofs.Fewer.{some_well_formed}
 
 -- ---- ids
@@ -89,7 +89,7 @@ whole_part net = ((λ id. true), sym (whole_same net))
 pub some_twice : (net : Network) (a b : ℕ → Bool) → with_some (with_some net a) b ≡ with_some net (λ i. a i && b i)
 some_twice net a b = ap (λ cs. record net { constraints = cs }) (filter_twice (λ c. b c.id) (λ c. a c.id) net.constraints)
 
-pub without_one : (net : Network) (test : ℕ → Bool) (id : ℕ) → without id (with_some net test) ≡ with_some net (but id test)
+pub without_one : (net : Network) (test : ℕ → Bool) (id : ℕ) → network_without id (with_some net test) ≡ with_some net (but id test)
 without_one net test id = some_twice net test (λ i. not (eqb i id))
 
 -- the ids of those that pass

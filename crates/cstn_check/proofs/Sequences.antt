@@ -11,9 +11,9 @@ use Rattle.cstn_pool.specs.declared.pool.Full.{Full}
 use Rattle.cstn_log.specs.Entries.{State, the_entries}
 use Rattle.cstn_check.specs.Growth.{Instance, is_refuted, step, tried, chains_at, waits_below, turn}
 use Rattle.cstn_check.specs.Growth.Instance.{chain_at, wait_at}
-use Rattle.cstn_check.specs.Kept.{IsKept}
-use Rattle.cstn_check.specs.Turns.{IsOpen, IsTaken, IsFront, IsCut, KeepIds, IsLonger}
-use Rattle.cstn_check.specs.Steps.{is_refutation, IsStep}
+use Rattle.cstn_check.specs.Kept.{IsKeptList}
+use Rattle.cstn_check.specs.Turns.{IsOpen, HasBecome, IsFront, IsCutShort, KeepIds, IsLongerLog}
+use Rattle.cstn_check.specs.Steps.{is_refutation, IsStepTo}
 use Rattle.cstn_check.specs.declared.steps.Step.{Step}
 use Rattle.cstn_check.specs.declared.steps.Step.TheVariants.{Open, Refuted}
 use Rattle.cstn_check.proofs.Grows.{Each, tried_extends}
@@ -27,7 +27,7 @@ tried_append net (x ∷ xs) ys L = tried_append net xs ys (step net L x)
 
 -- growth goes on from a list that isn't refuted
 pub open_after : (net : Network) (old new : State) (is : List Instance) → IsWellFormed net → Each (OfNetwork net) is →
-    IsOpen net old → IsTaken net old new (tried net (the_entries old.entries) is) false → IsOpen net new
+    IsOpen net old → HasBecome net old new (tried net (the_entries old.entries) is) false → IsOpen net new
 open_after net old new is good of ready t =
     let L = the_entries old.entries in
     let same = t.entries in
@@ -35,18 +35,18 @@ open_after net old new is good of ready t =
     let births = t.longer.births in
     let room = ready.births in
     let short = t.longer.short in
-    let kept = tried_keeps net (IsKept net) (kept_more net good.network good.letters) is L ready.kept of in
+    let kept = tried_keeps net (IsKeptList net) (kept_more net good.network good.letters) is L ready.kept of in
     let derived = tried_derived net good.network good.letters is L ready.kept.good ready.derivation of in
     record {
       nodes = t.longer.nodes ∙ ready.nodes;
       derivation = subst (λ l. IsDerivation net l) (sym same) derived;
-      kept = subst (λ l. IsKept net l) (sym same) kept;
+      kept = subst (λ l. IsKeptList net l) (sym same) kept;
       unrefuted = ap (is_refuted net) same ∙ sym t.refuted_is;
       short = omega arith;
       births = omega arith;
     }
 
-pub longer_through : (a b c : State) → IsLonger a b → IsLonger b c → IsLonger a c
+pub longer_through : (a b c : State) → IsLongerLog a b → IsLongerLog b c → IsLongerLog a c
 longer_through a b c h k =
     let one = h.cap in
     let first = h.births in
@@ -61,16 +61,16 @@ longer_through a b c h k =
     record { cap = k.cap ∙ h.cap; nodes = k.nodes ∙ h.nodes; ids = ids; births = omega arith; short = omega arith; longer = omega arith }
 
 module _ (net : Network) (old : State) (xs ys : List Instance) where
-  pub refuted_then : (new : State) → IsTaken net old new (tried net (the_entries old.entries) xs) true →
-      IsTaken net old new (tried net (the_entries old.entries) (xs ++ ys)) true
+  pub refuted_then : (new : State) → HasBecome net old new (tried net (the_entries old.entries) xs) true →
+      HasBecome net old new (tried net (the_entries old.entries) (xs ++ ys)) true
   refuted_then new t =
       let L = the_entries old.entries in
       let same = tried_append net xs ys L ∙ refuted_idle net ys (tried net L xs) (sym t.refuted_is) in
       record { entries = t.entries ∙ sym same; refuted_is = t.refuted_is ∙ ap (is_refuted net) (sym same); longer = t.longer }
 
-  pub taken_then : (mid new : State) (r : Bool) → IsTaken net old mid (tried net (the_entries old.entries) xs) false →
-      IsTaken net mid new (tried net (the_entries mid.entries) ys) r →
-      IsTaken net old new (tried net (the_entries old.entries) (xs ++ ys)) r
+  pub taken_then : (mid new : State) (r : Bool) → HasBecome net old mid (tried net (the_entries old.entries) xs) false →
+      HasBecome net mid new (tried net (the_entries mid.entries) ys) r →
+      HasBecome net old new (tried net (the_entries old.entries) (xs ++ ys)) r
   taken_then mid new r t u =
       let L = the_entries old.entries in
       let same = ap (λ l. tried net l ys) t.entries ∙ sym (tried_append net xs ys L) in
@@ -89,13 +89,13 @@ module _ (net : Network) (old : State) (xs ys : List Instance) where
         is = sym (append_assoc front (f.next ∷ f.rest) ext.more) ∙ ap (λ l. l ++ ext.more) f.is ∙ ext.is ∙ sym (tried_append net xs ys L);
       }
 
-  pub cut_first : (new : State) → IsCut old new (tried net (the_entries old.entries) xs) →
-      IsCut old new (tried net (the_entries old.entries) (xs ++ ys))
+  pub cut_first : (new : State) → IsCutShort old new (tried net (the_entries old.entries) xs) →
+      IsCutShort old new (tried net (the_entries old.entries) (xs ++ ys))
   cut_first new k =
       record { full = k.full; front = front_more (the_entries new.entries) (the_entries old.entries) k.front; longer = k.longer }
 
-  pub cut_then : (mid new : State) → IsTaken net old mid (tried net (the_entries old.entries) xs) false →
-      IsCut mid new (tried net (the_entries mid.entries) ys) → IsCut old new (tried net (the_entries old.entries) (xs ++ ys))
+  pub cut_then : (mid new : State) → HasBecome net old mid (tried net (the_entries old.entries) xs) false →
+      IsCutShort mid new (tried net (the_entries mid.entries) ys) → IsCutShort old new (tried net (the_entries old.entries) (xs ++ ys))
   cut_then mid new t k =
       let L = the_entries old.entries in
       let same = ap (λ l. tried net l ys) t.entries ∙ sym (tried_append net xs ys L) in
@@ -108,64 +108,64 @@ module _ (net : Network) (old : State) (xs ys : List Instance) where
       }
 
 module _ (net : Network) (old mid new : State) (xs ys : List Instance)
-    (t : IsTaken net old mid (tried net (the_entries old.entries) xs) false) where
+    (t : HasBecome net old mid (tried net (the_entries old.entries) xs) false) where
   pub go_on : (zs : List Instance) (r : Bool) → xs ++ ys ≡ zs →
-      IsTaken net mid new (tried net (the_entries mid.entries) ys) r → IsTaken net old new (tried net (the_entries old.entries) zs) r
-  go_on zs r is u = subst (λ l. IsTaken net old new (tried net (the_entries old.entries) l) r) is (taken_then net old xs ys mid new r t u)
+      HasBecome net mid new (tried net (the_entries mid.entries) ys) r → HasBecome net old new (tried net (the_entries old.entries) zs) r
+  go_on zs r is u = subst (λ l. HasBecome net old new (tried net (the_entries old.entries) l) r) is (taken_then net old xs ys mid new r t u)
 
   pub go_true : (zs rest : List Instance) (r : Bool) → (xs ++ ys) ++ rest ≡ zs →
-      IsTaken net mid new (tried net (the_entries mid.entries) ys) r → r ≡ true →
-      IsTaken net old new (tried net (the_entries old.entries) zs) true
+      HasBecome net mid new (tried net (the_entries mid.entries) ys) r → r ≡ true →
+      HasBecome net old new (tried net (the_entries old.entries) zs) true
   go_true zs rest r is u e =
-      subst (λ l. IsTaken net old new (tried net (the_entries old.entries) l) true) is
+      subst (λ l. HasBecome net old new (tried net (the_entries old.entries) l) true) is
       (refuted_then net old (xs ++ ys) rest new
-      (taken_then net old xs ys mid new true t (subst (λ b. IsTaken net mid new (tried net (the_entries mid.entries) ys) b) e u)))
+      (taken_then net old xs ys mid new true t (subst (λ b. HasBecome net mid new (tried net (the_entries mid.entries) ys) b) e u)))
 
-  pub go_cut : (zs rest : List Instance) → (xs ++ ys) ++ rest ≡ zs → IsCut mid new (tried net (the_entries mid.entries) ys) →
-      IsCut old new (tried net (the_entries old.entries) zs)
+  pub go_cut : (zs rest : List Instance) → (xs ++ ys) ++ rest ≡ zs → IsCutShort mid new (tried net (the_entries mid.entries) ys) →
+      IsCutShort old new (tried net (the_entries old.entries) zs)
   go_cut zs rest is k =
-      subst (λ l. IsCut old new (tried net (the_entries old.entries) l)) is
+      subst (λ l. IsCutShort old new (tried net (the_entries old.entries) l)) is
       (cut_first net old (xs ++ ys) rest new (cut_then net old xs ys mid new t k))
 
 -- ---- what steps answer
 
 module _ (net : Network) (old new : State) (list : List Entry) where
-  pub open_step : IsTaken net old new list false → IsOpen net new → IsStep net old new list (Ok Open)
+  pub open_step : HasBecome net old new list false → IsOpen net new → IsStepTo net old new list (Ok Open)
   open_step t ready = record { taken = t; cut = λ is. absurd (false≢true is); ready = λ e. ready }
 
-  pub refuted_step : IsTaken net old new list true → IsStep net old new list (Ok Refuted)
+  pub refuted_step : HasBecome net old new list true → IsStepTo net old new list (Ok Refuted)
   refuted_step t = record { taken = t; cut = λ is. absurd (false≢true is); ready = λ e. cc }
 
-  pub step_open : (s : Step) → s ≡ Open → IsStep net old new list (Ok s) → IsTaken net old new list false
-  step_open s e told = subst (λ (x : Step). IsTaken net old new list (is_refutation x)) e told.taken
+  pub step_open : (s : Step) → s ≡ Open → IsStepTo net old new list (Ok s) → HasBecome net old new list false
+  step_open s e told = subst (λ (x : Step). HasBecome net old new list (is_refutation x)) e told.taken
 
-  pub step_refuted : (s : Step) → s ≡ Refuted → IsStep net old new list (Ok s) → IsTaken net old new list true
-  step_refuted s e told = subst (λ (x : Step). IsTaken net old new list (is_refutation x)) e told.taken
+  pub step_refuted : (s : Step) → s ≡ Refuted → IsStepTo net old new list (Ok s) → HasBecome net old new list true
+  step_refuted s e told = subst (λ (x : Step). HasBecome net old new list (is_refutation x)) e told.taken
 
 ready_then : (net : Network) (old new : State) (is : List Instance) (o : Result Step Full) → IsWellFormed net →
-    Each (OfNetwork net) is → IsOpen net old → IfOk o (λ s. IsTaken net old new (tried net (the_entries old.entries) is) (is_refutation s)) →
+    Each (OfNetwork net) is → IsOpen net old → IfOk o (λ s. HasBecome net old new (tried net (the_entries old.entries) is) (is_refutation s)) →
     IfOk o (λ s. s ≡ Open → IsOpen net new)
 ready_then net old new is (Ok s) good of ready t = λ e.
     open_after net old new is good of ready
-    (subst (λ (x : Step). IsTaken net old new (tried net (the_entries old.entries) is) (is_refutation x)) e t)
+    (subst (λ (x : Step). HasBecome net old new (tried net (the_entries old.entries) is) (is_refutation x)) e t)
 ready_then net old new is (Err e) good of ready t = tt
 
 -- a conclusion that is put at the end of the list makes the step of its instance
 pub put_stepped : (net : Network) (old new : State) (i : Instance) (list : List Entry) (o : Result Step Full) → IsWellFormed net → OfNetwork net i →
-    IsOpen net old → list ≡ step net (the_entries old.entries) i → IfOk o (λ s. IsTaken net old new list (is_refutation s)) →
-    (IsErr o → IsCut old new list) → IsStep net old new (step net (the_entries old.entries) i) o
+    IsOpen net old → list ≡ step net (the_entries old.entries) i → IfOk o (λ s. HasBecome net old new list (is_refutation s)) →
+    (IsErr o → IsCutShort old new list) → IsStepTo net old new (step net (the_entries old.entries) i) o
 put_stepped net old new i list o good of ready is taken cut =
-    let told = subst (λ (l : List Entry). IfOk o (λ s. IsTaken net old new l (is_refutation s))) is taken in
+    let told = subst (λ (l : List Entry). IfOk o (λ s. HasBecome net old new l (is_refutation s))) is taken in
     record {
       taken = told;
-      cut = subst (λ (l : List Entry). IsErr o → IsCut old new l) is cut;
+      cut = subst (λ (l : List Entry). IsErr o → IsCutShort old new l) is cut;
       ready = ready_then net old new (i ∷ []) o good (of, tt) ready told;
     }
 
 -- a step goes on from one after which growth can go on
 pub step_then : (net : Network) (old mid new : State) (xs ys zs : List Instance) (o : Result Step Full) → xs ++ ys ≡ zs →
-    IsTaken net old mid (tried net (the_entries old.entries) xs) false →
-    IsStep net mid new (tried net (the_entries mid.entries) ys) o → IsStep net old new (tried net (the_entries old.entries) zs) o
+    HasBecome net old mid (tried net (the_entries old.entries) xs) false →
+    IsStepTo net mid new (tried net (the_entries mid.entries) ys) o → IsStepTo net old new (tried net (the_entries old.entries) zs) o
 step_then net old mid new xs ys zs (Ok s) is t u = record {
   taken = go_on net old mid new xs ys t zs (is_refutation s) is u.taken;
   cut = λ e. absurd (false≢true e);
@@ -173,7 +173,7 @@ step_then net old mid new xs ys zs (Ok s) is t u = record {
 }
 step_then net old mid new xs ys zs (Err e) is t u = record {
   taken = tt;
-  cut = λ h. subst (λ (l : List Instance). IsCut old new (tried net (the_entries old.entries) l)) is (cut_then net old xs ys mid new t (u.cut h));
+  cut = λ h. subst (λ (l : List Instance). IsCutShort old new (tried net (the_entries old.entries) l)) is (cut_then net old xs ys mid new t (u.cut h));
   ready = tt;
 }
 

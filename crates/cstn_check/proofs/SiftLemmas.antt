@@ -19,8 +19,8 @@ use Rattle.cstn_log.specs.Entries.{State, the_entries, IsBoundAt, IsLive}
 use Rattle.cstn_check.specs.Growth.{is_live, tried, waits_below}
 use Rattle.cstn_check.specs.Growth.Instance.{wait_at}
 use Rattle.cstn_check.specs.Floors.{IsFloor}
-use Rattle.cstn_check.specs.Turns.{IsOpen, IsTaken}
-use Rattle.cstn_check.specs.Waits.{HasBound, IsSpentWait, AreSeen, AreSeenOf, AreMarking, AreMarkingAt, IsSifted, IsAhead, IsNext}
+use Rattle.cstn_check.specs.Turns.{IsOpen, HasBecome}
+use Rattle.cstn_check.specs.Waits.{HasBound, IsSpentWait, AreSeen, AreSeenOf, AreMarking, AreMarkingAt, IsSifted, IsAhead, IsNextOnAgenda}
 use Rattle.cstn_check.proofs.Lists.{Extends}
 use Rattle.cstn_check.proofs.Grows.{spent_kept}
 use Rattle.cstn_check.proofs.Reading.{true_live, dead_false}
@@ -43,8 +43,8 @@ open_on net old new is r = subst (λ (s : State). IsOpen net s) (sym is) (record
 
 -- a step ends at the same list with any agenda
 pub past : (net : Network) (old mid new : State) (is : new ≡ record mid { agenda = new.agenda }) (n j : ℕ) →
-    IsTaken net old mid (tried net (the_entries old.entries) (waits_below n j)) false → IsTaken net old new (tried net (the_entries old.entries) (waits_below n j)) false
-past net old mid new is n j t = subst (λ (s : State). IsTaken net old s (tried net (the_entries old.entries) (waits_below n j)) false) (sym is) (record {
+    HasBecome net old mid (tried net (the_entries old.entries) (waits_below n j)) false → HasBecome net old new (tried net (the_entries old.entries) (waits_below n j)) false
+past net old mid new is n j t = subst (λ (s : State). HasBecome net old s (tried net (the_entries old.entries) (waits_below n j)) false) (sym is) (record {
   entries = t.entries;
   refuted_is = t.refuted_is;
   longer = record {
@@ -220,7 +220,7 @@ marking_all net s j ready inside each k upto =
 
 -- the waits of a dead entry add nothing
 pub waits_dead : (net : Network) (s : State) (j : ℕ) → IsOpen net s → ¬ IsLive s.entries j →
-    IsTaken net s s (tried net (the_entries s.entries) (waits_below (j + 1) j)) false
+    HasBecome net s s (tried net (the_entries s.entries) (waits_below (j + 1) j)) false
 waits_dead net s j ready dead =
     let off = dead_false s.entries j dead in
     waits_to net s s j 0 (j + 1) (omega arith) (λ k low high. (dead_spent net s k j (inr off), dead_spent net s j k (inl off))) (idle net s _ ready refl)
@@ -275,7 +275,7 @@ module _ (net : Network) (old new : State) (j from : ℕ) (stays : new ≡ recor
   ]
 
   pub next_taken : (i : ℕ) → has_place old.agenda i ≡ true → ((m : ℕ) → m < i → has_place old.agenda m ≡ false) → has_place new.agenda i ≡ false →
-      ((m : ℕ) → (m ≡ i → ⊥) → has_place new.agenda m ≡ has_place old.agenda m) → IsNext net old new j from i
+      ((m : ℕ) → (m ≡ i → ⊥) → has_place new.agenda m ≡ has_place old.agenda m) → IsNextOnAgenda net old new j from i
   next_taken i here least gone others = record {
     stays = stays;
     low = a.low i here;
@@ -300,7 +300,7 @@ module _ (net : Network) (old new : State) (j from : ℕ) (stays : new ≡ recor
     };
   }
 
-  pub next_none : from ≤ j + 1 → ((m : ℕ) → has_place old.agenda m ≡ false) → IsNext net old new j from (j + 1)
+  pub next_none : from ≤ j + 1 → ((m : ℕ) → has_place old.agenda m ≡ false) → IsNextOnAgenda net old new j from (j + 1)
   next_none upto none = record {
     stays = stays;
     low = upto;
@@ -309,7 +309,7 @@ module _ (net : Network) (old new : State) (j from : ℕ) (stays : new ≡ recor
     ahead = λ past. absurd (omega (arith, past));
   }
 
-  pub next_dead : from ≤ j + 1 → ¬ IsLive old.entries j → IsNext net old new j from (j + 1)
+  pub next_dead : from ≤ j + 1 → ¬ IsLive old.entries j → IsNextOnAgenda net old new j from (j + 1)
   next_dead upto dead =
       let off = dead_false old.entries j dead in
       record {

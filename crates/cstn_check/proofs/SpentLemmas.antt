@@ -12,9 +12,9 @@ use Rattle.cstn_rules.specs.Read.{the_entry}
 use Rattle.cstn_log.specs.Entries.{State, the_entries}
 use Rattle.cstn_check.specs.Growth.{Instance, is_covered, is_refuted, premises_live, conclusion, with_conclusion, step, tried, waits_below, grow, most_entries}
 use Rattle.cstn_check.specs.Growth.Instance.{chain_at, wait_at}
-use Rattle.cstn_check.specs.Kept.{IsKept}
+use Rattle.cstn_check.specs.Kept.{IsKeptList}
 use Rattle.cstn_check.specs.Spent.{IsSpent, AreSpent, is_fresh, fresh_count}
-use Rattle.cstn_check.specs.Turns.{IsOpen, IsTaken}
+use Rattle.cstn_check.specs.Turns.{IsOpen, HasBecome}
 use Rattle.cstn_check.specs.Waits.{IsSpentWait}
 use Rattle.cstn_check.proofs.Lists.{Extends}
 use Rattle.cstn_check.proofs.Grows.{has_left, has_right, spent_kept, tried_extends, all_spent}
@@ -50,7 +50,7 @@ spent_on net L G fresh n ext front are = record {
 }
 
 -- spent instances stay spent when a log goes on
-pub spent_after : (net : Network) (old new : State) (is : List Instance) (r : Bool) (fresh : List ℕ) (n : ℕ) → IsTaken net old new (tried net (the_entries old.entries) is) r → n ≤ length old.entries → AreSpent net (the_entries old.entries) fresh n → AreSpent net (the_entries new.entries) fresh n
+pub spent_after : (net : Network) (old new : State) (is : List Instance) (r : Bool) (fresh : List ℕ) (n : ℕ) → HasBecome net old new (tried net (the_entries old.entries) is) r → n ≤ length old.entries → AreSpent net (the_entries old.entries) fresh n → AreSpent net (the_entries new.entries) fresh n
 spent_after net old new is r fresh n t front are =
     let L = the_entries old.entries in
     let ext : Extends L (the_entries new.entries) = subst (λ l. Extends L l) (sym t.entries) (tried_extends net is L) in
@@ -64,12 +64,12 @@ none_spent net L fresh = record {
 }
 
 pub chain_spent : (net : Network) (s : State) (fresh : List ℕ) (n j : ℕ) (c : Constraint) → IsOpen net s → AreSpent net (the_entries s.entries) fresh n → Contains net.constraints c → is_fresh fresh c.id ≡ false → j < n →
-    IsTaken net s s (step net (the_entries s.entries) (chain_at c j)) false
+    HasBecome net s s (step net (the_entries s.entries) (chain_at c j)) false
 chain_spent net s fresh n j c ready are has other low =
     idle net s (step net (the_entries s.entries) (chain_at c j)) ready (spent_idle net (the_entries s.entries) (chain_at c j) (are.chains c j has other low))
 
 pub waits_spent : (net : Network) (s : State) (fresh : List ℕ) (n j : ℕ) → IsOpen net s → AreSpent net (the_entries s.entries) fresh n → j < n →
-    IsTaken net s s (tried net (the_entries s.entries) (waits_below (j + 1) j)) false
+    HasBecome net s s (tried net (the_entries s.entries) (waits_below (j + 1) j)) false
 waits_spent net s fresh n j ready are low =
     let L = the_entries s.entries in
     let same : L ≡ tried net L (waits_below (j + 1) j) = waits_passed net L L j 0 (j + 1) (omega arith) refl (λ k from upto. (
@@ -80,8 +80,8 @@ waits_spent net s fresh n j ready are low =
 
 -- a turn's waits go on at the next place, where the waits of those between are spent
 pub waits_to : (net : Network) (old new : State) (j i r : ℕ) → i ≤ r → ((k : ℕ) → i ≤ k → k < r → IsSpentWait net new k j × IsSpentWait net new j k) →
-    IsTaken net old new (tried net (the_entries old.entries) (waits_below i j)) false →
-    IsTaken net old new (tried net (the_entries old.entries) (waits_below r j)) false
+    HasBecome net old new (tried net (the_entries old.entries) (waits_below i j)) false →
+    HasBecome net old new (tried net (the_entries old.entries) (waits_below r j)) false
 waits_to net old new j i r upto spent t =
     let M = the_entries new.entries in
     let is = waits_passed net (the_entries old.entries) M j i r upto t.entries (λ k low high. (
@@ -91,7 +91,7 @@ waits_to net old new j i r upto spent t =
     record { entries = is; refuted_is = t.refuted_is ∙ ap (is_refuted net) (sym t.entries ∙ is); longer = t.longer }
 
 -- once a list is grown, each instance is spent
-pub grown_spent : (net : Network) (list : List Entry) (fresh : List ℕ) → IsWellFormed net → IsKept net list → is_refuted net (grow net list) ≡ false → AreSpent net (grow net list) fresh (length (grow net list))
+pub grown_spent : (net : Network) (list : List Entry) (fresh : List ℕ) → IsWellFormed net → IsKeptList net list → is_refuted net (grow net list) ≡ false → AreSpent net (grow net list) fresh (length (grow net list))
 grown_spent net list fresh good kept on =
     let n = length list + most_entries net in
     let done = all_turns net good.network good.letters list kept in

@@ -10,7 +10,7 @@ use Rattle.cstn_rules.specs.Derivations.{Entry, IsRefutation}
 use Rattle.cstn_rules.proofs.Derived.{derivation_elsewhere, refuted_inconsistent}
 use Rattle.cstn_check.specs.Givers.{is_by, gave, with_some}
 use Rattle.cstn_check.specs.Growth.{is_refuted, load_of, most_entries}
-use Rattle.cstn_check.specs.Room.{Decides}
+use Rattle.cstn_check.specs.Room.{DecidesByList}
 use Rattle.cstn_check.specs.Verdicts.{is_consistent}
 use Rattle.cstn_check.proofs.Decides.{decided, load_bounded}
 use Rattle.cstn_check.proofs.Fewer.{contains_passing, some_well_formed}
@@ -50,8 +50,8 @@ module _ (net : Network) (test : ℕ → Bool) (list : List Entry) (none : (id :
 
   module _ (good : IsWellFormed net) (cap : ℕ) (refuted : is_consistent net ≡ false) (within : load_of net ≤ cap) where
     -- a no stands, with the list that decides
-    pub no_stands : (roomy : Bool) → Decides cap net roomy list →
-        (is_consistent (with_some net test) ≡ false) × (load_of (with_some net test) ≤ cap) × Decides cap (with_some net test) roomy list
+    pub no_stands : (roomy : Bool) → DecidesByList cap net roomy list →
+        (is_consistent (with_some net test) ≡ false) × (load_of (with_some net test) ≤ cap) × DecidesByList cap (with_some net test) roomy list
     no_stands true decides =
         let less = some_well_formed net (λ c. test c.id) good in
         let again = refutation_stands decides.0 in (

@@ -16,7 +16,7 @@ use Rattle.cstn_rules.proofs.Shapes.{chain_within, wait_within}
 use Rattle.cstn_log.specs.Entries.{bases, the_entries, AllNew}
 use Rattle.cstn_facts.proofs.Places.{get_map, get_left, get_last}
 use Rattle.cstn_log.proofs.DerivedLemmas.{length_bases}
-use Rattle.cstn_check.specs.Kept.{IsBoundOf, AllGood, IsKept}
+use Rattle.cstn_check.specs.Kept.{MarksObserved, AllGood, IsKeptList}
 use Rattle.cstn_check.specs.Turns.{IsRefutedLast}
 use Rattle.cstn_check.proofs.Decided.{HasLetters, chain_gives, wait_gives}
 use Rattle.cstn_check.proofs.Lists.{Extends, get_kept, covered_kept}
@@ -26,7 +26,7 @@ use Rattle.cstn_check.proofs.Closes.{bases_cover}
 use Rattle.cstn_check.proofs.Bounded.{bases_kept}
 use Rattle.cstn_check.proofs.Last.{bases_stand}
 
-all_good : (net : Network) (L : List Entry) → ((k : ℕ) (e : Entry) → slice_get L k ≡ Some e → IsBoundOf net e.bound) → AllGood net L
+all_good : (net : Network) (L : List Entry) → ((k : ℕ) (e : Entry) → slice_get L k ≡ Some e → MarksObserved net e.bound) → AllGood net L
 all_good net [] h = tt
 all_good net (x ∷ xs) h = (h 0 x refl, all_good net xs (λ k e there. h (suc k) e there))
 
@@ -46,15 +46,15 @@ module _ (net : Network) (good : IsWellFormed net) (L : List Entry) (derivation 
     (apart : (i j : ℕ) (e f : Entry) → i < j → slice_get L i ≡ Some e → slice_get L j ≡ Some f → Dominates e.bound f.bound → ⊥) where
   -- the bounds before the place k are of the network
   AreGood : ℕ → Type 0
-  AreGood k = (i : ℕ) (e : Entry) → i < k → slice_get L i ≡ Some e → IsBoundOf net e.bound
+  AreGood k = (i : ℕ) (e : Entry) → i < k → slice_get L i ≡ Some e → MarksObserved net e.bound
 
-  earlier_good : (k i : ℕ) (b : Bound) → AreGood k → IsEarlier L k i b → IsBoundOf net b
+  earlier_good : (k i : ℕ) (b : Bound) → AreGood k → IsEarlier L k i b → MarksObserved net b
   unfolding AreGood
-  earlier_good k i b before e = subst (λ x. IsBoundOf net x) e.bound (before i e.entry e.before e.there)
+  earlier_good k i b before e = subst (λ x. MarksObserved net x) e.bound (before i e.entry e.before e.there)
 
-  follows_good : (k : ℕ) (why : Why) (b : Bound) → AreGood k → Follows net L k why b → IsBoundOf net b
+  follows_good : (k : ℕ) (why : Why) (b : Bound) → AreGood k → Follows net L k why b → MarksObserved net b
   follows_good k Base b before f =
-      subst (λ x. IsBoundOf net x) (sym f.gives) (record { node = f.node; observed = λ p marked. absurd (marked refl) })
+      subst (λ x. MarksObserved net x) (sym f.gives) (record { node = f.node; observed = λ p marked. absurd (marked refl) })
   follows_good k (Chain id i) b before f =
       chain_good net f.0 f.1 b (All-contains (IsConstraint net) net.constraints f.0 good.network.constraints f.2)
       (earlier_good k i f.1 before f.4) (chain_gives net f.0 f.1 b f.5)
@@ -69,7 +69,7 @@ module _ (net : Network) (good : IsWellFormed net) (L : List Entry) (derivation 
       let before : AreGood i = λ j d g t. good_before k j d (omega arith) t in
       follows_good i e.why e.bound before (derivation i e there)
 
-  good_here : (k : ℕ) (e : Entry) → slice_get L k ≡ Some e → IsBoundOf net e.bound
+  good_here : (k : ℕ) (e : Entry) → slice_get L k ≡ Some e → MarksObserved net e.bound
   unfolding AreGood
   good_here k e there = good_before (suc k) k e (omega arith) there
 
@@ -113,7 +113,7 @@ module _ (net : Network) (good : IsWellFormed net) (L : List Entry) (derivation 
       ])
       (λ h. h)
 
-  pub kept_from : IsKept net L
+  pub kept_from : IsKeptList net L
   kept_from = record {
     good = all_good net L good_here;
     based = λ x here. covered_kept (bases (count net)) L (base x) ext (bases_cover (count net) x here);
@@ -123,7 +123,7 @@ module _ (net : Network) (good : IsWellFormed net) (L : List Entry) (derivation 
 
 -- a derivation in range, in which no entry but perhaps the last refutes
 pub record GoesOn (net : Network) (list : List Entry) : Type 0 where
-  pub kept : IsKept net list
+  pub kept : IsKeptList net list
   pub derivation : IsDerivation net list
   pub last : IsRefutedLast net list
 

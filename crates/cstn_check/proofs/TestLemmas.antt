@@ -16,7 +16,7 @@ use Rattle.cstn_rules.specs.Tests.{refutes, chain_of, wait_of}
 use Rattle.cstn_label.specs.Tests.{is_within, dominates}
 use Rattle.cstn_check.specs.Growth.{is_covered, is_live, is_refuted, live_bounds}
 use Rattle.cstn_label.specs.OnLetters.{IsOnLetters}
-use Rattle.cstn_check.specs.Relations.{AreOnLetters, IsCovered, IsLive, IsRefuted}
+use Rattle.cstn_check.specs.Relations.{AreOnLetters, IsCoveredByEntry, IsLiveAt, IsRefuted}
 use Rattle.cstn_check.proofs.Decided.{within_true, true_within, dominates_true, true_dominates, refutes_true, chain_gives, wait_gives}
 use Rattle.cstn_check.proofs.Lists.{covered_by, live_entry, live_listed, listed_live}
 use Rattle.cstn_check.proofs.Derives.{small_of, chain_when, wait_is}
@@ -55,7 +55,7 @@ constraint_letters net c good has =
 
 -- ---- lists
 
-pub covered_decides : (list : List Entry) (r : Bound) → AreOnLetters list → is_covered list r ≡ true ↔ IsCovered list r
+pub covered_decides : (list : List Entry) (r : Bound) → AreOnLetters list → is_covered list r ≡ true ↔ IsCoveredByEntry list r
 covered_decides list r small = (
   λ h. (let d = covered_by list r small h in (d.place, d.entry, d.there, d.dominates)),
   λ found. covered_at list found.0 found.1 r found.2 found.3,
@@ -85,7 +85,7 @@ none_live (x ∷ xs) (suc k) small inside none =
     none_live xs k (λ j e there. small (suc j) e there) (omega (arith, inside))
     (λ j e f less at_k at_j. none (suc j) e f (omega (arith, less)) at_k at_j)
 
-pub live_decides : (list : List Entry) (k : ℕ) → AreOnLetters list → is_live list k ≡ true ↔ IsLive list k
+pub live_decides : (list : List Entry) (k : ℕ) → AreOnLetters list → is_live list k ≡ true ↔ IsLiveAt list k
 live_decides list k small = (
   λ live. record { inside = (live_entry list k live).0; none_over = live_none list k live },
   λ is. none_live list k small is.inside is.none_over,
@@ -98,7 +98,7 @@ refuted_decides net list small = (
 )
 
 pub live_bounds_are : (list : List Entry) (b : Bound) → AreOnLetters list →
-    Contains (live_bounds list) b ↔ ((k : ℕ) × (e : Entry) × (slice_get list k ≡ Some e) × IsLive list k × (e.bound ≡ b))
+    Contains (live_bounds list) b ↔ ((k : ℕ) × (e : Entry) × (slice_get list k ≡ Some e) × IsLiveAt list k × (e.bound ≡ b))
 live_bounds_are list b small = (
   λ has. (let at = listed_live list b has in (at.place, at.entry, at.there, (live_decides list at.place small).0 at.live, at.bound)),
   λ found. subst (Contains (live_bounds list)) found.4 (live_listed list found.0 found.1 found.2 ((live_decides list found.0 small).1 found.3)),

@@ -19,7 +19,7 @@ use Rattle.cstn_rules.specs.Tests.{wait_for, wait_of}
 use Rattle.cstn_check.specs.Growth.{Instance, conclusion, of_two, tried}
 use Rattle.cstn_check.specs.Growth.Instance.{wait_at}
 use Rattle.cstn_check.specs.Tries.{total, how_many, concludes, concluding_pairs, concludes_with, concludes_upto}
-use Rattle.cstn_check.specs.Turns.{IsTaken}
+use Rattle.cstn_check.specs.Turns.{HasBecome}
 use Rattle.cstn_check.proofs.Lists.{Extends, length_upto}
 use Rattle.cstn_check.proofs.Grows.{conclusion_kept, tried_extends}
 
@@ -176,7 +176,7 @@ total_next f i next upto =
     omega (arith, more)
 
 -- after instances are tried, the list of the log extends the one before
-pub taken_on : (net : Network) (old new : State) (is : List Instance) (r : Bool) → IsTaken net old new (tried net (the_entries old.entries) is) r →
+pub taken_on : (net : Network) (old new : State) (is : List Instance) (r : Bool) → HasBecome net old new (tried net (the_entries old.entries) is) r →
     Extends (the_entries old.entries) (the_entries new.entries)
 taken_on net old new is r t =
     subst (λ l. Extends (the_entries old.entries) l) (sym t.entries) (tried_extends net is (the_entries old.entries))
@@ -186,7 +186,7 @@ size_is s = length-map s.entries the_entry
 
 -- a turn's waits with one more entry add at most those that have a conclusion
 pub pairs_step : (net : Network) (old mid : State) (j i next : ℕ) (is : List Instance) (start before now : ℕ) →
-    IsTaken net old mid (tried net (the_entries old.entries) is) false → j < length old.entries → i < length old.entries →
+    HasBecome net old mid (tried net (the_entries old.entries) is) false → j < length old.entries → i < length old.entries →
     before ≤ start + total (concludes_with net (the_entries old.entries) j) i →
     now ≤ before + concludes_with net (the_entries mid.entries) j i → i + 1 ≤ next →
     now ≤ start + total (concludes_with net (the_entries old.entries) j) next

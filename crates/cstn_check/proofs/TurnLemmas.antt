@@ -21,7 +21,7 @@ use Rattle.cstn_facts.proofs.Places.{get_map}
 use Rattle.cstn_rules.specs.Tests.{refutes, chain_of, wait_of}
 use Rattle.cstn_check.specs.Growth.{Instance, why_of, is_covered, is_refuted, premises_live, is_live, of_one, of_two, conclusion, with_conclusion, step}
 use Rattle.cstn_check.specs.Growth.Instance.{chain_at, wait_at}
-use Rattle.cstn_check.specs.Turns.{IsOpen, IsTaken, IsCut, IsLonger}
+use Rattle.cstn_check.specs.Turns.{IsOpen, HasBecome, IsCutShort, IsLongerLog}
 use Rattle.cstn_check.specs.Waits.{HasBound}
 use Rattle.cstn_check.proofs.Lists.{Extends, get_kept}
 use Rattle.cstn_check.proofs.Reading.{covered_true, uncovered_false, live_true, dead_false, refutes_is}
@@ -34,11 +34,11 @@ use Rattle.cstn_log.proofs.StepLemmas.{entry_read}
 abbrev pub put_to : List TheEntry → TheEntry → List TheEntry
 put_to list e = cond (is_covered list e.bound) list (list ++ e ∷ [])
 
-pub longer_itself : (s : State) → length s.entries ≤ s.cap → IsLonger s s
+pub longer_itself : (s : State) → length s.entries ≤ s.cap → IsLongerLog s s
 longer_itself s short = record { cap = refl; nodes = refl; ids = record { more = []; is = append-nil s.ids }; births = refl; short = short; longer = omega arith }
 
 pub put_nothing : (net : Network) (s : State) (e : Entry) → IsOpen net s → IsCoveredBy s.entries e.bound →
-    IsTaken net s s (put_to (the_entries s.entries) (the_entry e)) false
+    HasBecome net s s (put_to (the_entries s.entries) (the_entry e)) false
 put_nothing net s e ready covered =
     let same = cond-true (is_covered (the_entries s.entries) (the_bound e.bound)) (the_entries s.entries)
     (the_entries s.entries ++ the_entry e ∷ []) (covered_true s.entries e.bound covered) in
@@ -55,7 +55,7 @@ new_last s e free = cond-false _ _ _ (uncovered_false s.entries e.bound free)
 pub put_last : (net : Network) (old new : State) (e : Entry) (slot : ℕ) (r : Bool) → IsOpen net old →
     ¬ IsCoveredBy old.entries e.bound → (length old.entries ≡ old.cap → ⊥) →
     new ≡ record old { entries = old.entries ++ e ∷ []; ids = old.ids ++ record { slot = slot; birth = old.births } ∷ []; births = old.births + 1 } →
-    (IsTrue r ↔ Refutes net (the_bound e.bound)) → IsTaken net old new (put_to (the_entries old.entries) (the_entry e)) r
+    (IsTrue r ↔ Refutes net (the_bound e.bound)) → HasBecome net old new (put_to (the_entries old.entries) (the_entry e)) r
 put_last net old new e slot r ready free room is iff =
     let last = new_last old e free in
     let list : new.entries ≡ old.entries ++ e ∷ [] = ap (λ (s : State). s.entries) is in
@@ -83,9 +83,9 @@ put_last net old new e slot r ready free room is iff =
     or_none b = grind arith
 
 pub put_cut : (old new : State) (e : Entry) → ¬ IsCoveredBy old.entries e.bound → length old.entries ≡ old.cap → new ≡ old →
-    IsCut old new (put_to (the_entries old.entries) (the_entry e))
+    IsCutShort old new (put_to (the_entries old.entries) (the_entry e))
 put_cut old new e free full is =
-    subst (λ s. IsCut old s (put_to (the_entries old.entries) (the_entry e))) (sym is) (record {
+    subst (λ s. IsCutShort old s (put_to (the_entries old.entries) (the_entry e))) (sym is) (record {
       full = full;
       front = record { next = the_entry e; rest = []; is = sym (new_last old e free) };
       longer = longer_itself old (omega arith);
@@ -111,7 +111,7 @@ with_dead L i None dead = refl
 with_dead L i (Some r) dead = cond-false _ _ _ (ap (λ b. b && not (is_covered L r)) dead)
 
 pub idle : (net : Network) (s : State) (list : List TheEntry) → IsOpen net s → list ≡ the_entries s.entries →
-    IsTaken net s s list false
+    HasBecome net s s list false
 idle net s list ready same = record {
   entries = sym same;
   refuted_is = sym (ap (is_refuted net) same ∙ ready.unrefuted);
@@ -119,14 +119,14 @@ idle net s list ready same = record {
 }
 
 pub idle_dead : (net : Network) (s : State) (i : Instance) → IsOpen net s → premises_live (the_entries s.entries) i ≡ false →
-    IsTaken net s s (step net (the_entries s.entries) i) false
+    HasBecome net s s (step net (the_entries s.entries) i) false
 idle_dead net s i ready dead =
     idle net s (step net (the_entries s.entries) i) ready
     (step_on net (the_entries s.entries) i ready.unrefuted
     ∙ with_dead (the_entries s.entries) i (conclusion net (the_entries s.entries) i) dead)
 
 pub idle_none : (net : Network) (s : State) (i : Instance) → IsOpen net s → conclusion net (the_entries s.entries) i ≡ None →
-    IsTaken net s s (step net (the_entries s.entries) i) false
+    HasBecome net s s (step net (the_entries s.entries) i) false
 idle_none net s i ready none =
     idle net s (step net (the_entries s.entries) i) ready
     (step_on net (the_entries s.entries) i ready.unrefuted ∙ ap (with_conclusion (the_entries s.entries) i) none)

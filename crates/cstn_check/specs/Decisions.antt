@@ -3,8 +3,8 @@ use Rattle.std.specs.Prelude.{◌≡◌, ◌≤◌, ℕ, nat_lt, if◌then◌els
 use Rattle.cstn_net.specs.Networks.{Network}
 use Rattle.cstn_net.specs.Strategies.{IsConsistent}
 use Rattle.cstn_net.specs.Read.{NetworkParts, the_network}
-use Rattle.cstn_log.specs.Cuts.{part}
-use Rattle.cstn_refute.specs.Texts.{shown}
+use Rattle.cstn_log.specs.Cuts.{last_with_ancestors}
+use Rattle.cstn_refute.specs.Texts.{refutation_shown}
 use Rattle.cstn_reply.specs.Texts.{Said, yes_line, full_line}
 use Rattle.cstn_reply.specs.Read.{the_said}
 use Rattle.cstn_reply.specs.declared.output.Outcome.TheVariants.{Good, Bad, Full}
@@ -22,17 +22,17 @@ verdict cap net =
 -- what is said of a verdict on a network that isn't yes: the refutation after no, or the cap where the log has more entries
 abbrev pub unless_yes : ℕ → List (List ℕ) → Network → Verdict → Option Said
 unless_yes cap names net (Yes load) = None
-unless_yes cap names net (No load) = Some (record { outcome = Bad; text = shown names load (part (log_of net)) })
+unless_yes cap names net (No load) = Some (record { outcome = Bad; text = refutation_shown names load (last_with_ancestors (log_of net)) })
 unless_yes cap names net IsFull = Some (record { outcome = Full; text = full_line cap })
 
 -- this, unless something is said in its place
-abbrev pub or_else : Option Said → Said → Said
-or_else None said = said
-or_else (Some other) said = other
+abbrev pub said_instead : Option Said → Said → Said
+said_instead None said = said
+said_instead (Some other) said = other
 
 -- what is said of the verdict on a network: `after_yes`, the refutation after no, or the cap where the log has more entries
 abbrev pub on_verdict : ℕ → List (List ℕ) → Network → Said → Said
-on_verdict cap names net after_yes = or_else (unless_yes cap names net (verdict cap net)) after_yes
+on_verdict cap names net after_yes = said_instead (unless_yes cap names net (verdict cap net)) after_yes
 
 -- what `check` says of a network
 abbrev pub checked : ℕ → List (List ℕ) → Network → Said

@@ -37,8 +37,8 @@ abbrev pub with_ids : Network → List ℕ → Network
 with_ids net ids = with_some net (is_of ids)
 
 -- the network without the constraint of the id
-abbrev pub without : ℕ → Network → Network
-without id net = with_some net (λ i. not (i == id))
+abbrev pub network_without : ℕ → Network → Network
+network_without id net = with_some net (λ i. not (i == id))
 
 -- a network with some of the constraints of another
 abbrev pub IsPart : Network → Network → Type 0

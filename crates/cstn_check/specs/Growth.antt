@@ -93,15 +93,15 @@ live_bounds [] = []
 live_bounds (e ∷ es) = cond (is_covered es e.bound) (live_bounds es) (e.bound ∷ live_bounds es)
 
 -- how many propositions are observed
-abbrev pub observed : List (Option ℕ) → ℕ
-observed [] = 0
-observed (None ∷ os) = observed os
-observed (Some p ∷ os) = suc (observed os)
+abbrev pub count_observed : List (Option ℕ) → ℕ
+count_observed [] = 0
+count_observed (None ∷ os) = count_observed os
+count_observed (Some p ∷ os) = suc (count_observed os)
 
 -- no list that is grown from the base bounds has more entries: the number of time-points, times that of the least values from 0
 -- to the deadline + 1, times four marks for each observed proposition
 abbrev pub most_entries : Network → ℕ
-most_entries net = count net * (net.deadline + 2) * 4 ^ observed net.observes
+most_entries net = count net * (net.deadline + 2) * 4 ^ count_observed net.observes
 
 -- growth: as many turns as there can be entries, of which those past the end of the list change nothing
 abbrev pub grow : Network → List Entry → List Entry

@@ -4,7 +4,7 @@ use Rattle.cstn_net.specs.Networks.{Network}
 use Rattle.cstn_rules.specs.Derivations.{Entry}
 use Rattle.cstn_check.specs.Givers.{gave, ids_of, is_of, with_some}
 use Rattle.cstn_check.specs.Growth.{load_of}
-use Rattle.cstn_check.specs.Room.{Decides}
+use Rattle.cstn_check.specs.Room.{DecidesByList}
 use Rattle.cstn_check.specs.Verdicts.{is_consistent}
 use Rattle.cstn_check.specs.declared.needs.Finding.{Finding}
 use Rattle.cstn_check.specs.declared.needs.Finding.TheVariants.{Full, Yes, No}
@@ -33,7 +33,7 @@ AreMarked net marks list = (k : ℕ) → k < length marks → get_or marks k tru
 pub record IsNeeded (cap : ℕ) (net : Network) (needed : List ℕ) : Type 0 where
   pub roomy : Bool
   pub list : List Entry
-  pub decides : Decides cap net roomy list
+  pub decides : DecidesByList cap net roomy list
   pub idle : (k : ℕ) → k < length (ids_of net) → is_of needed (get_or (ids_of net) k 0) ≡ false → gave (get_or (ids_of net) k 0) list ≡ false
 
 -- no is said of the network, without any of those constraints that aren't needed

@@ -11,11 +11,11 @@ abbrev pub AreOnLetters : List Entry → Type 0
 AreOnLetters list = (k : ℕ) (e : Entry) → slice_get list k ≡ Some e → IsOnLetters e.bound.label
 
 -- some entry dominates the bound
-abbrev pub IsCovered : List Entry → Bound → Type 0
-IsCovered list r = (k : ℕ) × (e : Entry) × (slice_get list k ≡ Some e) × Dominates e.bound r
+abbrev pub IsCoveredByEntry : List Entry → Bound → Type 0
+IsCoveredByEntry list r = (k : ℕ) × (e : Entry) × (slice_get list k ≡ Some e) × Dominates e.bound r
 
 -- there is an entry at the place, and no later one dominates it
-pub record IsLive (list : List Entry) (k : ℕ) : Type 0 where
+pub record IsLiveAt (list : List Entry) (k : ℕ) : Type 0 where
   pub inside : k < length list
   pub none_over : (j : ℕ) (e f : Entry) → k < j → slice_get list k ≡ Some e → slice_get list j ≡ Some f → ¬ Dominates f.bound e.bound
 

@@ -11,6 +11,6 @@ factor (Some p) = 4
 
 -- a constraint that gave no entry of the list may be left out after a no: where no log can have more than `cap` entries, the
 -- list refutes the network, and else it is the network's log
-abbrev pub Decides : ℕ → Network → Bool → List Entry → Type 0
-Decides cap net true list = IsRefutation net list × (most_entries net ≤ cap)
-Decides cap net false list = list ≡ log_of net
+abbrev pub DecidesByList : ℕ → Network → Bool → List Entry → Type 0
+DecidesByList cap net true list = IsRefutation net list × (most_entries net ≤ cap)
+DecidesByList cap net false list = list ≡ log_of net

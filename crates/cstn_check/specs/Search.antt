@@ -1,7 +1,7 @@
 -- Searches by a test that says yes, no, or nothing where a log is full: constraints are left out in turn, and a span is halved.
 use Rattle.std.specs.Prelude.{ℕ, zero, suc, ◌+◌, ◌-◌, ◌/◌, Bool, true, false, nat_lt, List, [], ◌∷◌, Option, None, Some, option_map, option_and_then, if◌then◌else◌}
 use Rattle.cstn_net.specs.Networks.{Network}
-use Rattle.cstn_check.specs.Givers.{ids_of, without}
+use Rattle.cstn_check.specs.Givers.{ids_of, network_without}
 use Rattle.cstn_check.specs.declared.halving.Span.{Span}
 
 -- ---- constraints that are left out
@@ -10,12 +10,12 @@ use Rattle.cstn_check.specs.declared.halving.Span.{Span}
 abbrev pub narrowed : Option Bool → ℕ → Network → Option Network
 narrowed None id net = None
 narrowed (Some true) id net = Some net
-narrowed (Some false) id net = Some (without id net)
+narrowed (Some false) id net = Some (network_without id net)
 
 -- the network that is left once the constraint of each of these ids was tried in turn; none where a try says nothing
 abbrev pub left_by : (Network → Option Bool) → List ℕ → Network → Option Network
 left_by says [] net = Some net
-left_by says (id ∷ ids) net = option_and_then (left_by says ids) (narrowed (says (without id net)) id net)
+left_by says (id ∷ ids) net = option_and_then (left_by says ids) (narrowed (says (network_without id net)) id net)
 
 -- the network that is left once each constraint was tried, in ascending order of the ids
 abbrev pub left_over : (Network → Option Bool) → Network → Option Network

@@ -8,14 +8,14 @@ use Rattle.cstn_log.specs.Entries.{State, the_entries, bases}
 use Rattle.cstn_check.specs.declared.growth.Grown.{Grown}
 use Rattle.cstn_check.specs.declared.growth.Grown.TheVariants.{Closed, Refuted, Full}
 use Rattle.cstn_check.specs.Growth.{is_refuted, grow}
-use Rattle.cstn_check.specs.Kept.{IsKept}
+use Rattle.cstn_check.specs.Kept.{IsKeptList}
 
 -- the log is a derivation of the network with no refuting entry, and the pool has births left for all entries that its cap
 -- allows
 pub record IsOpen (net : Network) (log : State) : Type 0 where
   pub nodes : log.nodes ≡ count net
   pub derivation : IsDerivation net (the_entries log.entries)
-  pub kept : IsKept net (the_entries log.entries)
+  pub kept : IsKeptList net (the_entries log.entries)
   pub unrefuted : is_refuted net (the_entries log.entries) ≡ false
   pub short : length log.entries ≤ log.cap
   pub births : log.births + log.cap < 2 ^ 62 + length log.entries
@@ -27,7 +27,7 @@ pub record KeepIds (old new : List SlotId) : Type 0 where
 
 -- the new log has the cap and the time-points of the old one, its ids at their places, no fewer entries, and one birth more for
 -- each new entry
-pub record IsLonger (old new : State) : Type 0 where
+pub record IsLongerLog (old new : State) : Type 0 where
   pub cap : new.cap ≡ old.cap
   pub nodes : new.nodes ≡ old.nodes
   pub ids : KeepIds old.ids new.ids
@@ -36,10 +36,10 @@ pub record IsLonger (old new : State) : Type 0 where
   pub longer : length old.entries ≤ length new.entries
 
 -- the log's list has become this one, and the answer is whether it is refuted
-pub record IsTaken (net : Network) (old new : State) (list : List Entry) (refuted : Bool) : Type 0 where
+pub record HasBecome (net : Network) (old new : State) (list : List Entry) (refuted : Bool) : Type 0 where
   pub entries : the_entries new.entries ≡ list
   pub refuted_is : refuted ≡ is_refuted net list
-  pub longer : IsLonger old new
+  pub longer : IsLongerLog old new
 
 -- the list is this front with one or more entries behind it
 pub record IsFront (front list : List Entry) : Type 0 where
@@ -48,10 +48,10 @@ pub record IsFront (front list : List Entry) : Type 0 where
   pub is : front ++ next ∷ rest ≡ list
 
 -- the new log is full, and the list has more entries behind those of the log
-pub record IsCut (old new : State) (list : List Entry) : Type 0 where
+pub record IsCutShort (old new : State) (list : List Entry) : Type 0 where
   pub full : length new.entries ≡ old.cap
   pub front : IsFront (the_entries new.entries) list
-  pub longer : IsLonger old new
+  pub longer : IsLongerLog old new
 
 -- no entry but perhaps the last refutes the network
 pub record IsRefutedLast (net : Network) (list : List Entry) : Type 0 where
@@ -74,9 +74,9 @@ pub record IsGrowable (net : Network) (log : State) : Type 0 where
 
 -- what came of growing the log, by each answer
 pub record IsOutcome (net : Network) (old new : State) (grown : Grown) : Type 0 where
-  pub closed : grown ≡ Closed → IsTaken net old new (grow net (the_entries old.entries)) false
-  pub refuted : grown ≡ Refuted → IsTaken net old new (grow net (the_entries old.entries)) true
-  pub full : grown ≡ Full → IsCut old new (grow net (the_entries old.entries))
+  pub closed : grown ≡ Closed → HasBecome net old new (grow net (the_entries old.entries)) false
+  pub refuted : grown ≡ Refuted → HasBecome net old new (grow net (the_entries old.entries)) true
+  pub full : grown ≡ Full → IsCutShort old new (grow net (the_entries old.entries))
 
 -- the count of tries has gone up, and unless the log is full by no more than either number
 pub record IsGrowthCounted (grown : Grown) (old new all fresh : ℕ) : Type 0 where

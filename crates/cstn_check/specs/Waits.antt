@@ -57,7 +57,7 @@ pub record IsAhead (net : Network) (s : State) (j from : ℕ) : Type 0 where
   pub has : (k : ℕ) → from ≤ k → k ≤ j → (has_place s.agenda k ≡ true) ⊎ (IsSpentWait net s k j × IsSpentWait net s j k)
 
 -- the next place was taken off the agenda: the waits at the places before it add nothing
-pub record IsNext (net : Network) (old new : State) (j from next : ℕ) : Type 0 where
+pub record IsNextOnAgenda (net : Network) (old new : State) (j from next : ℕ) : Type 0 where
   pub stays : new ≡ record old { agenda = new.agenda }
   pub low : from ≤ next
   pub high : next ≤ j + 1

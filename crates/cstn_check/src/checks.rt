@@ -4,7 +4,7 @@ ghost use Rattle.cstn_net.specs.Networks.{count};
 ghost use Rattle.cstn_net.specs.Strategies.{IsConsistent};
 ghost use Rattle.cstn_net.specs.Read.{the_network};
 ghost use Rattle.cstn_rules.specs.Derivations.{Entry, IsRefutation};
-ghost use Rattle.cstn_log.specs.Cuts.{part};
+ghost use Rattle.cstn_log.specs.Cuts.{last_with_ancestors};
 ghost use Rattle.cstn_log.specs.Entries.{the_entries, first_entries};
 ghost use Rattle.cstn_plan.specs.Plans.{the_bounds};
 ghost use Rattle.cstn_refute.specs.Refutations.{FitsText, the_steps};
@@ -140,7 +140,7 @@ impl Check {
     /// Fails only where memory is refused.
     pub fn refutation(&self, alloc: Global) -> Result<Refutation, AllocError>
         requires no { (load : ℕ) × (self.now.verdict ≡ Some (Verdict.No load)) }
-        ensures part { IfOk result (λ r. the_steps r ≡ part (log_of (the_network self.now.net))) }
+        ensures part { IfOk result (λ r. the_steps r ≡ last_with_ancestors (log_of (the_network self.now.net))) }
         ensures load { IfOk result (λ r. r.load ≡ load_of (the_network self.now.net)) }
         ensures refutes { IfOk result (λ r. IsRefutation (the_network self.now.net) (the_steps r)) }
 

@@ -4,8 +4,8 @@ ghost use Rattle.cstn_net.specs.Networks.{IsWellFormed, count};
 ghost use Rattle.cstn_net.specs.Read.{the_network};
 ghost use Rattle.cstn_check.specs.Growth.{log_of, load_of};
 ghost use Rattle.cstn_check.specs.declared.verdicts.Verdict.TheVariants.{No};
-ghost use Rattle.cstn_log.specs.Cuts.{part};
-ghost use Rattle.cstn_refute.specs.Texts.{shown};
+ghost use Rattle.cstn_log.specs.Cuts.{last_with_ancestors};
+ghost use Rattle.cstn_refute.specs.Texts.{refutation_shown};
 ghost use Rattle.cstn_reply.specs.Texts.{say, yes_line, full_line};
 ghost use Rattle.cstn_check.specs.Decisions.{TellsVerdict, checked};
 ghost use Rattle.cstn_reply.specs.Read.{the_said};
@@ -83,7 +83,11 @@ fn refuted(alloc: Global, check: &Check, names: &Names) -> Result<Said, AllocErr
     requires no { (load : ℕ) × (check.now.verdict ≡ Some (No load)) }
     requires named { length names.now ≡ count (the_network check.now.net) }
     ensures said { IfOk result (λ said. the_said said
-        ≡ record { outcome = Outcome.Bad; text = shown names.now (load_of (the_network check.now.net)) (part (log_of (the_network check.now.net))) }) }
+        ≡ record {
+          outcome = Outcome.Bad;
+          text = refutation_shown names.now (load_of (the_network check.now.net))
+              (last_with_ancestors (log_of (the_network check.now.net)));
+        }) }
 {
     let refutation = check.refutation(alloc)?;
     let text = refutation.print(alloc, names)?;

@@ -2,7 +2,7 @@ ghost use Rattle.std.specs.Prelude.{◌≡◌, ◌+◌, ◌≤◌, length};
 ghost use Rattle.cstn_check.specs.Spent.{AreSpent, fresh_count, most_tries};
 ghost use Rattle.cstn_net.specs.Read.{the_network};
 ghost use Rattle.cstn_log.specs.Entries.{the_entries};
-ghost use Rattle.cstn_check.specs.Kept.{IsKept};
+ghost use Rattle.cstn_check.specs.Kept.{IsKeptList};
 ghost use Rattle.cstn_check.specs.Tries.{most_tried};
 ghost use Rattle.cstn_check.specs.Turns.{IsOpen, IsOutcome, IsGrowthCounted, IsGrowable, IsGrown};
 
@@ -86,7 +86,7 @@ fn grow_kept(net: &Network, log: &mut Log, fresh: &[u32], old: u32, tries: &mut 
     requires front { old ≤ length log.old.entries }
     requires spent { AreSpent (the_network net.now) (the_entries log.old.entries) fresh.now old }
     requires growable { IsGrowable (the_network net.now) log.old }
-    requires kept { IsKept (the_network net.now) (the_entries log.old.entries) }
+    requires kept { IsKeptList (the_network net.now) (the_entries log.old.entries) }
     ensures outcome { IsOutcome (the_network net.now) log.old log.new result }
     ensures counted { IsGrowthCounted result tries.old.count tries.new.count (most_tried (the_network net.now) (the_entries log.new.entries))
         (most_tries (length net.now.constraints) (fresh_count fresh.now (the_network net.now).constraints) old (length log.new.entries)) }

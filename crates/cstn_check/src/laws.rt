@@ -10,14 +10,15 @@ ghost use Rattle.cstn_rules.specs.Closed.{IsClosed};
 ghost use Rattle.cstn_rules.specs.Derivations.{Entry, IsDerivation};
 ghost use Rattle.cstn_rules.specs.Rules.{Refutes, IsBoundOf, IsChain, IsWait};
 ghost use Rattle.cstn_log.specs.Entries.{bases};
-ghost use Rattle.cstn_check.specs.Examples.{HasLog, Shows, of_two_marks, after, before, prompt, branch_and, crossed_and, unknown_mark, process, drawn};
+ghost use Rattle.cstn_check.specs.Examples.{HasLog, Shows, of_two_marks, at_least_after, at_most_after, prompt, branch_and, crossed_and, unknown_mark};
+ghost use Rattle.cstn_check.specs.Examples.{process, drawn_network};
 ghost use Rattle.cstn_check.specs.Examples.{crossed_lines, unknown_mark_lines, process_lines};
 ghost use Rattle.cstn_rules.specs.Tests.{refutes, chain_of, wait_of};
 ghost use Rattle.cstn_label.specs.Tests.{is_within, dominates};
 ghost use Rattle.cstn_check.specs.Growth.{Instance, grown, grow, log_of, load_of, most_entries, is_covered, is_live, is_refuted, live_bounds};
 ghost use Rattle.cstn_label.specs.OnLetters.{IsOnLetters};
-ghost use Rattle.cstn_check.specs.Relations.{AreOnLetters, IsCovered, IsLive, IsRefuted};
-ghost use Rattle.cstn_check.specs.Kept.{IsKept};
+ghost use Rattle.cstn_check.specs.Relations.{AreOnLetters, IsCoveredByEntry, IsLiveAt, IsRefuted};
+ghost use Rattle.cstn_check.specs.Kept.{IsKeptList};
 ghost use Rattle.cstn_check.specs.Spent.{HasPremises, IsSpent, AreSpent};
 
 /// The tests by true and false, with which growth is defined, decide the relations on labels and bounds, where labels mark none
@@ -35,26 +36,26 @@ pub fn tests_decide()
 /// The tests on lists decide the relations too, where labels mark none but the 52 letters; those of a list that growth keeps mark
 /// no other.
 pub fn tests_on_lists_decide()
-    ensures covered { (list : List Entry) (r : Bound) → AreOnLetters list → (is_covered list r ≡ true ↔ IsCovered list r) }
-    ensures live { (list : List Entry) (k : ℕ) → AreOnLetters list → (is_live list k ≡ true ↔ IsLive list k) }
+    ensures covered { (list : List Entry) (r : Bound) → AreOnLetters list → (is_covered list r ≡ true ↔ IsCoveredByEntry list r) }
+    ensures live { (list : List Entry) (k : ℕ) → AreOnLetters list → (is_live list k ≡ true ↔ IsLiveAt list k) }
     ensures refuted { (net : Network) (list : List Entry) → AreOnLetters list → (is_refuted net list ≡ true ↔ IsRefuted net list) }
     ensures live_bounds { (list : List Entry) (b : Bound) → AreOnLetters list
-        → (Contains (live_bounds list) b ↔ ((k : ℕ) × (e : Entry) × (slice_get list k ≡ Some e) × IsLive list k × (e.bound ≡ b))) }
-    ensures letters { (net : Network) (list : List Entry) → IsWellFormed net → IsKept net list → AreOnLetters list }
+        → (Contains (live_bounds list) b ↔ ((k : ℕ) × (e : Entry) × (slice_get list k ≡ Some e) × IsLiveAt list k × (e.bound ≡ b))) }
+    ensures letters { (net : Network) (list : List Entry) → IsWellFormed net → IsKeptList net list → AreOnLetters list }
 {}
 
 /// A list that growth keeps, as that of the base bounds, stays one while it grows, and never has more entries than
 /// `most_entries`. After any number of turns it is the grown list or its first entries. It is the whole grown list once there were
 /// as many turns as that has entries, or once an entry refutes the network; further turns change nothing.
 pub fn kept_lists_grow_to_an_end()
-    ensures bases { (net : Network) → IsWellFormed net → IsKept net (bases (count net)) }
-    ensures kept { (net : Network) (list : List Entry) (n : ℕ) → IsWellFormed net → IsKept net list → IsKept net (grown net list n) }
-    ensures most { (net : Network) (list : List Entry) (n : ℕ) → IsWellFormed net → IsKept net list → length (grown net list n) ≤ most_entries net }
-    ensures goes_on { (net : Network) (list : List Entry) (n : ℕ) → IsWellFormed net → IsKept net list
+    ensures bases { (net : Network) → IsWellFormed net → IsKeptList net (bases (count net)) }
+    ensures kept { (net : Network) (list : List Entry) (n : ℕ) → IsWellFormed net → IsKeptList net list → IsKeptList net (grown net list n) }
+    ensures most { (net : Network) (list : List Entry) (n : ℕ) → IsWellFormed net → IsKeptList net list → length (grown net list n) ≤ most_entries net }
+    ensures goes_on { (net : Network) (list : List Entry) (n : ℕ) → IsWellFormed net → IsKeptList net list
         → (more : List Entry) × (grown net list n ++ more ≡ grow net list) }
-    ensures done { (net : Network) (list : List Entry) (n : ℕ) → IsWellFormed net → IsKept net list → length (grow net list) ≤ n
+    ensures done { (net : Network) (list : List Entry) (n : ℕ) → IsWellFormed net → IsKeptList net list → length (grow net list) ≤ n
         → grown net list n ≡ grow net list }
-    ensures refuted { (net : Network) (list : List Entry) (n : ℕ) → IsWellFormed net → IsKept net list → is_refuted net (grown net list n) ≡ true
+    ensures refuted { (net : Network) (list : List Entry) (n : ℕ) → IsWellFormed net → IsKeptList net list → is_refuted net (grown net list n) ≡ true
         → grown net list n ≡ grow net list }
 {}
 
@@ -98,7 +99,7 @@ pub fn spent_instances_stay_spent()
 
 /// Once a list is grown and no entry refutes the network, each instance on its entries is spent.
 pub fn grown_lists_are_spent()
-    ensures { (net : Network) (list : List Entry) (fresh : List ℕ) → IsWellFormed net → IsKept net list → is_refuted net (grow net list) ≡ false
+    ensures { (net : Network) (list : List Entry) (fresh : List ℕ) → IsWellFormed net → IsKeptList net list → is_refuted net (grow net list) ≡ false
         → AreSpent net (grow net list) fresh (length (grow net list)) }
 {}
 
@@ -106,13 +107,13 @@ pub fn grown_lists_are_spent()
 pub fn loads_are_known()
     ensures alone { HasLog (prompt 0 (None ∷ []) []) 1 false }
     ensures branch { HasLog (branch_and []) 5 false }
-    ensures last_tick { HasLog (branch_and (after 2 1 0 2 empty ∷ [])) 6 false }
-    ensures too_late { HasLog (branch_and (after 2 1 0 3 empty ∷ [])) 7 true }
+    ensures last_tick { HasLog (branch_and (at_least_after 2 1 0 2 empty ∷ [])) 6 false }
+    ensures too_late { HasLog (branch_and (at_least_after 2 1 0 3 empty ∷ [])) 7 true }
     ensures crossed { HasLog (crossed_and []) 8 false }
-    ensures crossed_no { HasLog (crossed_and (before 2 0 1 4 (of_two_marks Absent No) ∷ [])) 9 true }
+    ensures crossed_no { HasLog (crossed_and (at_most_after 2 0 1 4 (of_two_marks Absent No) ∷ [])) 9 true }
     ensures unknown { HasLog unknown_mark 14 true }
     ensures process { HasLog process 14 false }
-    ensures drawn { HasLog drawn 31 false }
+    ensures drawn { HasLog drawn_network 31 false }
 {}
 
 /// All entries of the logs of three small networks.

@@ -8,7 +8,7 @@ ghost use Rattle.cstn_rules.specs.Derivations.{Follows};
 ghost use Rattle.cstn_rules.specs.Read.{the_entry};
 ghost use Rattle.cstn_log.specs.Entries.{the_entries};
 ghost use Rattle.cstn_check.specs.Growth.{is_covered};
-ghost use Rattle.cstn_check.specs.Turns.{IsOpen, IsTaken, IsCut};
+ghost use Rattle.cstn_check.specs.Turns.{IsOpen, HasBecome, IsCutShort};
 ghost use Rattle.cstn_check.specs.Steps.{is_refutation};
 
 use crate::steps::Step;
@@ -23,10 +23,10 @@ pub fn put(net: &Network, log: &mut Log, e: Entry) -> Result<Step, Full>
     requires ready { IsOpen (the_network net.now) log.old }
     requires follows { Follows (the_network net.now) (the_entries log.old.entries) (length log.old.entries) e.why (the_bound e.bound) }
     requires node { e.bound.node.0 < count (the_network net.now) }
-    ensures taken { IfOk result (λ s. IsTaken (the_network net.now) log.old log.new
+    ensures taken { IfOk result (λ s. HasBecome (the_network net.now) log.old log.new
         (cond (is_covered (the_entries log.old.entries) (the_bound e.bound)) (the_entries log.old.entries)
         (the_entries log.old.entries ++ the_entry e ∷ [])) (is_refutation s)) }
-    ensures cut { IsErr result → IsCut log.old log.new
+    ensures cut { IsErr result → IsCutShort log.old log.new
         (cond (is_covered (the_entries log.old.entries) (the_bound e.bound)) (the_entries log.old.entries)
         (the_entries log.old.entries ++ the_entry e ∷ [])) }
     ensures agenda { log.new.agenda ≡ log.old.agenda }

@@ -2,7 +2,7 @@
 ghost use Rattle.std.specs.Prelude.{◌≡◌, ℕ, Bool, Option, option_map, IfOk, IfSome};
 ghost use Rattle.cstn_net.specs.Networks.{Network as TheNetwork};
 ghost use Rattle.cstn_net.specs.Read.{the_network};
-ghost use Rattle.cstn_check.specs.Givers.{ids_of, with_some, without};
+ghost use Rattle.cstn_check.specs.Givers.{ids_of, with_some, network_without};
 ghost use Rattle.cstn_check.specs.Needs.{answer, IfNo, Stands, is_idle};
 ghost use Rattle.cstn_check.specs.Search.{narrowed, left_over};
 
@@ -83,7 +83,7 @@ impl Left {
 
     // What is left without the constraint of the id.
     fn without(self, id: u32) -> Left
-        ensures net { the_network result.net ≡ without id (the_network self.net) }
+        ensures net { the_network result.net ≡ network_without id (the_network self.net) }
         ensures last { result.last ≡ self.last }
     {
         let mut less = self;
@@ -99,10 +99,10 @@ fn narrowed<T: Trial>(
     left: Left,
     id: u32,
 ) -> Result<Option<Left>, AllocError>
-    requires may { T.may trial.now (without id (the_network left.net)) }
+    requires may { T.may trial.now (network_without id (the_network left.net)) }
     requires stands { IfNo left.last (Stands (T.says trial.now) (the_network left.net)) }
     ensures narrowed { IfOk result (λ o. option_map (λ l. the_network l.net) o
-        ≡ narrowed (T.says trial.now (without id (the_network left.net))) id (the_network left.net)) }
+        ≡ narrowed (T.says trial.now (network_without id (the_network left.net))) id (the_network left.net)) }
     ensures stands { IfOk result (λ o. IfSome o (λ l. IfNo l.last (Stands (T.says trial.now) (the_network l.net)))) }
 {
     if left.is_idle(id) {
@@ -124,7 +124,7 @@ fn narrowed<T: Trial>(
 
 // The network without the constraint of the id.
 fn without(alloc: Global, net: &Network, id: u32) -> Result<Network, AllocError>
-    ensures without { IfOk result (λ n. the_network n ≡ without id (the_network net.now)) }
+    ensures without { IfOk result (λ n. the_network n ≡ network_without id (the_network net.now)) }
 {
     let mut less = net.copy(alloc)?;
     less.take_out(id);

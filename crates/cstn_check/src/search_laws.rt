@@ -2,7 +2,7 @@
 ghost use Rattle.std.specs.Prelude.{ℕ, ◌≡◌, ◌<◌, ◌≤◌, ◌+◌, ◌^◌, Bool, true, false, List, Option, Some};
 ghost use Rattle.std.specs.List.{Contains};
 ghost use Rattle.cstn_net.specs.Networks.{Network};
-ghost use Rattle.cstn_check.specs.Givers.{with_some, with_ids, without};
+ghost use Rattle.cstn_check.specs.Givers.{with_some, with_ids, network_without};
 ghost use Rattle.cstn_check.specs.Search.{ids_left, halving};
 ghost use Rattle.cstn_check.specs.declared.halving.Span.{Span};
 
@@ -13,7 +13,7 @@ pub fn leaving_out_finds_least_sets()
         → ((part : Network) (v : Bool) → says part ≡ Some v → goes part ≡ v)
         → ((a b : ℕ → Bool) → ((id : ℕ) → a id ≡ true → b id ≡ true) → goes (with_some net b) ≡ true → goes (with_some net a) ≡ true)
         → goes net ≡ false → ids_left says net ≡ Some ids
-        → (goes (with_ids net ids) ≡ false) × ((id : ℕ) → Contains ids id → goes (without id (with_ids net ids)) ≡ true) }
+        → (goes (with_ids net ids) ≡ false) × ((id : ℕ) → Contains ids id → goes (network_without id (with_ids net ids)) ≡ true) }
 {}
 
 /// Where it goes at the lower end of a span, not beyond the upper one, and at each moment before one at which it goes, halving finds

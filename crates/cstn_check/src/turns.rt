@@ -8,7 +8,7 @@ ghost use Rattle.cstn_check.specs.Growth.{step, tried, waits_below, turn, chains
 ghost use Rattle.cstn_check.specs.Growth.Instance.{chain_at};
 ghost use Rattle.cstn_check.specs.Tries.{concludes_upto};
 ghost use Rattle.cstn_check.specs.Turns.{IsOpen};
-ghost use Rattle.cstn_check.specs.Steps.{IsStep, IsCounted};
+ghost use Rattle.cstn_check.specs.Steps.{IsStepTo, IsCounted};
 ghost use Rattle.cstn_check.specs.Spent.{AreSpent, is_fresh, fresh_count};
 
 use crate::puts::put;
@@ -31,7 +31,7 @@ fn try_chain(
     requires ready { IsOpen (the_network net.now) log.old }
     requires constraint { Contains net.now.constraints c.now }
     requires place { j < length log.old.entries }
-    ensures outcome { IsStep (the_network net.now) log.old log.new
+    ensures outcome { IsStepTo (the_network net.now) log.old log.new
         (step (the_network net.now) (the_entries log.old.entries) (chain_at (the_constraint c.now) j)) result }
     ensures counted { IsCounted tries.old.count tries.new.count 1 }
 {
@@ -82,7 +82,7 @@ fn try_fresh(
     requires spent { AreSpent (the_network net.now) (the_entries log.old.entries) fresh.now old }
     requires constraint { Contains net.now.constraints c.now }
     requires place { j < length log.old.entries }
-    ensures outcome { IsStep (the_network net.now) log.old log.new
+    ensures outcome { IsStepTo (the_network net.now) log.old log.new
         (step (the_network net.now) (the_entries log.old.entries) (chain_at (the_constraint c.now) j)) result }
     ensures counted { IsCounted tries.old.count tries.new.count 1 }
     ensures most_fresh { j < old → tries.new.count ≤ tries.old.count + cond (is_fresh fresh.now c.now.id) 1 0 }
@@ -111,7 +111,7 @@ fn try_chains(
     requires front { old ≤ length log.old.entries }
     requires spent { AreSpent (the_network net.now) (the_entries log.old.entries) fresh.now old }
     requires place { j < length log.old.entries }
-    ensures outcome { IsStep (the_network net.now) log.old log.new
+    ensures outcome { IsStepTo (the_network net.now) log.old log.new
         (tried (the_network net.now) (the_entries log.old.entries) (chains_at (map the_constraint net.now.constraints) j)) result }
     ensures counted { IsCounted tries.old.count tries.new.count (length net.now.constraints) }
     ensures most_fresh { j < old → tries.new.count ≤ tries.old.count + fresh_count fresh.now (the_network net.now).constraints }
@@ -181,7 +181,7 @@ fn try_new_waits(
     requires ready { IsOpen (the_network net.now) log.old }
     requires spent { AreSpent (the_network net.now) (the_entries log.old.entries) fresh.now old }
     requires place { j < length log.old.entries }
-    ensures outcome { IsStep (the_network net.now) log.old log.new
+    ensures outcome { IsStepTo (the_network net.now) log.old log.new
         (tried (the_network net.now) (the_entries log.old.entries) (waits_below (j + 1) j)) result }
     ensures counted { IsCounted tries.old.count tries.new.count (concludes_upto (the_network net.now) (the_entries log.old.entries) j) }
     ensures most_fresh { j < old → tries.new.count ≡ tries.old.count }
@@ -206,7 +206,7 @@ pub(crate) fn take_turn(
     requires front { old ≤ length log.old.entries }
     requires spent { AreSpent (the_network net.now) (the_entries log.old.entries) fresh.now old }
     requires place { j < length log.old.entries }
-    ensures outcome { IsStep (the_network net.now) log.old log.new
+    ensures outcome { IsStepTo (the_network net.now) log.old log.new
         (tried (the_network net.now) (the_entries log.old.entries) (turn (the_network net.now) j)) result }
     ensures counted { IsCounted tries.old.count tries.new.count (length net.now.constraints
         + concludes_upto (the_network net.now) (the_entries log.old.entries) j) }

@@ -8,8 +8,8 @@ ghost use Rattle.cstn_check.specs.Growth.{step, tried, waits_below};
 ghost use Rattle.cstn_check.specs.Growth.Instance.{wait_at};
 ghost use Rattle.cstn_check.specs.Tries.{concludes, concludes_with, concludes_upto};
 ghost use Rattle.cstn_check.specs.Turns.{IsOpen};
-ghost use Rattle.cstn_check.specs.Steps.{IsStep, IsCounted};
-ghost use Rattle.cstn_check.specs.Waits.{HasBound, Waits, IsAhead, IsNext};
+ghost use Rattle.cstn_check.specs.Steps.{IsStepTo, IsCounted};
+ghost use Rattle.cstn_check.specs.Waits.{HasBound, Waits, IsAhead, IsNextOnAgenda};
 
 use crate::puts::put;
 use crate::sifting::sift;
@@ -41,7 +41,7 @@ fn try_wait(
     requires node { seen.bound.node.0 < count (the_network net.now) }
     requires seen_bound { HasBound log.old.entries seen.place (the_bound seen.bound) }
     requires bound { HasBound log.old.entries premise.place (the_bound premise.bound) }
-    ensures outcome { IsStep (the_network net.now) log.old log.new
+    ensures outcome { IsStepTo (the_network net.now) log.old log.new
         (step (the_network net.now) (the_entries log.old.entries) (wait_at seen.place premise.place)) result }
     ensures counted { IsCounted tries.old.count tries.new.count (concludes (the_network net.now) (the_entries log.old.entries) seen.place premise.place) }
     ensures agenda { log.new.agenda ≡ log.old.agenda }
@@ -68,7 +68,7 @@ fn try_concluding(
     requires node { seen.bound.node.0 < count (the_network net.now) }
     requires seen_bound { HasBound log.old.entries seen.place (the_bound seen.bound) }
     requires bound { HasBound log.old.entries premise.place (the_bound premise.bound) }
-    ensures outcome { IsStep (the_network net.now) log.old log.new
+    ensures outcome { IsStepTo (the_network net.now) log.old log.new
         (step (the_network net.now) (the_entries log.old.entries) (wait_at seen.place premise.place)) result }
     ensures counted { IsCounted tries.old.count tries.new.count (concludes (the_network net.now) (the_entries log.old.entries) seen.place premise.place) }
     ensures agenda { log.new.agenda ≡ log.old.agenda }
@@ -116,7 +116,7 @@ fn try_both(
     requires first { i < length log.old.entries }
     requires place { own.place < length log.old.entries }
     requires bound { HasBound log.old.entries own.place (the_bound own.bound) }
-    ensures outcome { IsStep (the_network net.now) log.old log.new
+    ensures outcome { IsStepTo (the_network net.now) log.old log.new
         (tried (the_network net.now) (the_entries log.old.entries) (wait_at i own.place ∷ (wait_at own.place i ∷ []))) result }
     ensures counted { IsCounted tries.old.count tries.new.count (concludes_with (the_network net.now) (the_entries log.old.entries) own.place i) }
     ensures agenda { log.new.agenda ≡ log.old.agenda }
@@ -136,7 +136,7 @@ fn try_both(
 pub fn try_waits(net: &Network, log: &mut Log, j: u32, tries: &mut Tries) -> Result<Step, Full>
     requires ready { IsOpen (the_network net.now) log.old }
     requires place { j < length log.old.entries }
-    ensures outcome { IsStep (the_network net.now) log.old log.new
+    ensures outcome { IsStepTo (the_network net.now) log.old log.new
         (tried (the_network net.now) (the_entries log.old.entries) (waits_below (j + 1) j)) result }
     ensures counted { IsCounted tries.old.count tries.new.count (concludes_upto (the_network net.now) (the_entries log.old.entries) j) }
 {
@@ -164,7 +164,7 @@ pub fn try_waits(net: &Network, log: &mut Log, j: u32, tries: &mut Tries) -> Res
 // entry has died.
 fn next_place(log: &mut Log, j: u32) -> u32
     requires place { j < length log.old.entries }
-    ensures next { (net : TheNetwork) (from : ℕ) → from ≤ j + 1 → IsAhead net log.old j from → IsNext net log.old log.new j from result }
+    ensures next { (net : TheNetwork) (from : ℕ) → from ≤ j + 1 → IsAhead net log.old j from → IsNextOnAgenda net log.old log.new j from result }
 {
     log_is_well_formed(log);
     if !log.live(j) {

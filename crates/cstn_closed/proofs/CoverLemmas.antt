@@ -13,7 +13,7 @@ use Rattle.cstn_label.specs.declared.bounds.Bound.{Bound as Declared}
 use Rattle.cstn_label.specs.Bounds.{Bound, Dominates}
 use Rattle.cstn_label.specs.Read.{the_bound}
 use Rattle.cstn_rules.specs.Closed.{IsCovered}
-use Rattle.cstn_closed.specs.Minimal.{held, kept_at, AreKept, IsPut}
+use Rattle.cstn_closed.specs.Minimal.{held_bounds, kept_bounds_at, AreKept, IsPut}
 use Rattle.cstn_closed.proofs.ListLemmas.{image_there}
 use Rattle.cstn_label.proofs.BoundLemmas.{dominates_through}
 
@@ -140,34 +140,34 @@ nothing_more lists new v empty put none r = (λ covered. (none r).0 (subst (λ (
     empty_at bs zero e = e
     empty_at bs (suc k) e = refl
 
-    last_at : (x : ℕ) → get_or (map held (lists ++ v ∷ [])) x [] ≡ get_or (map held lists) x []
-    last_at x = ap (λ (ls : List (List Bound)). get_or ls x []) (map-append held lists (v ∷ [])) ∙ elim (cases_lt x (length (map held lists))) [
-      | inl before ↦ get_or_append_left (map held lists) (held v ∷ []) [] x before
-      | inr past ↦ get_or-append_right (map held lists) (held v ∷ []) (length (map held lists)) x [] refl past
-          ∙ empty_at (held v) (x - length (map held lists)) (ap (map the_bound) empty) ∙ sym (get_or_past (map held lists) x [] past)
+    last_at : (x : ℕ) → get_or (map held_bounds (lists ++ v ∷ [])) x [] ≡ get_or (map held_bounds lists) x []
+    last_at x = ap (λ (ls : List (List Bound)). get_or ls x []) (map-append held_bounds lists (v ∷ [])) ∙ elim (cases_lt x (length (map held_bounds lists))) [
+      | inl before ↦ get_or_append_left (map held_bounds lists) (held_bounds v ∷ []) [] x before
+      | inr past ↦ get_or-append_right (map held_bounds lists) (held_bounds v ∷ []) (length (map held_bounds lists)) x [] refl past
+          ∙ empty_at (held_bounds v) (x - length (map held_bounds lists)) (ap (map the_bound) empty) ∙ sym (get_or_past (map held_bounds lists) x [] past)
     ]
 
-    same : kept_at new r.node ≡ kept_at lists r.node
-    same = ap (λ ls. kept_at ls r.node) put ∙ last_at r.node
+    same : kept_bounds_at new r.node ≡ kept_bounds_at lists r.node
+    same = ap (λ ls. kept_bounds_at ls r.node) put ∙ last_at r.node
 
 -- one time-point's bounds are changed
 pub put_at : (lists new : List (Vec Declared Global)) (x : ℕ) (v : Vec Declared Global) (b : Bound) → x < length lists → b.node ≡ x → new ≡ set lists x v →
-    ((r : Bound) → IsCovered (held v) r ↔ (IsCovered (kept_at lists x) r ⊎ Dominates b r)) → IsPut b lists new
+    ((r : Bound) → IsCovered (held_bounds v) r ↔ (IsCovered (kept_bounds_at lists x) r ⊎ Dominates b r)) → IsPut b lists new
 put_at lists new x v b inside node changed put r = elim (cases_eq r.node x) [
-  | inl same ↦ subst (λ (bs : List Bound). IsCovered bs r ↔ (IsCovered (kept_at lists r.node) r ⊎ Dominates b r)) (sym (there same))
-      (subst (λ y. IsCovered (held v) r ↔ (IsCovered (kept_at lists y) r ⊎ Dominates b r)) (sym same) (put r))
-  | inr other ↦ subst (λ (bs : List Bound). IsCovered bs r ↔ (IsCovered (kept_at lists r.node) r ⊎ Dominates b r)) (sym (elsewhere other))
+  | inl same ↦ subst (λ (bs : List Bound). IsCovered bs r ↔ (IsCovered (kept_bounds_at lists r.node) r ⊎ Dominates b r)) (sym (there same))
+      (subst (λ y. IsCovered (held_bounds v) r ↔ (IsCovered (kept_bounds_at lists y) r ⊎ Dominates b r)) (sym same) (put r))
+  | inr other ↦ subst (λ (bs : List Bound). IsCovered bs r ↔ (IsCovered (kept_bounds_at lists r.node) r ⊎ Dominates b r)) (sym (elsewhere other))
       (λ covered. inl covered, λ either. elim either [ inl covered ↦ covered | inr over ↦ absurd (other (sym over.node ∙ node)) ])
 ]
   where
-    image : (y : ℕ) → kept_at new y ≡ get_or (set (map held lists) x (held v)) y []
-    image y = ap (λ ls. kept_at ls y) changed ∙ ap (λ (ls : List (List Bound)). get_or ls y []) (map-set held lists x v)
+    image : (y : ℕ) → kept_bounds_at new y ≡ get_or (set (map held_bounds lists) x (held_bounds v)) y []
+    image y = ap (λ ls. kept_bounds_at ls y) changed ∙ ap (λ (ls : List (List Bound)). get_or ls y []) (map-set held_bounds lists x v)
 
-    there : r.node ≡ x → kept_at new r.node ≡ held v
-    there same = image r.node ∙ ap (λ y. get_or (set (map held lists) x (held v)) y []) same ∙ get_or-set_same (map held lists) x (held v) [] (omega (arith, length-map lists held))
+    there : r.node ≡ x → kept_bounds_at new r.node ≡ held_bounds v
+    there same = image r.node ∙ ap (λ y. get_or (set (map held_bounds lists) x (held_bounds v)) y []) same ∙ get_or-set_same (map held_bounds lists) x (held_bounds v) [] (omega (arith, length-map lists held_bounds))
 
-    elsewhere : (r.node ≡ x → ⊥) → kept_at new r.node ≡ kept_at lists r.node
-    elsewhere other = image r.node ∙ get_or-set_other (map held lists) x r.node (held v) [] other
+    elsewhere : (r.node ≡ x → ⊥) → kept_bounds_at new r.node ≡ kept_bounds_at lists r.node
+    elsewhere other = image r.node ∙ get_or-set_other (map held_bounds lists) x r.node (held_bounds v) [] other
 
 -- one more bound is kept, or is covered already
 pub kept_put : (bounds : List Bound) (b : Bound) (old new : List (Vec Declared Global)) → AreKept bounds old → IsPut b old new → AreKept (bounds ++ b ∷ []) new
@@ -184,7 +184,7 @@ kept_still bounds b lists kept already r = (
 
 -- the same for a list that was read and is put back
 pub put_back : (lists : List (Vec Declared Global)) (x : ℕ) (v d : Vec Declared Global) (b : Bound) → x < length lists → b.node ≡ x → d ≡ get_or lists x d →
-    ((r : Bound) → IsCovered (held v) r ↔ (IsCovered (held d) r ⊎ Dominates b r)) → IsPut b lists (set lists x v)
+    ((r : Bound) → IsCovered (held_bounds v) r ↔ (IsCovered (held_bounds d) r ⊎ Dominates b r)) → IsPut b lists (set lists x v)
 put_back lists x v d b inside node there put =
     put_at lists (set lists x v) x v b inside node refl
-    (λ r. subst (λ (bs : List Bound). IsCovered (held v) r ↔ (IsCovered bs r ⊎ Dominates b r)) (ap held there ∙ sym (get_or-map held lists x d [] inside)) (put r))
+    (λ r. subst (λ (bs : List Bound). IsCovered (held_bounds v) r ↔ (IsCovered bs r ⊎ Dominates b r)) (ap held_bounds there ∙ sym (get_or-map held_bounds lists x d [] inside)) (put r))

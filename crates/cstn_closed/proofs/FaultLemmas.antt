@@ -10,12 +10,12 @@ use Rattle.cstn_rules.specs.Rules.{IsBoundOf, base}
 use Rattle.cstn_rules.specs.Closed.{IsCovered, IsClosed}
 use Rattle.cstn_closed.specs.declared.answers.ClosedAnswer.{ClosedAnswer}
 use Rattle.cstn_closed.specs.declared.answers.ClosedAnswer.TheVariants.{Accepted}
-use Rattle.cstn_closed.specs.Faults.{Fault, bad, no_base, no_chain, no_wait, IsFault, IsFit, IsBefore, IsFirstFault, IsFaultless, kind, place, other}
+use Rattle.cstn_closed.specs.Faults.{Fault, bad, no_base, no_chain, no_wait, IsFault, IsFitBound, IsBefore, IsFirstFault, IsFaultless, kind, place, other}
 use Rattle.cstn_closed.specs.Instances.{AreFit, AreBasesCovered, AreChainsCovered, AreWaitsCovered, IsSoBefore, IsFirstOfKind, IsFirstThere}
 
 -- a bound that fits isn't bad, and a chain or a wait that is covered is no fault
 module _ (net : Network) (bounds : List Bound) where
-  fit_there : (i : ℕ) → ((b : Bound) → slice_get bounds i ≡ Some b → IsFit net b) → IsFault net bounds (bad i) → ⊥
+  fit_there : (i : ℕ) → ((b : Bound) → slice_get bounds i ≡ Some b → IsFitBound net b) → IsFault net bounds (bad i) → ⊥
   fit_there i fit fault = fault.2 (fit fault.0 fault.1)
 
   chain_there : (id i : ℕ) → ((b : Bound) → slice_get bounds i ≡ Some b → AreChainsCovered net bounds b) → IsFault net bounds (no_chain id i) → ⊥
@@ -38,7 +38,7 @@ module _ (net : Network) (bounds : List Bound) where
   none_awaited covered i j = wait_there i j (λ b there. covered b (is_there bounds i b there))
 
   -- the first bound that doesn't fit
-  pub bad_first : (i : ℕ) (b : Bound) → IsSoBefore (IsFit net) bounds i → slice_get bounds i ≡ Some b → (IsFit net b → ⊥) → IsFirstOfKind net bounds (bad i)
+  pub bad_first : (i : ℕ) (b : Bound) → IsSoBefore (IsFitBound net) bounds i → slice_get bounds i ≡ Some b → (IsFitBound net b → ⊥) → IsFirstOfKind net bounds (bad i)
   bad_first i b before there unfit = record { fault = (b, there, unfit); before = earlier }
     where
       earlier : (g : Fault) → kind g ≡ 0 → IsBefore g (bad i) → IsFault net bounds g → ⊥

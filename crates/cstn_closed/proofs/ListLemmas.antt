@@ -11,7 +11,7 @@ use Rattle.cstn_label.specs.declared.bounds.Bound.{Bound as Declared}
 use Rattle.cstn_label.specs.Bounds.{Bound}
 use Rattle.cstn_label.specs.Read.{the_bound}
 use Rattle.cstn_net.specs.Networks.{Network}
-use Rattle.cstn_closed.specs.Faults.{IsFit}
+use Rattle.cstn_closed.specs.Faults.{IsFitBound}
 use Rattle.cstn_closed.specs.Instances.{AreFit, IsSoBefore, IsSoAt}
 
 pub so_none : (P : Bound → Type 0) (bounds : List Bound) → IsSoBefore P bounds 0
@@ -46,5 +46,5 @@ pub so_here : (P : Bound → Type 0) (bounds : List Declared) (i : ℕ) (b : Dec
     (d : Bound) → slice_get (map the_bound bounds) i ≡ Some d → P d
 so_here P bounds i b there so d at = subst P (one_there (map the_bound bounds) i (the_bound b) d (image_there bounds i b there) at) so
 
-pub fit_here : (net : Network) (bounds : List Declared) (i : ℕ) (b : Declared) → AreFit net (map the_bound bounds) → slice_get bounds i ≡ Some b → IsFit net (the_bound b)
+pub fit_here : (net : Network) (bounds : List Declared) (i : ℕ) (b : Declared) → AreFit net (map the_bound bounds) → slice_get bounds i ≡ Some b → IsFitBound net (the_bound b)
 fit_here net bounds i b fit there = fit (the_bound b) (is_there (map the_bound bounds) i (the_bound b) (image_there bounds i b there))

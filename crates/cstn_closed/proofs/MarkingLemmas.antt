@@ -11,28 +11,28 @@ use Rattle.cstn_label.specs.Bounds.{Bound}
 use Rattle.cstn_label.specs.Labels.{IsMarked}
 use Rattle.cstn_label.specs.Read.{the_bound}
 use Rattle.cstn_label.specs.Marks.{is_marked}
-use Rattle.cstn_closed.specs.Marking.{put_if, marking_from, marking, markings, items}
+use Rattle.cstn_closed.specs.Marking.{put_place_if, marking_from, marking, markings, items}
 use Rattle.cstn_label.proofs.MarkLemmas.{marked_true}
 
-put_append : (m : Bool) (k : ℕ) (xs ys : List ℕ) → put_if m k (xs ++ ys) ≡ put_if m k xs ++ ys
+put_append : (m : Bool) (k : ℕ) (xs ys : List ℕ) → put_place_if m k (xs ++ ys) ≡ put_place_if m k xs ++ ys
 put_append true k xs ys = refl
 put_append false k xs ys = refl
 
 -- the places with one more bound at the end of the list
-from_more : (p k : ℕ) (bounds : List Bound) (b : Bound) → marking_from p k (bounds ++ b ∷ []) ≡ marking_from p k bounds ++ put_if (is_marked (b.label p)) (k + length bounds) []
-from_more p k [] b = ap (λ n. put_if (is_marked (b.label p)) n []) (let e : k ≡ k + 0 = omega arith in e)
+from_more : (p k : ℕ) (bounds : List Bound) (b : Bound) → marking_from p k (bounds ++ b ∷ []) ≡ marking_from p k bounds ++ put_place_if (is_marked (b.label p)) (k + length bounds) []
+from_more p k [] b = ap (λ n. put_place_if (is_marked (b.label p)) n []) (let e : k ≡ k + 0 = omega arith in e)
 from_more p k (x ∷ bounds) b =
-    ap (put_if (is_marked (x.label p)) k) (from_more p (k + 1) bounds b
-    ∙ ap (λ n. marking_from p (k + 1) bounds ++ put_if (is_marked (b.label p)) n []) (let e : k + 1 + length bounds ≡ k + suc (length bounds) = omega arith in e))
-    ∙ put_append (is_marked (x.label p)) k (marking_from p (k + 1) bounds) (put_if (is_marked (b.label p)) (k + suc (length bounds)) [])
+    ap (put_place_if (is_marked (x.label p)) k) (from_more p (k + 1) bounds b
+    ∙ ap (λ n. marking_from p (k + 1) bounds ++ put_place_if (is_marked (b.label p)) n []) (let e : k + 1 + length bounds ≡ k + suc (length bounds) = omega arith in e))
+    ∙ put_append (is_marked (x.label p)) k (marking_from p (k + 1) bounds) (put_place_if (is_marked (b.label p)) (k + suc (length bounds)) [])
 
 -- the places of the first k + 1 bounds, from those of the first k
 pub marking_more : (p : ℕ) (xs : List Declared) (k : ℕ) (x : Declared) → k < length xs → x ≡ get_or xs k x →
-    marking p (map the_bound (take (k + 1) xs)) ≡ marking p (map the_bound (take k xs)) ++ put_if (is_marked ((the_bound x).label p)) k []
+    marking p (map the_bound (take (k + 1) xs)) ≡ marking p (map the_bound (take k xs)) ++ put_place_if (is_marked ((the_bound x).label p)) k []
 marking_more p xs k x inside there =
     ap (marking p) (map_more the_bound xs k x inside ∙ ap (λ y. map the_bound (take k xs) ++ the_bound y ∷ []) (sym there))
     ∙ from_more p 0 (map the_bound (take k xs)) (the_bound x)
-    ∙ ap (λ n. marking p (map the_bound (take k xs)) ++ put_if (is_marked ((the_bound x).label p)) n []) count
+    ∙ ap (λ n. marking p (map the_bound (take k xs)) ++ put_place_if (is_marked ((the_bound x).label p)) n []) count
   where
     count : 0 + length (map the_bound (take k xs)) ≡ k
     count = omega (arith, length-map (take k xs) the_bound, length-take k xs)
@@ -43,14 +43,14 @@ pub place_put : (p : ℕ) (xs : List Declared) (k : ℕ) (x : Declared) (old new
     new ≡ marking p (map the_bound (take (k + 1) xs))
 place_put p xs k x old new m inside there test marked before put =
     put ∙ ap (λ (ps : List ℕ). ps ++ k ∷ []) before
-    ∙ sym (marking_more p xs k x inside there ∙ ap (λ b. marking p (map the_bound (take k xs)) ++ put_if b k []) (sym test ∙ marked))
+    ∙ sym (marking_more p xs k x inside there ∙ ap (λ b. marking p (map the_bound (take k xs)) ++ put_place_if b k []) (sym test ∙ marked))
 
 pub place_kept : (p : ℕ) (xs : List Declared) (k : ℕ) (x : Declared) (old new : List ℕ) (m : Bool) → k < length xs → x ≡ get_or xs k x →
     m ≡ is_marked ((the_bound x).label p) → m ≡ false → old ≡ marking p (map the_bound (take k xs)) → new ≡ old →
     new ≡ marking p (map the_bound (take (k + 1) xs))
 place_kept p xs k x old new m inside there test unmarked before same =
     same ∙ before
-    ∙ sym (marking_more p xs k x inside there ∙ ap (λ b. marking p (map the_bound (take k xs)) ++ put_if b k []) (sym test ∙ unmarked)
+    ∙ sym (marking_more p xs k x inside there ∙ ap (λ b. marking p (map the_bound (take k xs)) ++ put_place_if b k []) (sym test ∙ unmarked)
     ∙ append-nil (marking p (map the_bound (take k xs))))
 
 -- the lists of the first n propositions
@@ -87,7 +87,7 @@ its_list bounds lists p d is below =
     ∙ get_or-map-range_with_len (λ p. marking p bounds) 0 52 p p [] below (omega arith)
 
 -- no place is below that of the first bound
-put_lower : (m : Bool) (k : ℕ) (places : List ℕ) → ((i : ℕ) → i < length places → k + 1 ≤ get_or places i 0) → (i : ℕ) → i < length (put_if m k places) → k ≤ get_or (put_if m k places) i 0
+put_lower : (m : Bool) (k : ℕ) (places : List ℕ) → ((i : ℕ) → i < length places → k + 1 ≤ get_or places i 0) → (i : ℕ) → i < length (put_place_if m k places) → k ≤ get_or (put_place_if m k places) i 0
 put_lower true k places all zero inside = omega arith
 put_lower true k places all (suc i) inside = let above = all i (omega arith) in omega arith
 put_lower false k places all i inside = let above = all i inside in omega arith
@@ -97,7 +97,7 @@ from_lower p k [] i inside = absurd (omega arith)
 from_lower p k (b ∷ bounds) i inside = put_lower (is_marked (b.label p)) k (marking_from p (k + 1) bounds) (from_lower p (k + 1) bounds) i inside
 
 -- no place is behind that of the last bound
-put_upper : (m : Bool) (k n : ℕ) (places : List ℕ) → k < n → ((i : ℕ) → i < length places → get_or places i 0 < n) → (i : ℕ) → i < length (put_if m k places) → get_or (put_if m k places) i 0 < n
+put_upper : (m : Bool) (k n : ℕ) (places : List ℕ) → k < n → ((i : ℕ) → i < length places → get_or places i 0 < n) → (i : ℕ) → i < length (put_place_if m k places) → get_or (put_place_if m k places) i 0 < n
 put_upper true k n places first all zero inside = first
 put_upper true k n places first all (suc i) inside = all i (omega arith)
 put_upper false k n places first all i inside = all i inside
@@ -115,7 +115,7 @@ place_inside p bounds i inside = let upper = from_upper p 0 bounds i inside in o
 -- the places ascend
 put_ascends : (m : Bool) (k : ℕ) (places : List ℕ) → ((i : ℕ) → i < length places → k + 1 ≤ get_or places i 0) →
     ((i j : ℕ) → i < j → j < length places → get_or places i 0 < get_or places j 0) →
-    (i j : ℕ) → i < j → j < length (put_if m k places) → get_or (put_if m k places) i 0 < get_or (put_if m k places) j 0
+    (i j : ℕ) → i < j → j < length (put_place_if m k places) → get_or (put_place_if m k places) i 0 < get_or (put_place_if m k places) j 0
 put_ascends true k places above up i zero less inside = absurd (omega arith)
 put_ascends true k places above up zero (suc j) less inside = let later = above j (omega arith) in omega arith
 put_ascends true k places above up (suc i) (suc j) less inside = up i j (omega arith) (omega arith)
@@ -131,11 +131,11 @@ from_ascends p k (b ∷ bounds) i j less inside =
 abbrev IsAt : List ℕ → ℕ → Type 0
 IsAt places k = (i : ℕ) × (i < length places) × (get_or places i 0 ≡ k)
 
-put_here : (m : Bool) (k : ℕ) (places : List ℕ) → m ≡ true → IsAt (put_if m k places) k
+put_here : (m : Bool) (k : ℕ) (places : List ℕ) → m ≡ true → IsAt (put_place_if m k places) k
 put_here true k places is = (0, omega arith, refl)
 put_here false k places is = absurd (cc)
 
-put_later : (m : Bool) (k n : ℕ) (places : List ℕ) → IsAt places n → IsAt (put_if m k places) n
+put_later : (m : Bool) (k n : ℕ) (places : List ℕ) → IsAt places n → IsAt (put_place_if m k places) n
 put_later true k n places at = (suc at.0, omega (arith, at.1), at.2)
 put_later false k n places at = at
 
@@ -143,7 +143,7 @@ from_has : (p k : ℕ) (bounds : List Bound) (j : ℕ) (b : Bound) → slice_get
 from_has p k [] j b there marked = absurd (cc)
 from_has p k (x ∷ bounds) zero b there marked =
     let same : x ≡ b = cc in
-    subst (IsAt (put_if (is_marked (x.label p)) k (marking_from p (k + 1) bounds))) (let e : k ≡ k + 0 = omega arith in e)
+    subst (IsAt (put_place_if (is_marked (x.label p)) k (marking_from p (k + 1) bounds))) (let e : k ≡ k + 0 = omega arith in e)
     (put_here (is_marked (x.label p)) k (marking_from p (k + 1) bounds) (marked_true (x.label p) (subst (λ (y : Bound). IsMarked y.label p) (sym same) marked)))
 from_has p k (x ∷ bounds) (suc j) b there marked =
     put_later (is_marked (x.label p)) k (k + suc j) (marking_from p (k + 1) bounds)

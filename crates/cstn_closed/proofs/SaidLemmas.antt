@@ -14,9 +14,9 @@ pub use Rattle.cstn_text.proofs.ListingLemmas.{told_first, first_wrong, told_vie
 use Rattle.cstn_refute.specs.Steps.{named_bound_read}
 use Rattle.cstn_refute.specs.Orders.{bound_with}
 use Rattle.cstn_refute.proofs.BoundLemmas.{named_said}
-use Rattle.cstn_closed.specs.Texts.{line_read, tells, told}
+use Rattle.cstn_closed.specs.Texts.{bound_line_read, tells, closed_told}
 use Rattle.cstn_closed.specs.Orders.{IsBoundLine, IsTextOfBounds}
-use Rattle.cstn_closed.specs.Written.{IsPrintableBound, AreWritten}
+use Rattle.cstn_closed.specs.Written.{IsPrintableBound, AreBoundsWritten}
 
 few_said : (k : ℕ) → nat_lt k most_load ≡ true → k < most_load
 few_said k e = grind arith
@@ -29,7 +29,7 @@ record IsLine (names : List (List ℕ)) (k : ℕ) (line : List ℕ) (b : Bound) 
   read : label_read label ≡ Some b.label
   text : line ≡ codes "bound " ++ bound_with names b label
 
-line_said : (names : List (List ℕ)) (k : ℕ) (line : List ℕ) (b : Bound) → line_read names k line ≡ Some b → IsLine names k line b
+line_said : (names : List (List ℕ)) (k : ℕ) (line : List ℕ) (b : Bound) → bound_line_read names k line ≡ Some b → IsLine names k line b
 line_said names k line b e =
     let word = then_read (part line) _ b e in
     let named = if_read (bytes_eq word.0.0 (codes "bound") && nat_lt k most_load) (named_bound_read names word.0.1) b word.2 in
@@ -45,18 +45,18 @@ line_said names k line b e =
           ∙ ap (λ (t : List ℕ). codes "bound" ++ 32 ∷ t) said.text;
     }
 
-bounds_said : (names : List (List ℕ)) → AreSaid most_load (line_read names) (IsPrintableBound names) (IsBoundLine names)
+bounds_said : (names : List (List ℕ)) → AreSaid most_load (bound_line_read names) (IsPrintableBound names) (IsBoundLine names)
 bounds_said names = λ k line b is. let said = line_said names k line b is in (said.few, said.written, (said.label, said.read, said.text))
 
-text_says : (names : List (List ℕ)) (bytes : List ℕ) (load : ℕ) (bounds : List Bound) → told names bytes ≡ tells load bounds →
-    AreWritten names load bounds × IsTextOfBounds names load bounds bytes
+text_says : (names : List (List ℕ)) (bytes : List ℕ) (load : ℕ) (bounds : List Bound) → closed_told names bytes ≡ tells load bounds →
+    AreBoundsWritten names load bounds × IsTextOfBounds names load bounds bytes
 text_says names bytes load bounds e =
-    listing_said (codes "yes") most_load (line_read names) (IsPrintableBound names) (IsBoundLine names) (bounds_said names) bytes load bounds e
+    listing_said (codes "yes") most_load (bound_line_read names) (IsPrintableBound names) (IsBoundLine names) (bounds_said names) bytes load bounds e
 
 -- what a text says can be written
-pub text_said : (names : List (List ℕ)) (bytes : List ℕ) (load : ℕ) (bounds : List Bound) → told names bytes ≡ tells load bounds → AreWritten names load bounds
+pub text_said : (names : List (List ℕ)) (bytes : List ℕ) (load : ℕ) (bounds : List Bound) → closed_told names bytes ≡ tells load bounds → AreBoundsWritten names load bounds
 text_said names bytes load bounds e = (text_says names bytes load bounds e).0
 
 -- a text that says a load and bounds is the one that is printed, but for the order of the marks in the labels
-pub text_is : (names : List (List ℕ)) (bytes : List ℕ) (load : ℕ) (bounds : List Bound) → told names bytes ≡ tells load bounds → IsTextOfBounds names load bounds bytes
+pub text_is : (names : List (List ℕ)) (bytes : List ℕ) (load : ℕ) (bounds : List Bound) → closed_told names bytes ≡ tells load bounds → IsTextOfBounds names load bounds bytes
 text_is names bytes load bounds e = (text_says names bytes load bounds e).1

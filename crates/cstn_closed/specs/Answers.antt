@@ -7,9 +7,9 @@ use Rattle.cstn_closed.specs.declared.answers.ClosedAnswer.TheVariants.{Accepted
 use Rattle.cstn_closed.specs.Faults.{bad, no_base, no_chain, no_wait, IsFirstFault, IsFaultless}
 
 -- the first fault is told, and a list is accepted where it has none
-abbrev pub IsAnswer : Network → List Bound → ClosedAnswer → Type 0
-IsAnswer net bounds Accepted = IsFaultless net bounds
-IsAnswer net bounds (Bad i) = IsFirstFault net bounds (bad i)
-IsAnswer net bounds (NoBase x) = IsFirstFault net bounds (no_base x.0)
-IsAnswer net bounds (NoChain id i) = IsFirstFault net bounds (no_chain id i)
-IsAnswer net bounds (NoWait i j) = IsFirstFault net bounds (no_wait i j)
+abbrev pub IsClosedAnswer : Network → List Bound → ClosedAnswer → Type 0
+IsClosedAnswer net bounds Accepted = IsFaultless net bounds
+IsClosedAnswer net bounds (Bad i) = IsFirstFault net bounds (bad i)
+IsClosedAnswer net bounds (NoBase x) = IsFirstFault net bounds (no_base x.0)
+IsClosedAnswer net bounds (NoChain id i) = IsFirstFault net bounds (no_chain id i)
+IsClosedAnswer net bounds (NoWait i j) = IsFirstFault net bounds (no_wait i j)

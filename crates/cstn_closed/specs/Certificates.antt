@@ -8,7 +8,7 @@ use Rattle.cstn_reply.specs.Texts.{Said, say}
 use Rattle.cstn_reply.specs.Sessions.{script}
 use Rattle.cstn_reply.specs.declared.output.Outcome.TheVariants.{Good, Bad}
 use Rattle.cstn_closed.specs.Faults.{Fault, bad, no_base, no_chain, no_wait, IsFirstFault, IsFaultless}
-use Rattle.cstn_closed.specs.Texts.{Told, tells, wrong, told}
+use Rattle.cstn_closed.specs.Texts.{ClosedTold, tells, wrong, closed_told}
 
 -- the text of a fault, with the places of bounds counted from 0, the name of a time-point, or the id of a constraint
 abbrev pub fault_words : List (List ℕ) → Fault → List ℕ
@@ -25,10 +25,10 @@ IsCertificate names bounds net said =
     ⊎ ((f : Fault) × IsFirstFault net bounds f × (said ≡ say Bad (codes "rejected " ++ fault_words names f)))
 
 -- the bounds of a text are checked, or its first wrong line is told
-abbrev pub IsCertificateOfBounds : List (List ℕ) → Told → Network → Said → Type 0
+abbrev pub IsCertificateOfBounds : List (List ℕ) → ClosedTold → Network → Said → Type 0
 IsCertificateOfBounds names (tells load bounds) net said = IsCertificate names bounds net said
 IsCertificateOfBounds names (wrong at) net said = said ≡ script at
 
 -- what `closedcheck` says of a network by a text
 abbrev pub IsCertificateOf : List (List ℕ) → List ℕ → Network → Said → Type 0
-IsCertificateOf names text net said = IsCertificateOfBounds names (told names text) net said
+IsCertificateOf names text net said = IsCertificateOfBounds names (closed_told names text) net said

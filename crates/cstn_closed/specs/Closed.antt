@@ -13,8 +13,8 @@ pub record ClosedParts : Type 0 where
   pub bounds : List Bound
 
 -- the bounds that the list stands for
-abbrev pub the_bounds : ClosedParts → List TheBound
-the_bounds c = map the_bound c.bounds
+abbrev pub the_listed_bounds : ClosedParts → List TheBound
+the_listed_bounds c = map the_bound c.bounds
 
 -- the bounds that no other dominates, the places of those that no earlier one dominates, and the places by marked proposition
 -- are those of the list

@@ -8,7 +8,7 @@ use Rattle.cstn_rules.specs.Closed.{IsCovered}
 
 -- the bound is at a time-point of the network, with a least value from 0 to the limit + 1; it marks observed propositions alone,
 -- and doesn't refute the network
-pub record IsFit (net : Network) (b : Bound) : Type 0 where
+pub record IsFitBound (net : Network) (b : Bound) : Type 0 where
   pub range : IsBoundOf net b
   pub observed : IsOnObserved net b.label
   pub harmless : Refutes net b → ⊥
@@ -24,7 +24,7 @@ pub data Fault : Type 0 where
 -- the bound at the place i doesn't fit the network; the base bound of x is dominated by no bound of the list; chain of the
 -- constraint and the bound at i, or wait of the bounds at i and j, gives a bound that is dominated by none
 abbrev pub IsFault : Network → List Bound → Fault → Type 0
-IsFault net bounds (bad i) = (b : Bound) × (slice_get bounds i ≡ Some b) × (IsFit net b → ⊥)
+IsFault net bounds (bad i) = (b : Bound) × (slice_get bounds i ≡ Some b) × (IsFitBound net b → ⊥)
 IsFault net bounds (no_base x) = (x < count net) × (IsCovered bounds (base x) → ⊥)
 IsFault net bounds (no_chain id i) =
     (c : Constraint) × (b : Bound) × (r : Bound) × Contains net.constraints c × (c.id ≡ id) × (slice_get bounds i ≡ Some b) ×

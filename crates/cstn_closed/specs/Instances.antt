@@ -5,11 +5,11 @@ use Rattle.cstn_label.specs.Bounds.{Bound}
 use Rattle.cstn_net.specs.Networks.{Network, Constraint, count}
 use Rattle.cstn_rules.specs.Rules.{IsChain, IsWait, base}
 use Rattle.cstn_rules.specs.Closed.{IsCovered}
-use Rattle.cstn_closed.specs.Faults.{Fault, IsFault, IsFit, kind, place, other, IsBefore}
+use Rattle.cstn_closed.specs.Faults.{Fault, IsFault, IsFitBound, kind, place, other, IsBefore}
 
 -- each bound of the list fits the network
 abbrev pub AreFit : Network → List Bound → Type 0
-AreFit net bounds = (b : Bound) → Contains bounds b → IsFit net b
+AreFit net bounds = (b : Bound) → Contains bounds b → IsFitBound net b
 
 -- the base bounds are covered
 abbrev pub AreBasesCovered : Network → List Bound → Type 0

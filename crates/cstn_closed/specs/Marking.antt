@@ -6,14 +6,14 @@ use Rattle.cstn_label.specs.Marks.{is_marked}
 use Rattle.cstn_label.specs.Bounds.{Bound}
 
 -- the places with k put before them, if there is a mark
-abbrev pub put_if : Bool → ℕ → List ℕ → List ℕ
-put_if true k places = k ∷ places
-put_if false k places = places
+abbrev pub put_place_if : Bool → ℕ → List ℕ → List ℕ
+put_place_if true k places = k ∷ places
+put_place_if false k places = places
 
 -- the places of the bounds that mark p, in ascending order, where the first bound of the list is at the place k
 abbrev pub marking_from : ℕ → ℕ → List Bound → List ℕ
 marking_from p k [] = []
-marking_from p k (b ∷ bounds) = put_if (is_marked (b.label p)) k (marking_from p (k + 1) bounds)
+marking_from p k (b ∷ bounds) = put_place_if (is_marked (b.label p)) k (marking_from p (k + 1) bounds)
 
 -- the places of the bounds that mark p, in ascending order
 abbrev pub marking : ℕ → List Bound → List ℕ

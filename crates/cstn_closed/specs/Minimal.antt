@@ -7,16 +7,16 @@ use Rattle.cstn_label.specs.Read.{the_bound}
 use Rattle.cstn_rules.specs.Closed.{IsCovered}
 
 -- the bounds that a vector holds
-abbrev pub held : Vec Declared Global → List Bound
-held v = map the_bound v.items
+abbrev pub held_bounds : Vec Declared Global → List Bound
+held_bounds v = map the_bound v.items
 
 -- the bounds that are kept at the time-point x
-abbrev pub kept_at : List (Vec Declared Global) → ℕ → List Bound
-kept_at lists x = slice_index_or (map held lists) x []
+abbrev pub kept_bounds_at : List (Vec Declared Global) → ℕ → List Bound
+kept_bounds_at lists x = slice_index_or (map held_bounds lists) x []
 
 -- the list covers exactly what the bounds cover that are kept
 abbrev pub AreKept : List Bound → List (Vec Declared Global) → Type 0
-AreKept bounds lists = (r : Bound) → (IsCovered (kept_at lists r.node) r ↔ IsCovered bounds r)
+AreKept bounds lists = (r : Bound) → (IsCovered (kept_bounds_at lists r.node) r ↔ IsCovered bounds r)
 
 -- the new list covers what the old one covers, and what b dominates
 abbrev pub CoversToo : Bound → List Bound → List Bound → Type 0
@@ -24,7 +24,7 @@ CoversToo b old new = (r : Bound) → (IsCovered new r ↔ (IsCovered old r ⊎ 
 
 -- once b is kept too, what b dominates is covered, and what was covered before
 abbrev pub IsPut : Bound → List (Vec Declared Global) → List (Vec Declared Global) → Type 0
-IsPut b old new = (r : Bound) → (IsCovered (kept_at new r.node) r ↔ (IsCovered (kept_at old r.node) r ⊎ Dominates b r))
+IsPut b old new = (r : Bound) → (IsCovered (kept_bounds_at new r.node) r ↔ (IsCovered (kept_bounds_at old r.node) r ⊎ Dominates b r))
 
 -- the bound b at the place i is dominated by one at a place of `places` that is not later
 pub record IsFreshOver (bounds : List Bound) (places : List ℕ) (i : ℕ) (b : Bound) : Type 0 where

@@ -7,7 +7,7 @@ ghost use Rattle.cstn_net.specs.Limits.{most_load};
 ghost use Rattle.cstn_net.specs.Read.{the_network};
 ghost use Rattle.cstn_rules.specs.Closed.{IsClosed};
 ghost use Rattle.cstn_rules.specs.Rules.{IsBoundOf};
-ghost use Rattle.cstn_closed.specs.Closed.{the_bounds};
+ghost use Rattle.cstn_closed.specs.Closed.{the_listed_bounds};
 ghost use Rattle.cstn_closed.specs.Faults.{IsFaultless};
 
 use crate::lists::Closed;
@@ -24,7 +24,7 @@ impl Closed {
         requires high { load ≤ most_load }
         ensures of { IfOk result (λ c. c ≡ record { load = load; bounds = plan.now.bounds }) }
         ensures accepted { ((b : TheBound) → Contains (map the_bound plan.now.bounds) b → IsBoundOf (the_network plan.now.net) b)
-            → IfOk result (λ c. IsFaultless (the_network plan.now.net) (the_bounds c)) }
+            → IfOk result (λ c. IsFaultless (the_network plan.now.net) (the_listed_bounds c)) }
     {
         is_closed(plan);
         let mut bounds = Vec::with_capacity(alloc, plan.count() as usize)?;
@@ -46,7 +46,7 @@ fn is_closed(plan: &SoundPlan)
 /// The plan of a network and a list that is closed for it, as a list is that `check` accepts. Its bounds need not hold in every
 /// strategy, so it isn't a sound plan.
 pub fn adopt(net: Network, closed: Closed) -> Plan
-    requires closed { IsClosed (the_network net) (the_bounds closed) }
+    requires closed { IsClosed (the_network net) (the_listed_bounds closed) }
     ensures adopt { result ≡ record { net = net; bounds = closed.bounds } }
 {
     Plan::adopt(net, closed.into_bounds())

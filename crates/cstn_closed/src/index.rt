@@ -3,7 +3,7 @@ ghost use Rattle.std.specs.Prelude.{◌≡◌, ◌<◌, ◌^◌, ◌↔◌, [], 
 ghost use Rattle.std.specs.List.{All};
 ghost use Rattle.cstn_label.specs.Read.{the_bound};
 ghost use Rattle.cstn_rules.specs.Closed.{IsCovered};
-ghost use Rattle.cstn_closed.specs.Closed.{the_bounds};
+ghost use Rattle.cstn_closed.specs.Closed.{the_listed_bounds};
 ghost use Rattle.cstn_closed.specs.Marking.{marking};
 ghost use Rattle.cstn_closed.specs.Minimal.{AreFresh, AreKept};
 
@@ -54,14 +54,14 @@ impl Indexed {
 
     /// Whether some bound of the list dominates r. Only those at the time-point of r are looked at that no other dominates.
     pub fn covers(&self, r: &Bound) -> bool
-        ensures covers { IsTrue result ↔ IsCovered (the_bounds self.now) (the_bound r.now) }
+        ensures covers { IsTrue result ↔ IsCovered (the_listed_bounds self.now) (the_bound r.now) }
     {
         self.covers_near(r, &mut 0)
     }
 
     // The same. Of the bounds at the time-point of r the one that `hint` tells is tried first; then it tells where one was found.
     pub(crate) fn covers_near(&self, r: &Bound, hint: &mut usize) -> bool
-        ensures covers { IsTrue result ↔ IsCovered (the_bounds self.now) (the_bound r.now) }
+        ensures covers { IsTrue result ↔ IsCovered (the_listed_bounds self.now) (the_bound r.now) }
     {
         self.minimal.covers(r, hint)
     }
@@ -90,14 +90,14 @@ impl Indexed {
 
     // The places of the bounds that no earlier one dominates, in ascending order.
     pub(crate) fn fresh(&self) -> &[u32]
-        ensures fresh { AreFresh (the_bounds self.now) result.now }
+        ensures fresh { AreFresh (the_listed_bounds self.now) result.now }
     {
         self.fresh.as_slice()
     }
 
     // The places of the bounds that mark p, in ascending order.
     pub(crate) fn marking(&self, p: Prop) -> &[u32]
-        ensures marking { result.now ≡ marking p.index (the_bounds self.now) }
+        ensures marking { result.now ≡ marking p.index (the_listed_bounds self.now) }
     {
         self.marking.lists[p.index as usize].as_slice()
     }

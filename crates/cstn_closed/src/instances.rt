@@ -8,11 +8,11 @@ ghost use Rattle.cstn_net.specs.Links.{ends};
 ghost use Rattle.cstn_net.specs.Read.{the_network, the_constraint};
 ghost use Rattle.cstn_rules.specs.Rules.{IsBoundOf, IsChain, IsWait, base};
 ghost use Rattle.cstn_rules.specs.Closed.{IsCovered};
-ghost use Rattle.cstn_closed.specs.Closed.{the_bounds};
-ghost use Rattle.cstn_closed.specs.Faults.{IsFit, no_chain, no_wait};
+ghost use Rattle.cstn_closed.specs.Closed.{the_listed_bounds};
+ghost use Rattle.cstn_closed.specs.Faults.{IsFitBound, no_chain, no_wait};
 ghost use Rattle.cstn_closed.specs.Instances.{AreFit, AreChainsCovered, AreWaitsCovered, IsChainCovered, IsWaitCovered, IsFirstThere, IsSoAt};
 ghost use Rattle.cstn_closed.specs.Instances.{HasUncoveredChain, HasUncoveredWait};
-ghost use Rattle.cstn_closed.specs.Places.{IsNext};
+ghost use Rattle.cstn_closed.specs.Places.{IsNextStanding};
 
 use crate::index::Indexed;
 use cstn_label::{Bound, Label, NodeId, Prop};
@@ -33,7 +33,7 @@ pub(crate) fn base(x: NodeId) -> Bound
 /// Whether the bound is at a time-point of the network, in range, with marks on observed propositions alone, and doesn't
 /// refute the network.
 pub(crate) fn is_fit(net: &Network, b: &Bound) -> bool
-    ensures fit { IsTrue result ↔ IsFit (the_network net.now) (the_bound b.now) }
+    ensures fit { IsTrue result ↔ IsFitBound (the_network net.now) (the_bound b.now) }
 {
     if b.node.0 >= net.count() {
         return false;
@@ -52,10 +52,10 @@ fn is_in_range(net: &Network, b: &Bound) -> bool
 /// The least id of a constraint from which, with the bound at the place `at`, chain derives a bound that isn't covered; none
 /// where there is no such constraint.
 pub(crate) fn uncovered_chain(net: &Network, closed: &Indexed, at: u32) -> Option<u32>
-    requires fit { AreFit (the_network net.now) (the_bounds closed.now) }
+    requires fit { AreFit (the_network net.now) (the_listed_bounds closed.now) }
     requires place { at < length closed.now.bounds }
-    ensures some { IfSome result (λ id. IsFirstThere (the_network net.now) (the_bounds closed.now) (no_chain id at)) }
-    ensures none { IfNone result (IsSoAt (AreChainsCovered (the_network net.now) (the_bounds closed.now)) (the_bounds closed.now) at) }
+    ensures some { IfSome result (λ id. IsFirstThere (the_network net.now) (the_listed_bounds closed.now) (no_chain id at)) }
+    ensures none { IfNone result (IsSoAt (AreChainsCovered (the_network net.now) (the_listed_bounds closed.now)) (the_listed_bounds closed.now) at) }
 {
     network_is_well_formed(net);
     let b = closed.bound(at);
@@ -74,8 +74,8 @@ pub(crate) fn uncovered_chain(net: &Network, closed: &Indexed, at: u32) -> Optio
 fn is_chain_covered(net: &Network, closed: &Indexed, c: &Constraint, b: &Bound) -> bool
     requires constraint { Contains net.now.constraints c.now }
     requires bound { IsBoundOf (the_network net.now) (the_bound b.now) }
-    ensures covered { IsTrue result → IsChainCovered (the_network net.now) (the_bounds closed.now) (the_constraint c.now) (the_bound b.now) }
-    ensures uncovered { result ≡ false → HasUncoveredChain (the_network net.now) (the_bounds closed.now) (the_constraint c.now) (the_bound b.now) }
+    ensures covered { IsTrue result → IsChainCovered (the_network net.now) (the_listed_bounds closed.now) (the_constraint c.now) (the_bound b.now) }
+    ensures uncovered { result ≡ false → HasUncoveredChain (the_network net.now) (the_listed_bounds closed.now) (the_constraint c.now) (the_bound b.now) }
 {
     let mut tries = Tries { count: 0 };
     match chain(net, c, b, &mut tries) {
@@ -88,10 +88,10 @@ fn is_chain_covered(net: &Network, closed: &Indexed, c: &Constraint, b: &Bound) 
 /// where there is no such place. Only the bounds that mark the proposition observed at the time-point of `seen` are looked at:
 /// from the others wait derives nothing.
 pub(crate) fn uncovered_wait(net: &Network, closed: &Indexed, seen: u32) -> Option<u32>
-    requires fit { AreFit (the_network net.now) (the_bounds closed.now) }
+    requires fit { AreFit (the_network net.now) (the_listed_bounds closed.now) }
     requires place { seen < length closed.now.bounds }
-    ensures some { IfSome result (λ at. IsFirstThere (the_network net.now) (the_bounds closed.now) (no_wait seen at)) }
-    ensures none { IfNone result (IsSoAt (AreWaitsCovered (the_network net.now) (the_bounds closed.now)) (the_bounds closed.now) seen) }
+    ensures some { IfSome result (λ at. IsFirstThere (the_network net.now) (the_listed_bounds closed.now) (no_wait seen at)) }
+    ensures none { IfNone result (IsSoAt (AreWaitsCovered (the_network net.now) (the_listed_bounds closed.now)) (the_listed_bounds closed.now) seen) }
 {
     let first = closed.bound(seen);
     let Some(p) = observed(net, &first) else {
@@ -126,8 +126,8 @@ fn is_wait_covered(
 ) -> bool
     requires seen { IsBoundOf (the_network net.now) (the_bound seen.now) }
     requires bound { IsBoundOf (the_network net.now) (the_bound b.now) }
-    ensures covered { IsTrue result → IsWaitCovered (the_network net.now) (the_bounds closed.now) (the_bound seen.now) (the_bound b.now) }
-    ensures uncovered { result ≡ false → HasUncoveredWait (the_network net.now) (the_bounds closed.now) (the_bound seen.now) (the_bound b.now) }
+    ensures covered { IsTrue result → IsWaitCovered (the_network net.now) (the_listed_bounds closed.now) (the_bound seen.now) (the_bound b.now) }
+    ensures uncovered { result ≡ false → HasUncoveredWait (the_network net.now) (the_listed_bounds closed.now) (the_bound seen.now) (the_bound b.now) }
 {
     let mut tries = Tries { count: 0 };
     match wait(net, seen, b, &mut tries) {
@@ -153,7 +153,7 @@ fn constraint_at(net: &Network, place: usize) -> &Constraint
 // The place of the first constraint that ends at the time-point, or the number of constraints where none does.
 fn first_ending(net: &Network, x: NodeId) -> usize
     requires node { x.0 < count (the_network net.now) }
-    ensures first { IsNext (ends net.now.constraints) x.0 0 result }
+    ensures first { IsNextStanding (ends net.now.constraints) x.0 0 result }
 {
     match net.first_to(x) {
         None => net.constraints().len(),
@@ -165,7 +165,7 @@ fn first_ending(net: &Network, x: NodeId) -> usize
 // where none does.
 fn next_ending(net: &Network, at: usize) -> usize
     requires place { at < length net.now.constraints }
-    ensures next { IsNext (ends net.now.constraints) (slice_index_or (ends net.now.constraints) at 0) (at + 1) result }
+    ensures next { IsNextStanding (ends net.now.constraints) (slice_index_or (ends net.now.constraints) at 0) (at + 1) result }
 {
     match net.next_to(at) {
         None => net.constraints().len(),

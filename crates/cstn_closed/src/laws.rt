@@ -7,9 +7,9 @@ ghost use Rattle.cstn_rules.specs.Closed.{IsClosed};
 ghost use Rattle.cstn_rules.specs.Rules.{IsBoundOf};
 ghost use Rattle.cstn_text.specs.Names.{AreNames};
 ghost use Rattle.cstn_closed.specs.Faults.{Fault, IsFirstFault, IsFaultless};
-ghost use Rattle.cstn_closed.specs.Texts.{tells, told, shown};
+ghost use Rattle.cstn_closed.specs.Texts.{tells, closed_told, closed_shown};
 ghost use Rattle.cstn_closed.specs.Orders.{IsTextOfBounds};
-ghost use Rattle.cstn_closed.specs.Written.{AreWritten};
+ghost use Rattle.cstn_closed.specs.Written.{AreBoundsWritten};
 
 /// A closed list whose least values are from 0 to the limit + 1 has no fault. A list has at most one first fault.
 pub fn closed_lists_are_accepted()
@@ -21,17 +21,17 @@ pub fn closed_lists_are_accepted()
 /// The text of a load and bounds is read as them, where each bound's time-point has a name and the numbers are in their ranges.
 /// What is read of any text is in these ranges.
 pub fn closed_texts_are_read_back()
-    ensures back { (names : List (List ℕ)) (load : ℕ) (bounds : List Bound) → AreNames names → AreWritten names load bounds
-        → told names (shown names load bounds) ≡ tells load bounds }
-    ensures ranges { (names : List (List ℕ)) (bytes : List ℕ) (load : ℕ) (bounds : List Bound) → told names bytes ≡ tells load bounds
-        → AreWritten names load bounds }
+    ensures back { (names : List (List ℕ)) (load : ℕ) (bounds : List Bound) → AreNames names → AreBoundsWritten names load bounds
+        → closed_told names (closed_shown names load bounds) ≡ tells load bounds }
+    ensures ranges { (names : List (List ℕ)) (bytes : List ℕ) (load : ℕ) (bounds : List Bound) → closed_told names bytes ≡ tells load bounds
+        → AreBoundsWritten names load bounds }
 {}
 
 /// The texts that are read as a load and bounds are exactly the printed one and those that differ from it in the order of the
 /// marks in labels alone.
 pub fn closed_texts_are_the_shown_ones()
-    ensures said { (names : List (List ℕ)) (bytes : List ℕ) (load : ℕ) (bounds : List Bound) → told names bytes ≡ tells load bounds
+    ensures said { (names : List (List ℕ)) (bytes : List ℕ) (load : ℕ) (bounds : List Bound) → closed_told names bytes ≡ tells load bounds
         → IsTextOfBounds names load bounds bytes }
-    ensures says { (names : List (List ℕ)) (load : ℕ) (bounds : List Bound) (bytes : List ℕ) → AreNames names → AreWritten names load bounds
-        → IsTextOfBounds names load bounds bytes → told names bytes ≡ tells load bounds }
+    ensures says { (names : List (List ℕ)) (load : ℕ) (bounds : List Bound) (bytes : List ℕ) → AreNames names → AreBoundsWritten names load bounds
+        → IsTextOfBounds names load bounds bytes → closed_told names bytes ≡ tells load bounds }
 {}

@@ -3,7 +3,7 @@ ghost use Rattle.std.specs.Prelude.{◌≡◌, ◌<◌, ◌↔◌, ◌⊎◌, []
 ghost use Rattle.cstn_label.specs.Bounds.{Bound as TheBound, Dominates};
 ghost use Rattle.cstn_label.specs.Read.{the_bound};
 ghost use Rattle.cstn_rules.specs.Closed.{IsCovered};
-ghost use Rattle.cstn_closed.specs.Minimal.{kept_at, AreKept, IsPut, CoversToo};
+ghost use Rattle.cstn_closed.specs.Minimal.{kept_bounds_at, AreKept, IsPut, CoversToo};
 
 use cstn_label::Bound;
 use std::alloc::{AllocError, Global};
@@ -30,7 +30,7 @@ impl Minimal {
     // Whether some kept bound dominates r. Of those at its time-point the one at the place `hint` is tried first, which then is
     // the place where one was found.
     pub fn covers(&self, r: &Bound, hint: &mut usize) -> bool
-        ensures covers { IsTrue result ↔ IsCovered (kept_at self.now.lists.items r.now.node.0) (the_bound r.now) }
+        ensures covers { IsTrue result ↔ IsCovered (kept_bounds_at self.now.lists.items r.now.node.0) (the_bound r.now) }
     {
         match self.lists.get(r.node.index()) {
             Some(list) => covers(list, r, hint),

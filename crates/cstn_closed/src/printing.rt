@@ -6,9 +6,9 @@ ghost use Rattle.cstn_text.specs.Names.{AreNames};
 ghost use Rattle.cstn_text.specs.Numbers.{printed_number, printed_value};
 ghost use Rattle.cstn_text.specs.PrintedLabels.{printed_label};
 ghost use Rattle.cstn_text.specs.PrintedNames.{printed_name};
-ghost use Rattle.cstn_closed.specs.Closed.{the_bounds};
-ghost use Rattle.cstn_closed.specs.Texts.{shown, told, tells};
-ghost use Rattle.cstn_closed.specs.Written.{FitsText, IsNamed};
+ghost use Rattle.cstn_closed.specs.Closed.{the_listed_bounds};
+ghost use Rattle.cstn_closed.specs.Texts.{closed_shown, closed_told, tells};
+ghost use Rattle.cstn_closed.specs.Written.{BoundsFitText, IsNamedBound};
 
 use crate::lists::Closed;
 use cstn_label::{Bound, labels_are_their_marks};
@@ -24,9 +24,10 @@ impl Closed {
     /// Where the load is from 1 to 4,194,304 and there are 1 to 4,194,304 bounds, the text is read again as the same list.
     /// Beside the text it takes memory for the printed names, and none for a line. Fails where memory is refused.
     pub fn print(&self, alloc: Global, names: &Names) -> Result<String, AllocError>
-        requires named { All (IsNamed names.now) self.now.bounds }
-        ensures shown { IfOk result (λ text. string_bytes text ≡ shown names.now self.now.load (the_bounds self.now)) }
-        ensures back { FitsText self.now → IfOk result (λ text. told names.now (string_bytes text) ≡ tells self.now.load (the_bounds self.now)) }
+        requires named { All (IsNamedBound names.now) self.now.bounds }
+        ensures shown { IfOk result (λ text. string_bytes text ≡ closed_shown names.now self.now.load (the_listed_bounds self.now)) }
+        ensures back { BoundsFitText self.now → IfOk result (λ text. closed_told names.now (string_bytes text)
+            ≡ tells self.now.load (the_listed_bounds self.now)) }
     {
         labels_are_their_marks();
         let printed = print_names(alloc, names)?;

@@ -7,10 +7,10 @@ ghost use Rattle.cstn_label.specs.Read.{the_bound};
 ghost use Rattle.cstn_net.specs.Limits.{most_load};
 ghost use Rattle.cstn_text.specs.Parts.{parts_at};
 ghost use Rattle.cstn_text.specs.Listings.{at_end, is_some_listed, told_after};
-ghost use Rattle.cstn_closed.specs.Closed.{the_bounds};
-ghost use Rattle.cstn_closed.specs.Texts.{tells, bound_lines, told, line_read};
-ghost use Rattle.cstn_closed.specs.Written.{FitsText, IsNamed};
-ghost use Rattle.cstn_closed.specs.Read.{IsWrong};
+ghost use Rattle.cstn_closed.specs.Closed.{the_listed_bounds};
+ghost use Rattle.cstn_closed.specs.Texts.{tells, bound_lines, closed_told, bound_line_read};
+ghost use Rattle.cstn_closed.specs.Written.{BoundsFitText, IsNamedBound};
+ghost use Rattle.cstn_closed.specs.Read.{IsWrongBoundLine};
 
 use crate::errors::ClosedError;
 use crate::lists::Closed;
@@ -26,11 +26,11 @@ impl Closed {
     /// where memory is refused.
     pub fn read(alloc: Global, names: &Names, bytes: &[u8]) -> Result<Closed, ClosedError>
         requires few { length names.now ≤ most_ids }
-        ensures accepted { IfOk result (λ c. told names.now bytes.now ≡ tells c.load (the_bounds c)) }
-        ensures line { IfErr result (IsWrong (told names.now bytes.now)) }
+        ensures accepted { IfOk result (λ c. closed_told names.now bytes.now ≡ tells c.load (the_listed_bounds c)) }
+        ensures line { IfErr result (IsWrongBoundLine (closed_told names.now bytes.now)) }
 
-        ensures named { IfOk result (λ c. All (IsNamed names.now) c.bounds) }
-        ensures fits { IfOk result FitsText }
+        ensures named { IfOk result (λ c. All (IsNamedBound names.now) c.bounds) }
+        ensures fits { IfOk result BoundsFitText }
     {
         let Some((load, rest)) = read_start("yes", MAX_LOAD, bytes) else {
             return Err(ClosedError::Line { line: 1 });
@@ -43,8 +43,8 @@ impl Closed {
 fn read_bounds(alloc: Global, names: &Names, load: u32, bytes: &[u8]) -> Result<Closed, ClosedError>
     requires few { length names.now ≤ most_ids }
     ensures accepted { IfOk result (λ c. told_after (bound_lines names.now) load [] (parts_at 10 bytes.now).0 (parts_at 10 bytes.now).1
-        ≡ tells c.load (the_bounds c)) }
-    ensures line { IfErr result (IsWrong (told_after (bound_lines names.now) load [] (parts_at 10 bytes.now).0 (parts_at 10 bytes.now).1)) }
+        ≡ tells c.load (the_listed_bounds c)) }
+    ensures line { IfErr result (IsWrongBoundLine (told_after (bound_lines names.now) load [] (parts_at 10 bytes.now).0 (parts_at 10 bytes.now).1)) }
 {
     let mut bounds = Vec::new(alloc);
     let mut left = bytes;
@@ -64,7 +64,7 @@ fn read_bounds(alloc: Global, names: &Names, load: u32, bytes: &[u8]) -> Result<
 // The bound on a line, if the line is of the form and k is below the greatest number of bounds.
 fn read_line(names: &Names, k: u32, line: &[u8]) -> Option<Bound>
     requires few { length names.now ≤ most_ids }
-    ensures bound { option_map the_bound result ≡ line_read names.now k line.now }
+    ensures bound { option_map the_bound result ≡ bound_line_read names.now k line.now }
     ensures few { IfSome result (λ b. k < most_load) }
 {
     let (word, rest) = part(line)?;
@@ -78,8 +78,8 @@ fn read_line(names: &Names, k: u32, line: &[u8]) -> Option<Bound>
 // The list of the load and the bounds, if there is a bound and the text ends behind the LF of the last one.
 fn finish(load: u32, bounds: Vec<Bound>, left: &[u8]) -> Result<Closed, ClosedError>
     requires few { length bounds.items ≤ most_load }
-    ensures accepted { IfOk result (λ c. at_end is_some_listed load (map the_bound bounds.items) left.now ≡ tells c.load (the_bounds c)) }
-    ensures line { IfErr result (IsWrong (at_end is_some_listed load (map the_bound bounds.items) left.now)) }
+    ensures accepted { IfOk result (λ c. at_end is_some_listed load (map the_bound bounds.items) left.now ≡ tells c.load (the_listed_bounds c)) }
+    ensures line { IfErr result (IsWrongBoundLine (at_end is_some_listed load (map the_bound bounds.items) left.now)) }
 {
     let count = bounds.len() as u32;
     if count == 0 || !left.is_empty() {

@@ -7,7 +7,7 @@ ghost use Rattle.cstn_text.specs.PrintedNames.{printed_name};
 ghost use Rattle.cstn_reply.specs.Read.{the_said};
 ghost use Rattle.cstn_reply.specs.Texts.{say};
 ghost use Rattle.cstn_closed.specs.Certificates.{IsCertificate, IsCertificateOf};
-ghost use Rattle.cstn_closed.specs.Closed.{the_bounds};
+ghost use Rattle.cstn_closed.specs.Closed.{the_listed_bounds};
 
 use crate::{Closed, ClosedAnswer, ClosedError, Indexed, check};
 use cstn_label::NodeId;
@@ -43,7 +43,7 @@ fn check_closed(
     closed: Closed,
 ) -> Result<Said, AllocError>
     requires named { length names.now ≡ count (the_network network.now) }
-    ensures said { IfOk result (λ said. IsCertificate names.now (the_bounds closed) (the_network network.now) (the_said said)) }
+    ensures said { IfOk result (λ said. IsCertificate names.now (the_listed_bounds closed) (the_network network.now) (the_said said)) }
 {
     let indexed = Indexed::of(alloc, closed)?;
     check_bounds(alloc, network, names, &indexed)
@@ -57,7 +57,7 @@ fn check_bounds(
     closed: &Indexed,
 ) -> Result<Said, AllocError>
     requires named { length names.now ≡ count (the_network network.now) }
-    ensures said { IfOk result (λ said. IsCertificate names.now (the_bounds closed.now) (the_network network.now) (the_said said)) }
+    ensures said { IfOk result (λ said. IsCertificate names.now (the_listed_bounds closed.now) (the_network network.now) (the_said said)) }
 {
     match check(network, closed) {
         ClosedAnswer::Accepted => accepted(alloc),

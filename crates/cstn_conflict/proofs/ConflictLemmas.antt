@@ -9,7 +9,7 @@ use Rattle.cstn_net.proofs.Kept.{fewer_constraints}
 use Rattle.cstn_rules.specs.Derivations.{Entry, IsRefutation}
 use Rattle.cstn_refute.specs.Refutations.{RefutationParts}
 use Rattle.cstn_check.specs.Checks.{CheckParts}
-use Rattle.cstn_check.specs.Givers.{ids_of, is_of, with_some, with_ids, without}
+use Rattle.cstn_check.specs.Givers.{ids_of, is_of, with_some, with_ids, network_without}
 use Rattle.cstn_check.specs.Growth.{load_of, most_entries}
 use Rattle.cstn_check.specs.Needs.{said, answer}
 use Rattle.cstn_check.specs.Search.{left_over}
@@ -53,7 +53,7 @@ module _ (cap : ℕ) (net : Network) (ids : List ℕ) (is : conflict_set cap net
     pub inconsistent : (IsConsistent net → ⊥) → IsConsistent (with_ids net ids) → ⊥
     inconsistent = found_stops (said cap) net ids is IsConsistent yes_part no_part (fewer_some net)
 
-    pub needed : (id : ℕ) → Contains ids id → IsConsistent (without id (with_ids net ids))
+    pub needed : (id : ℕ) → Contains ids id → IsConsistent (network_without id (with_ids net ids))
     needed = found_needed (said cap) net ids is IsConsistent yes_part no_part (fewer_some net)
 
 none_pass : (cs : List Constraint) → filter (λ c. is_of [] c.id) cs ≡ []

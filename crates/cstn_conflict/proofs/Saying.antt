@@ -12,7 +12,7 @@ use Rattle.cstn_check.specs.Verdicts.{IsRefutationOf}
 use Rattle.cstn_check.specs.declared.verdicts.Verdict.TheVariants.{Yes, No, Full as IsFull}
 use Rattle.cstn_check.proofs.Decides.{log_decides}
 use Rattle.cstn_refute.specs.Refutations.{RefutationParts, the_steps}
-use Rattle.cstn_refute.specs.Texts.{shown}
+use Rattle.cstn_refute.specs.Texts.{refutation_shown}
 use Rattle.cstn_conflict.specs.Conflicts.{conflict_set, IsConflictFull}
 use Rattle.cstn_conflict.specs.Texts.{ids_line, blamed_after_no, blamed_by, blamed}
 use Rattle.cstn_reply.specs.Texts.{Said, yes_line, full_line}
@@ -56,13 +56,13 @@ module _ (cap : ℕ) (names : List (List ℕ)) (net : Network) (good : IsWellFor
     -- what is said where it isn't
     pub no_blamed : (ids : List ℕ) (refutation : RefutationParts) (r : Result SaidText E) → (IsConsistent net → ⊥) × (load_of net ≤ cap) →
         conflict_set cap net ≡ Some ids → IsRefutationOf (with_ids net ids) refutation →
-        IfOk r (λ said. the_said said ≡ record { outcome = Bad; text = ids_line ids ++ shown names refutation.load (the_steps refutation) }) →
+        IfOk r (λ said. the_said said ≡ record { outcome = Bad; text = ids_line ids ++ refutation_shown names refutation.load (the_steps refutation) }) →
         IfOk r (λ said. the_said said ≡ blamed cap names net)
     no_blamed ids refutation (Err e) tells set of is = tt
     no_blamed ids refutation (Ok said) tells set of is =
         is
-        ∙ ap (λ n. record { outcome = Bad; text = ids_line ids ++ shown names n (the_steps refutation) }) of.load
-        ∙ ap (λ (es : List Entry). record { outcome = Bad; text = ids_line ids ++ shown names (load_of (with_ids net ids)) es }) of.part
+        ∙ ap (λ n. record { outcome = Bad; text = ids_line ids ++ refutation_shown names n (the_steps refutation) }) of.load
+        ∙ ap (λ (es : List Entry). record { outcome = Bad; text = ids_line ids ++ refutation_shown names (load_of (with_ids net ids)) es }) of.part
         ∙ sym (after_no tells.1 tells.0 ∙ ap (blamed_after_no cap names net) set)
 
     -- what is said where a log is full

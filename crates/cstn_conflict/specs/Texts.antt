@@ -1,13 +1,13 @@
 -- What is said of a no: the constraints that can't be met together.
 use Rattle.std.specs.Prelude.{ℕ, List, ◌∷◌, ◌++◌, Option, None, Some, flat_map, codes, decimal}
 use Rattle.cstn_net.specs.Networks.{Network}
-use Rattle.cstn_log.specs.Cuts.{part}
+use Rattle.cstn_log.specs.Cuts.{last_with_ancestors}
 use Rattle.cstn_check.specs.Decisions.{verdict}
 use Rattle.cstn_check.specs.Givers.{with_ids}
 use Rattle.cstn_check.specs.Growth.{log_of, load_of}
 use Rattle.cstn_check.specs.declared.verdicts.Verdict.{Verdict}
 use Rattle.cstn_check.specs.declared.verdicts.Verdict.TheVariants.{Yes, No, Full as IsFull}
-use Rattle.cstn_refute.specs.Texts.{shown}
+use Rattle.cstn_refute.specs.Texts.{refutation_shown}
 use Rattle.cstn_conflict.specs.Conflicts.{conflict_set}
 use Rattle.cstn_reply.specs.Texts.{Said, line, yes_line, full_line}
 use Rattle.cstn_reply.specs.declared.output.Outcome.TheVariants.{Good, Bad, Full}
@@ -18,7 +18,7 @@ ids_line ids = line (codes "conflict" ++ flat_map (λ id. 32 ∷ decimal id) ids
 
 -- the ids, and the refutation of the network that has these constraints alone
 abbrev pub blame_text : List (List ℕ) → Network → List ℕ → List ℕ
-blame_text names net ids = ids_line ids ++ shown names (load_of (with_ids net ids)) (part (log_of (with_ids net ids)))
+blame_text names net ids = ids_line ids ++ refutation_shown names (load_of (with_ids net ids)) (last_with_ancestors (log_of (with_ids net ids)))
 
 -- what is said of a network that isn't consistent: its conflict set, or the cap where a log that was tried is full
 abbrev pub blamed_after_no : ℕ → List (List ℕ) → Network → Option (List ℕ) → Said

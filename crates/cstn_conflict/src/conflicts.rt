@@ -5,7 +5,7 @@ ghost use Rattle.cstn_net.specs.Strategies.{IsConsistent};
 ghost use Rattle.cstn_net.specs.Read.{the_network};
 ghost use Rattle.cstn_rules.specs.Derivations.{IsRefutation};
 ghost use Rattle.cstn_refute.specs.Refutations.{the_steps};
-ghost use Rattle.cstn_check.specs.Givers.{with_ids, without};
+ghost use Rattle.cstn_check.specs.Givers.{with_ids, network_without};
 ghost use Rattle.cstn_check.specs.Growth.{load_of, most_entries};
 ghost use Rattle.cstn_check.specs.Needs.{said, IfNo, Stands};
 ghost use Rattle.cstn_check.specs.Verdicts.{IsRefutationOf};
@@ -45,7 +45,8 @@ pub fn smallest(alloc: Global, net: Network, cap: Cap) -> Result<Conflict, Confl
 
     // The constraints can't be met together, and without any one of them they can.
     ensures inconsistent { IfOk result (λ conflict. IsConsistent (with_ids (the_network net) conflict.ids) → ⊥) }
-    ensures needed { IfOk result (λ conflict. (id : ℕ) → Contains conflict.ids id → IsConsistent (without id (with_ids (the_network net) conflict.ids))) }
+    ensures needed { IfOk result (λ conflict. (id : ℕ) → Contains conflict.ids id →
+        IsConsistent (network_without id (with_ids (the_network net) conflict.ids))) }
 
     ensures refutation { IfOk result (λ conflict. IsRefutationOf (with_ids (the_network net) conflict.ids) conflict.refutation) }
     ensures refutes_all { IfOk result (λ conflict. IsRefutation (the_network net) (the_steps conflict.refutation)) }

@@ -4,7 +4,7 @@ ghost use Rattle.std.specs.List.{All};
 ghost use Rattle.cstn_net.specs.Networks.{IsWellFormed, count};
 ghost use Rattle.cstn_net.specs.Read.{the_network};
 ghost use Rattle.cstn_refute.specs.Refutations.{the_steps};
-ghost use Rattle.cstn_refute.specs.Texts.{shown};
+ghost use Rattle.cstn_refute.specs.Texts.{refutation_shown};
 ghost use Rattle.cstn_reply.specs.Texts.{yes_line};
 ghost use Rattle.cstn_reply.specs.Read.{the_said};
 ghost use Rattle.cstn_conflict.specs.Texts.{ids_line, blamed};
@@ -55,7 +55,7 @@ fn conflict_said(alloc: Global, conflict: &Conflict, names: &Names) -> Result<Sa
         ≡ record {
           outcome = Outcome.Bad;
           text = ids_line conflict.now.ids
-              ++ shown names.now conflict.now.refutation.load (the_steps conflict.now.refutation);
+              ++ refutation_shown names.now conflict.now.refutation.load (the_steps conflict.now.refutation);
         }) }
 {
     let refutation = conflict.refutation.print(alloc, names)?;

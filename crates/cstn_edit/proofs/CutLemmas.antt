@@ -20,7 +20,7 @@ use Rattle.cstn_rules.specs.Rules.{base, Refutes}
 use Rattle.cstn_rules.specs.Derivations.{Entry, IsDerivation}
 use Rattle.cstn_rules.proofs.Derived.{with_constraints}
 use Rattle.cstn_log.specs.Entries.{State, the_entries, bases}
-use Rattle.cstn_log.specs.Cuts.{is_marked, rank, renumbered, moved, cut_from, stays, marked_staying, dropped}
+use Rattle.cstn_log.specs.Cuts.{is_place_marked, rank, renumbered, moved_premises, cut_from, stays, marked_staying, dropped}
 use Rattle.cstn_facts.proofs.Places.{get_more}
 use Rattle.cstn_log.proofs.ChoiceLemmas.{rank_marked}
 use Rattle.cstn_log.proofs.CutLemmas.{cut_marked, length_cut, comes}
@@ -42,7 +42,7 @@ bases_base (suc n) k e there = elim (get_more (bases n) (record { bound = base n
 
 -- the first n places are marked
 abbrev pub FirstMarked : List Bool → ℕ → Type 0
-FirstMarked marks n = (k : ℕ) → k < n → is_marked marks k ≡ true
+FirstMarked marks n = (k : ℕ) → k < n → is_place_marked marks k ≡ true
 
 first_more : (marks more : List Bool) → FirstMarked marks (length marks) → FirstMarked (marks ++ more) (length marks)
 first_more marks more first k inside = get_or_append_left marks more false k inside ∙ first k inside
@@ -54,7 +54,7 @@ first_next marks b is first k inside = elim (cases_lt k (length marks)) [
   | inr past ↦
       let long = length-append marks (b ∷ []) in
       let last : k ≡ length marks = omega arith in
-      subst (λ j. is_marked (marks ++ b ∷ []) j ≡ true) (sym last) (get_or-append_seam marks b [] false ∙ is)
+      subst (λ j. is_place_marked (marks ++ b ∷ []) j ≡ true) (sym last) (get_or-append_seam marks b [] false ∙ is)
 ]
 
 stays_base : (id : ℕ) (marks : List Bool) (why : Why) → why ≡ Base → stays id marks why ≡ true
@@ -65,14 +65,14 @@ front_marked : (id : ℕ) (marks : List Bool) (xs ys : List Entry) → AllBase x
     FirstMarked (marked_staying id marks (xs ++ ys)) (length marks + length xs)
 front_marked id marks [] ys all first k inside =
     let more = staying_more id marks ys in
-    subst (λ ms. is_marked ms k ≡ true) (sym more.1) (first_more marks more.0 first k (omega arith))
+    subst (λ ms. is_place_marked ms k ≡ true) (sym more.1) (first_more marks more.0 first k (omega arith))
 front_marked id marks (x ∷ xs) ys all first k inside =
     let b = stays id marks x.why in
     let long = length-append marks (b ∷ []) in
     front_marked id (marks ++ b ∷ []) xs ys (λ j e there. all (suc j) e there)
     (first_next marks b (stays_base id marks x.why (all 0 x refl)) first) k (omega arith)
 
-moved_base : (marks : List Bool) (e : Entry) → e.why ≡ Base → moved marks e ≡ e
+moved_base : (marks : List Bool) (e : Entry) → e.why ≡ Base → moved_premises marks e ≡ e
 moved_base marks e is = ap (λ w. record { bound = e.bound; why = w }) (ap (renumbered marks) is ∙ sym is)
 
 cut_front : (marks : List Bool) (k : ℕ) (xs ys : List Entry) → AllBase xs → FirstMarked marks (k + length xs) →

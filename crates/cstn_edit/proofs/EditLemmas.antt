@@ -11,14 +11,14 @@ use Rattle.cstn_rules.specs.Derivations.{Entry}
 use Rattle.cstn_log.specs.Entries.{State, the_entries}
 use Rattle.cstn_log.specs.Cuts.{dropped}
 use Rattle.cstn_change.specs.declared.errors.EditError.{EditError}
-use Rattle.cstn_change.specs.Changes.{Change, adds, Refusal, refusal}
+use Rattle.cstn_change.specs.Changes.{Change, adds, ChangeRefusal, refusal}
 use Rattle.cstn_edit.specs.declared.outcomes.Outcome.{Outcome}
 use Rattle.cstn_edit.specs.Sessions.{EditSessionParts, kept_of, kept_list}
 use Rattle.cstn_edit.specs.Edits.{Session, edited_of, with_edited, with_change, the_session}
 use Rattle.cstn_edit.proofs.CutLemmas.{kept_dropped}
 
 -- why a change is refused, by the parts of a session
-pub refusal_seen : (s v : EditSessionParts) (change : Change) (o : Option Refusal) → s ≡ v → o ≡ refusal s.room (edited_of (the_session s)) change
+pub refusal_seen : (s v : EditSessionParts) (change : Change) (o : Option ChangeRefusal) → s ≡ v → o ≡ refusal s.room (edited_of (the_session s)) change
     → o ≡ refusal v.room (edited_of (the_session v)) change
 refusal_seen s v change o same is = subst (λ (w : EditSessionParts). o ≡ refusal w.room (edited_of (the_session w)) change) same is
 

@@ -4,7 +4,7 @@ use Rattle.std.specs.Prelude.{if◌then◌else◌, Option, None, Some, Result, O
 use Rattle.cstn_net.specs.Limits.{most_constraints}
 use Rattle.cstn_text.specs.Numbers.{printed_number}
 use Rattle.cstn_rules.specs.Derivations.{Entry}
-use Rattle.cstn_log.specs.Cuts.{part}
+use Rattle.cstn_log.specs.Cuts.{last_with_ancestors}
 use Rattle.cstn_check.specs.declared.verdicts.Verdict.{Verdict}
 use Rattle.cstn_check.specs.declared.verdicts.Verdict.TheVariants.{Yes, No, Full}
 use Rattle.cstn_refute.specs.Steps.{printed_step}
@@ -13,8 +13,8 @@ use Rattle.cstn_lines.specs.EditLines.{Edit, added, removed, changed, asked}
 use Rattle.cstn_reply.specs.Texts.{line}
 use Rattle.cstn_reply.specs.Written.{EndsLine}
 use Rattle.cstn_reply.specs.Sessions.{Turn, more, last, wrong}
-use Rattle.cstn_change.specs.Changes.{Change, removes, revalues, Refusal, refusal}
-use Rattle.cstn_change.specs.ChangeLines.{refused_text, accepted_text, addition}
+use Rattle.cstn_change.specs.Changes.{Change, removes, revalues, ChangeRefusal, refusal}
+use Rattle.cstn_change.specs.ChangeLines.{refused_change_text, accepted_text, addition}
 use Rattle.cstn_edit.specs.Sessions.{EditSessionParts}
 use Rattle.cstn_edit.specs.Edits.{Session, edited_of, with_change, outcome_at, with_verdict, the_session}
 use Rattle.cstn_edit.specs.declared.outcomes.Outcome.{Outcome as Answered}
@@ -35,7 +35,7 @@ module _ (old : EditingParts) (s new : EditSessionParts) (names : List (List ℕ
       → answered_change (the_editing old) (Ok change) ≡ more said (the_editing (seen_with new names verdict))
   answer_by is = subst (λ (e : EditingParts). answered_change (the_editing e) (Ok change) ≡ more said (the_editing (seen_with new names verdict))) view is
 
-  why_by : (o : Option Refusal) → o ≡ refusal s.room (edited_of (the_session s)) change → o ≡ refusal most_constraints (edited_of (the_session s)) change
+  why_by : (o : Option ChangeRefusal) → o ≡ refusal s.room (edited_of (the_session s)) change → o ≡ refusal most_constraints (edited_of (the_session s)) change
   why_by o is = is ∙ ap (λ n. refusal n (edited_of (the_session s)) change) room
 
   -- an accepted edit
@@ -43,16 +43,16 @@ module _ (old : EditingParts) (s new : EditSessionParts) (names : List (List ℕ
       → the_session new ≡ with_change (the_session s) change → new.cap ≡ s.cap
       → answered_change (the_editing old) (Ok change) ≡ more said (the_editing (seen_with new names verdict))
   accepted none is next_is cap_is = answer_by
-      (ap (λ (r : Option Refusal). answered_edit (the_editing (seen_with s names verdict)) r (accepted_text s.next change) (with_change (the_session s) change)) (sym (why_by None none))
+      (ap (λ (r : Option ChangeRefusal). answered_edit (the_editing (seen_with s names verdict)) r (accepted_text s.next change) (with_change (the_session s) change)) (sym (why_by None none))
       ∙ ap (λ (xs : List ℕ). more xs (state_with s.cap names verdict (with_change (the_session s) change))) (sym is)
       ∙ ap (λ (x : Session). more said (state_with s.cap names verdict x)) (sym next_is)
       ∙ ap (λ (cap : ℕ). more said (state_with cap names verdict (the_session new))) (sym cap_is))
 
   -- a refused edit
-  pub refused : (why : Refusal) → Some why ≡ refusal s.room (edited_of (the_session s)) change → said ≡ line (refused_text why) → new ≡ s
+  pub refused : (why : ChangeRefusal) → Some why ≡ refusal s.room (edited_of (the_session s)) change → said ≡ line (refused_change_text why) → new ≡ s
       → answered_change (the_editing old) (Ok change) ≡ more said (the_editing (seen_with new names verdict))
   refused why some is same = answer_by
-      (ap (λ (r : Option Refusal). answered_edit (the_editing (seen_with s names verdict)) r (accepted_text s.next change) (with_change (the_session s) change)) (sym (why_by (Some why) some))
+      (ap (λ (r : Option ChangeRefusal). answered_edit (the_editing (seen_with s names verdict)) r (accepted_text s.next change) (with_change (the_session s) change)) (sym (why_by (Some why) some))
       ∙ ap (λ (xs : List ℕ). more xs (the_editing (seen_with s names verdict))) (sym is)
       ∙ ap (λ (x : EditSessionParts). more said (the_editing (seen_with x names verdict))) (sym same))
 
@@ -72,8 +72,8 @@ steps_end names k (e ∷ steps) = ends_after (10 ∷ printed_step names k e) (10
 verdict_ends : (cap : ℕ) (names : List (List ℕ)) (kept : List Entry) (v : Verdict) → Ends (verdict_text cap names kept v)
 verdict_ends cap names kept (Yes load) = (codes "yes " ++ decimal load, refl)
 verdict_ends cap names kept (No load) =
-    ends_after (codes "no ") (printed_number load ++ 10 ∷ printed_steps names 0 (part kept))
-    (ends_after (printed_number load) (10 ∷ printed_steps names 0 (part kept)) (steps_end names 0 (part kept)))
+    ends_after (codes "no ") (printed_number load ++ 10 ∷ printed_steps names 0 (last_with_ancestors kept))
+    (ends_after (printed_number load) (10 ∷ printed_steps names 0 (last_with_ancestors kept)) (steps_end names 0 (last_with_ancestors kept)))
 verdict_ends cap names kept Full = (codes "full " ++ decimal cap, refl)
 
 -- the text of an answer after which the session goes on
@@ -85,12 +85,12 @@ said_of wrong = []
 said_ends : {S : Type 0} (t : Turn S) (text : List ℕ) (next : S) → Ends (said_of t) → t ≡ more text next → EndsLine text
 said_ends t text next (front, is) same = inr (front, ap said_of (sym same) ∙ is)
 
-edit_ends : (e : Editing) (r : Option Refusal) (text : List ℕ) (next : Session) → Ends (said_of (answered_edit e r text next))
+edit_ends : (e : Editing) (r : Option ChangeRefusal) (text : List ℕ) (next : Session) → Ends (said_of (answered_edit e r text next))
 edit_ends e None text next = (text, refl)
-edit_ends e (Some why) text next = (refused_text why, refl)
+edit_ends e (Some why) text next = (refused_change_text why, refl)
 
-change_ends : (e : Editing) (r : Result Change Refusal) → Ends (said_of (answered_change e r))
-change_ends e (Err why) = (refused_text why, refl)
+change_ends : (e : Editing) (r : Result Change ChangeRefusal) → Ends (said_of (answered_change e r))
+change_ends e (Err why) = (refused_change_text why, refl)
 change_ends e (Ok change) =
     edit_ends e (refusal most_constraints (edited_of e.session) change) (accepted_text e.session.next change) (with_change e.session change)
 

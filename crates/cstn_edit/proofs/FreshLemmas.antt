@@ -12,7 +12,7 @@ use Rattle.cstn_net.specs.Read.{NetworkParts, the_network, the_constraint}
 use Rattle.cstn_rules.specs.declared.entries.Entry.{Entry as DeclaredEntry}
 use Rattle.cstn_rules.specs.Derivations.{Entry}
 use Rattle.cstn_check.specs.Spent.{AreSpent, is_fresh, fresh_count}
-use Rattle.cstn_change.specs.Changes.{with_value, without}
+use Rattle.cstn_change.specs.Changes.{with_value, constraints_without}
 use Rattle.cstn_log.specs.Entries.{State, the_entries}
 use Rattle.cstn_facts.proofs.Places.{take_step}
 use Rattle.cstn_edit.specs.Fresh.{constraint_ids, fresh_with, AreSome, IsFreshened}
@@ -162,9 +162,9 @@ module _ (net : Network) (list : List Entry) (fresh : List ℕ) (n : ℕ) (are :
       one_of ds d has apart = elim (Contains-push_cases ds c d has) [ inl old ↦ old | inr new ↦ absurd (apart new) ]
 
 -- a constraint that is left after one was taken out was there before
-pub left_there : (id : ℕ) (cs : List Constraint) (c : Constraint) → Contains (without id cs) c → Contains cs c
+pub left_there : (id : ℕ) (cs : List Constraint) (c : Constraint) → Contains (constraints_without id cs) c → Contains cs c
 left_there id cs c has =
-    All-contains (Contains cs) (without id cs) c (All-filter (λ d. not (d.id == id)) (Contains cs) cs (All-contains_itself cs)) has
+    All-contains (Contains cs) (constraints_without id cs) c (All-filter (λ d. not (d.id == id)) (Contains cs) cs (All-contains_itself cs)) has
 
 -- a constraint with another id was there before the one with this id got its value
 pub with_there : (id : ℕ) (most : ℤ) (cs : List Constraint) (c : Constraint) → Contains (map (with_value id most) cs) c → (c.id ≡ id → ⊥) → Contains cs c

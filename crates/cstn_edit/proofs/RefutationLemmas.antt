@@ -8,7 +8,7 @@ use Rattle.cstn_net.specs.Networks.{Network, IsWellFormed, count}
 use Rattle.cstn_rules.specs.declared.entries.Entry.{Entry as DeclaredEntry}
 use Rattle.cstn_rules.specs.Read.{the_entry}
 use Rattle.cstn_log.specs.Entries.{State, the_entries, AllNew}
-use Rattle.cstn_log.specs.Cuts.{part}
+use Rattle.cstn_log.specs.Cuts.{last_with_ancestors}
 use Rattle.cstn_refute.specs.Refutations.{RefutationParts, AreSteps, FitsText, the_steps}
 use Rattle.cstn_check.specs.declared.verdicts.Verdict.TheVariants.{No}
 use Rattle.cstn_check.specs.Turns.{LastRefutes}
@@ -40,7 +40,7 @@ kept_load net log o load kept refuted said =
 
 -- a refutation of the last entry of the log with its ancestors is in the ranges of a text
 pub kept_text : (net : Network) (log : State) (r : RefutationParts) → IsKeptLog net log → LastRefutes net (the_entries log.entries) →
-    r.load ≡ length log.entries → the_steps r ≡ part (the_entries log.entries) → length log.entries ≤ most_load → FitsText r
+    r.load ≡ length log.entries → the_steps r ≡ last_with_ancestors (the_entries log.entries) → length log.entries ≤ most_load → FitsText r
 kept_text net log r kept last load is few =
     let L = the_entries log.entries in
     let long : length L ≡ length log.entries = length-map log.entries the_entry in
@@ -48,7 +48,7 @@ kept_text net log r kept last load is few =
     (load ∙ sym long) is (omega (arith, few, long))
 
 module _ (net : Network) (log : State) (steps : List DeclaredEntry) (good : IsWellFormed net) (kept : IsKeptLog net log)
-    (last : LastRefutes net (the_entries log.entries)) (new : AllNew log.entries) (is : the_entries steps ≡ part (the_entries log.entries)) where
+    (last : LastRefutes net (the_entries log.entries)) (new : AllNew log.entries) (is : the_entries steps ≡ last_with_ancestors (the_entries log.entries)) where
   -- the last entry of the log with its ancestors has the form of the steps of a refutation
   pub kept_steps : length log.entries ≤ most_load → AreSteps steps
   kept_steps few =

@@ -30,7 +30,7 @@ use Rattle.cstn_log.proofs.MarkLemmas.{dropped_derivation}
 use Rattle.cstn_check.specs.declared.verdicts.Verdict.TheVariants.{Yes, No, Full}
 use Rattle.cstn_check.specs.Checks.{IsPrefix}
 use Rattle.cstn_check.specs.Growth.{is_refuted, grow, load_of, most_entries}
-use Rattle.cstn_check.specs.Kept.{IsKept}
+use Rattle.cstn_check.specs.Kept.{IsKeptList}
 use Rattle.cstn_check.specs.Turns.{IsRefutedLast}
 use Rattle.cstn_label.proofs.PlainLabels.{true_plain}
 use Rattle.cstn_check.proofs.Lists.{extends_through}
@@ -40,18 +40,19 @@ use Rattle.cstn_check.proofs.Decides.{grown_derivation, grown_by_last, grown_dec
 use Rattle.cstn_check.proofs.Ends.{grow_from}
 use Rattle.cstn_check.proofs.Starts.{GoesOn, bases_go_on, kept_from}
 use Rattle.cstn_edit.specs.declared.outcomes.Outcome.{Outcome}
-use Rattle.cstn_change.specs.Changes.{Refusal, NotObserved, adds, removes, revalues, is_value, least_unobserved, has_constraint, refusal, without, with_value}
+use Rattle.cstn_change.specs.Changes.{ChangeRefusal, NotObserved, adds, removes, revalues, is_value, least_unobserved, has_constraint, refusal, constraints_without, with_value}
 use Rattle.cstn_change.proofs.IdLemmas.{above_each, value_id}
+use Rattle.cstn_change.proofs.Values.{one_with, value_with}
 use Rattle.cstn_change.proofs.RefusalLemmas.{true_value, on_observed, none_mapped}
-use Rattle.cstn_edit.specs.Sessions.{kept_after, outcome_of, verdict_by}
+use Rattle.cstn_edit.specs.Sessions.{kept_after, new_outcome, verdict_by}
 use Rattle.cstn_edit.specs.Edits.{Session, begun_session, edited_of, with_edited, with_change, outcome_at, kept_at, with_verdict}
-use Rattle.cstn_edit.specs.Sound.{NoneDominated, IsTrueOf, IsLastTrue, IsSound}
+use Rattle.cstn_edit.specs.Sound.{NoneDominated, IsTrueOf, IsLastTrue, IsSoundSession}
 use Rattle.cstn_edit.proofs.CutLemmas.{dropped_front, dropped_last}
 use Rattle.cstn_edit.proofs.VerdictLemmas.{outcome_when, after_grown, after_log, after_bases}
 use Rattle.cstn_label.specs.OnLetters.{IsOnLetters}
 
 -- a session starts soundly
-pub begun_is_sound : (net : Network) → IsWellFormed net → IsSound (begun_session net)
+pub begun_is_sound : (net : Network) → IsWellFormed net → IsSoundSession (begun_session net)
 begun_is_sound net good =
     let on = bases_go_on net good.network good.letters in
     record {
@@ -65,11 +66,11 @@ begun_is_sound net good =
     }
 
 -- where a first test and the rest refuse nothing, each of them passes
-none_refused : (b : Bool) (r : Refusal) (o : Option Refusal) → (if b then Some r else o) ≡ None → (b ≡ false) × (o ≡ None)
+none_refused : (b : Bool) (r : ChangeRefusal) (o : Option ChangeRefusal) → (if b then Some r else o) ≡ None → (b ≡ false) × (o ≡ None)
 none_refused true r o e = cc
 none_refused false r o e = (refl, e)
 
-refused_unless : (b : Bool) (r : Refusal) → (if b then None else Some r) ≡ None → b ≡ true
+refused_unless : (b : Bool) (r : ChangeRefusal) → (if b then None else Some r) ≡ None → b ≡ true
 refused_unless true r e = refl
 refused_unless false r e = cc
 
@@ -102,7 +103,7 @@ accepted room s x y most a none =
 
 -- a session is sound after a constraint is added
 pub added_is_sound : (room : ℕ) (s : Session) (x y : ℕ) (most : ℤ) (a : Label) → room ≤ most_constraints → IsOnLetters a → x < count s.net → y < count s.net →
-    refusal room (edited_of s) (adds x y most a) ≡ None → IsSound s → IsSound (with_change s (adds x y most a))
+    refusal room (edited_of s) (adds x y most a) ≡ None → IsSoundSession s → IsSoundSession (with_change s (adds x y most a))
 added_is_sound room s x y most a few small from to none sound =
     let cs = s.net.constraints in
     let c : Constraint = record { id = s.next; from = x; to = y; most = most; label = a } in
@@ -146,9 +147,9 @@ dropped_apart list id a = record {
 }
 
 -- a sound session stays sound when one constraint is taken out or changed, and the entries that it gave are dropped
-others_sound : (s : Session) (id : ℕ) (cs : List Constraint) → IsSound s → IsWellFormed (with_constraints s.net cs) →
+others_sound : (s : Session) (id : ℕ) (cs : List Constraint) → IsSoundSession s → IsWellFormed (with_constraints s.net cs) →
     ((c : Constraint) → Contains s.net.constraints c → (c.id ≡ id → ⊥) → Contains cs c) → All (λ c. c.id < s.next) cs →
-    IsSound (with_edited (record { net = with_constraints s.net cs; fresh = s.next; edits = s.edits + 1 }) (dropped s.kept id))
+    IsSoundSession (with_edited (record { net = with_constraints s.net cs; fresh = s.next; edits = s.edits + 1 }) (dropped s.kept id))
 others_sound s id cs sound good others below =
     let left = dropped_front (count s.net) id sound.based.rest in
     record {
@@ -162,13 +163,13 @@ others_sound s id cs sound good others below =
     }
 
 -- a session is sound after a constraint is taken out
-pub removed_is_sound : (s : Session) (id : ℕ) → IsSound s → IsSound (with_change s (removes id))
+pub removed_is_sound : (s : Session) (id : ℕ) → IsSoundSession s → IsSoundSession (with_change s (removes id))
 removed_is_sound s id sound =
     let cs = s.net.constraints in
     let good = sound.well_formed in
     let test : Constraint → Bool = λ c. not (c.id == id) in
-    others_sound s id (without id cs) sound
-    (well_formed_with s.net (without id cs) good
+    others_sound s id (constraints_without id cs) sound
+    (well_formed_with s.net (constraints_without id cs) good
     (let both = length-filter_both (λ (c : Constraint). c.id == id) test (λ c. refl) cs in let few = good.few_constraints in omega arith)
     (All-filter test (IsConstraint s.net) cs good.network.constraints)
     (AllPairs-filter (λ b c. b.id < c.id) test cs good.ascending)
@@ -176,18 +177,8 @@ removed_is_sound s id sound =
     (λ c has other. filter_contains test cs c has (ap not (ne_eqb c.id id other)))
     (All-filter test (λ c. c.id < s.next) cs sound.below)
 
--- a constraint with another value keeps its id, and is one of the network
-one_with : (net : Network) (id : ℕ) (most : ℤ) (c : Constraint) → IsConstraint net c → IsConstraint net (with_value id most c)
-one_with net id most c h = elim (cases_Bool (c.id == id)) [
-  | inl t ↦ rw t (record { from = h.from; to = h.to; plain = h.plain; observed = h.observed })
-  | inr f ↦ rw f h
-]
-
-value_with : (id : ℕ) (most : ℤ) (c : Constraint) → IsValue most → IsValue c.most → IsValue (with_value id most c).most
-value_with id most c new old = elim (cases_Bool (c.id == id)) [ inl t ↦ rw t new | inr f ↦ rw f old ]
-
 -- a session is sound after a constraint gets another value
-value_is_sound : (s : Session) (id : ℕ) (most : ℤ) → IsValue most → IsSound s → IsSound (with_change s (revalues id most))
+value_is_sound : (s : Session) (id : ℕ) (most : ℤ) → IsValue most → IsSoundSession s → IsSoundSession (with_change s (revalues id most))
 value_is_sound s id most value sound =
     let cs = s.net.constraints in
     let good = sound.well_formed in
@@ -207,14 +198,14 @@ value_is_sound s id most value sound =
     (All-weaker (λ c. c.id < s.next) (λ c. (f c).id < s.next)
     (λ c below. (let same = value_id id most c in omega arith)) cs sound.below))
 
-pub changed_is_sound : (room : ℕ) (s : Session) (id : ℕ) (most : ℤ) → refusal room (edited_of s) (revalues id most) ≡ None → IsSound s → IsSound (with_change s (revalues id most))
+pub changed_is_sound : (room : ℕ) (s : Session) (id : ℕ) (most : ℤ) → refusal room (edited_of s) (revalues id most) ≡ None → IsSoundSession s → IsSoundSession (with_change s (revalues id most))
 changed_is_sound room s id most none sound =
     let one = none_refused (nat_le most_edits s.edits) _ _ none in
     let two = none_refused (not (has_constraint s.net id)) _ _ one.1 in
     value_is_sound s id most (true_value most (refused_unless (is_value most) _ two.1)) sound
 
 -- growth goes on from the kept list of a sound session
-pub sound_goes_on : (s : Session) → IsSound s → GoesOn s.net s.kept
+pub sound_goes_on : (s : Session) → IsSoundSession s → GoesOn s.net s.kept
 sound_goes_on s sound = record {
   kept = kept_from s.net sound.well_formed s.kept sound.derivation (record { more = sound.based.rest; is = sound.based.is }) sound.apart.apart;
   derivation = sound.derivation;
@@ -235,7 +226,7 @@ grown_kept_of net list good k =
     let all = extends_through (bases (count net)) list (grow net list) (record { more = k.based.rest; is = k.based.is }) (grow_from net good.network good.letters list on.kept 0) in
     record {
       on = record {
-        kept = grown_keeps net (IsKept net) (kept_more net good.network good.letters) list (length list + most_entries net) on.kept;
+        kept = grown_keeps net (IsKeptList net) (kept_more net good.network good.letters) list (length list + most_entries net) on.kept;
         derivation = grown_derivation net list good.network good.letters on;
         last = grown_by_last net list good.network good.letters on;
       };
@@ -261,7 +252,7 @@ by_is_true net list good on =
     ]
 
 -- the verdict of a new outcome is true
-pub new_is_true : (net : Network) (cap : ℕ) (list : List Entry) → IsWellFormed net → GoesOn net list → IsTrueOf net (outcome_of net cap list).verdict
+pub new_is_true : (net : Network) (cap : ℕ) (list : List Entry) → IsWellFormed net → GoesOn net list → IsTrueOf net (new_outcome net cap list).verdict
 new_is_true net cap list good on = elim (cases_Bool (nat_lt cap (length (grow net list)))) [
   | inr short ↦
       let room = ltb-false cap (length (grow net list)) short in
@@ -279,17 +270,17 @@ new_is_true net cap list good on = elim (cases_Bool (nat_lt cap (length (grow ne
 ]
 
 -- the outcome of a sound session is true
-pub outcome_is_true : (cap : ℕ) (s : Session) → IsSound s → IsTrueOf s.net (outcome_at cap s).verdict
+pub outcome_is_true : (cap : ℕ) (s : Session) → IsSoundSession s → IsTrueOf s.net (outcome_at cap s).verdict
 outcome_is_true cap s sound = told s.last sound.last
   where
     told : (last : Option Outcome) → IsLastTrue s.net last → IsTrueOf s.net (outcome_at cap (record s { last = last })).verdict
     told None none = new_is_true s.net cap s.kept sound.well_formed (sound_goes_on s sound)
     told (Some o) is = is
 
-pub yes_is_true : (cap load : ℕ) (s : Session) → IsSound s → (outcome_at cap s).verdict ≡ Yes load → IsConsistent s.net
+pub yes_is_true : (cap load : ℕ) (s : Session) → IsSoundSession s → (outcome_at cap s).verdict ≡ Yes load → IsConsistent s.net
 yes_is_true cap load s sound said = subst (IsTrueOf s.net) said (outcome_is_true cap s sound)
 
-pub no_is_true : (cap load : ℕ) (s : Session) → IsSound s → (outcome_at cap s).verdict ≡ No load → IsConsistent s.net → ⊥
+pub no_is_true : (cap load : ℕ) (s : Session) → IsSoundSession s → (outcome_at cap s).verdict ≡ No load → IsConsistent s.net → ⊥
 no_is_true cap load s sound said = subst (IsTrueOf s.net) said (outcome_is_true cap s sound)
 
 -- a new outcome is full exactly where both the kept list and the log of the network grow longer than the cap
@@ -300,7 +291,7 @@ never_full net list full = elim (cases_Bool (is_refuted net list)) [
 ]
 
 pub new_is_full : (net : Network) (cap : ℕ) (list : List Entry) →
-    (outcome_of net cap list).verdict ≡ Full ↔ ((cap < length (grow net list)) × (cap < load_of net))
+    (new_outcome net cap list).verdict ≡ Full ↔ ((cap < length (grow net list)) × (cap < load_of net))
 new_is_full net cap list = (
   λ full. elim (cases_Bool (nat_lt cap (length (grow net list)))) [
     | inr short ↦ absurd (never_full net (kept_after net cap list)
@@ -318,12 +309,12 @@ new_is_full net cap list = (
 pub full_is_exact : (cap : ℕ) (s : Session) → s.last ≡ None →
     (outcome_at cap s).verdict ≡ Full ↔ ((cap < length (grow s.net s.kept)) × (cap < load_of s.net))
 full_is_exact cap s none =
-    let fresh = outcome_of s.net cap s.kept in
+    let fresh = new_outcome s.net cap s.kept in
     subst (λ (o : Outcome). o.verdict ≡ Full ↔ ((cap < length (grow s.net s.kept)) × (cap < load_of s.net)))
     (sym (ap (λ l. unwrap_or l fresh) none)) (new_is_full s.net cap s.kept)
 
 -- a session stays sound after a verdict
-pub verdict_is_sound : (cap : ℕ) (s : Session) → IsSound s → IsSound (with_verdict cap s)
+pub verdict_is_sound : (cap : ℕ) (s : Session) → IsSoundSession s → IsSoundSession (with_verdict cap s)
 verdict_is_sound cap s sound =
     let k = kept s.last in
     record {

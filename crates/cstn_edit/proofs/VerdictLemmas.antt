@@ -27,7 +27,7 @@ use Rattle.cstn_check.proofs.Decides.{grown_derivation, grown_by_last, grown_las
 use Rattle.cstn_check.proofs.Grows.{grown_extends}
 use Rattle.cstn_check.proofs.Ends.{grow_from, load_above}
 use Rattle.cstn_edit.specs.declared.outcomes.Outcome.{Outcome}
-use Rattle.cstn_edit.specs.Sessions.{IsKeptLog, Refuted as AfterNo, kept_list, kept_after, outcome_of, verdict_by}
+use Rattle.cstn_edit.specs.Sessions.{IsKeptLog, Refuted as AfterNo, kept_list, kept_after, new_outcome, verdict_by}
 
 pub first_bases : (net : Network) (cap : ℕ) → count net ≤ cap → first_entries net cap ≡ bases (count net)
 first_bases net cap room = cond-false _ _ _ (le-ltb cap (count net) room)
@@ -105,7 +105,7 @@ afresh_spent net cap load v good is yes' = elim (cases_Bool (nat_lt cap (load_of
 -- the outcome, from the answers of its two tests
 pub outcome_when : (net : Network) (cap : ℕ) (kept : List Entry) (b d : Bool) → nat_lt cap (length (grow net kept)) ≡ b →
     nat_lt cap (load_of net) ≡ d →
-    outcome_of net cap kept ≡ record { afresh = b; verdict = if b && d then FullVerdict else verdict_by net (kept_after net cap kept) }
+    new_outcome net cap kept ≡ record { afresh = b; verdict = if b && d then FullVerdict else verdict_by net (kept_after net cap kept) }
 outcome_when net cap kept b d one other =
     let of : Bool → Bool → Outcome = λ x y. record { afresh = x; verdict = if x && y then FullVerdict else verdict_by net (kept_after net cap kept) } in
     ap (λ x. of x (nat_lt cap (load_of net))) one ∙ ap (of b) other
@@ -191,10 +191,10 @@ module _ (net : Network) (cap : ℕ) (good : IsWellFormed net) (small : cap < co
   pub small_kept : (entries : List Entry) → kept_list net cap entries ≡ bases (count net)
   small_kept entries = cond-true _ _ _ (lt-ltb cap (count net) small)
 
-  pub small_outcome : (entries : List Entry) → record { afresh = true; verdict = FullVerdict } ≡ outcome_of net cap (kept_list net cap entries)
+  pub small_outcome : (entries : List Entry) → record { afresh = true; verdict = FullVerdict } ≡ new_outcome net cap (kept_list net cap entries)
   small_outcome entries =
       let test = lt-ltb cap (load_of net) cap_below_load in
-      sym (ap (outcome_of net cap) (small_kept entries) ∙ outcome_when net cap (bases (count net)) true true test test)
+      sym (ap (new_outcome net cap) (small_kept entries) ∙ outcome_when net cap (bases (count net)) true true test test)
 
   pub small_after : (entries : List Entry) → kept_list net cap entries ≡ kept_after net cap (kept_list net cap entries)
   small_after entries =
@@ -228,11 +228,11 @@ room_kept net cap entries room = cond-false _ _ _ (le-ltb cap (count net) room)
 
 -- the outcome where the kept list has room to grow
 pub grown_outcome : (net : Network) (cap : ℕ) (entries : List Entry) (v : Verdict) → count net ≤ cap → length (grow net entries) ≤ cap →
-    v ≡ verdict_by net (grow net entries) → record { afresh = false; verdict = v } ≡ outcome_of net cap (kept_list net cap entries)
+    v ≡ verdict_by net (grow net entries) → record { afresh = false; verdict = v } ≡ new_outcome net cap (kept_list net cap entries)
 grown_outcome net cap entries v room short is =
     let by : Verdict → Outcome = λ x. record { afresh = false; verdict = x } in
     ap by (is ∙ ap (verdict_by net) (sym (after_grown net cap entries short)))
-    ∙ sym (ap (outcome_of net cap) (room_kept net cap entries room)
+    ∙ sym (ap (new_outcome net cap) (room_kept net cap entries room)
     ∙ outcome_when net cap entries false (nat_lt cap (load_of net)) (le-ltb cap (length (grow net entries)) short) refl)
 
 -- after a no the network is not consistent
@@ -244,7 +244,7 @@ no_true net s o load good kept after said c =
     (record { derivation = kept.derivation; last = l.last; is_last = l.is_last; refutes = l.refutes }) c
 
 -- where the kept list wasn't thrown away for a verdict, it is a front of the one after it
-pub prefix_of : (net : Network) (cap : ℕ) (kept after : List Entry) (o : Outcome) → o ≡ outcome_of net cap kept →
+pub prefix_of : (net : Network) (cap : ℕ) (kept after : List Entry) (o : Outcome) → o ≡ new_outcome net cap kept →
     after ≡ kept_after net cap kept → o.afresh ≡ false → (more : List Entry) × (kept ++ more ≡ after)
 prefix_of net cap kept after o is list not =
     let test : nat_lt cap (length (grow net kept)) ≡ false = sym (ap (λ (x : Outcome). x.afresh) is) ∙ not in

@@ -4,18 +4,18 @@ use Rattle.cstn_net.specs.Limits.{most_time_points, most_constraints}
 use Rattle.cstn_net.specs.Networks.{Network, count}
 use Rattle.cstn_net.specs.Read.{the_network}
 use Rattle.cstn_rules.specs.Derivations.{Entry}
-use Rattle.cstn_log.specs.Cuts.{part}
+use Rattle.cstn_log.specs.Cuts.{last_with_ancestors}
 use Rattle.cstn_check.specs.declared.verdicts.Verdict.{Verdict}
 use Rattle.cstn_check.specs.declared.verdicts.Verdict.TheVariants.{Yes, No, Full as IsFull}
-use Rattle.cstn_refute.specs.Texts.{shown}
+use Rattle.cstn_refute.specs.Texts.{refutation_shown}
 use Rattle.cstn_lines.specs.LiveLines.{cut_at_space}
 use Rattle.cstn_lines.specs.EditLines.{Edit, added, removed, changed, asked, edit_read}
 use Rattle.cstn_reply.specs.Texts.{line, yes_line, full_line, Said}
 use Rattle.cstn_reply.specs.Sessions.{Turn, more, wrong, on_turn}
 use Rattle.cstn_reply.specs.declared.output.Outcome.{Outcome}
 use Rattle.cstn_reply.specs.declared.output.Outcome.TheVariants.{Good, Bad, Full}
-use Rattle.cstn_change.specs.Changes.{Change, removes, revalues, Refusal, refusal}
-use Rattle.cstn_change.specs.ChangeLines.{refused_text, accepted_text, addition}
+use Rattle.cstn_change.specs.Changes.{Change, removes, revalues, ChangeRefusal, refusal}
+use Rattle.cstn_change.specs.ChangeLines.{refused_change_text, accepted_text, addition}
 use Rattle.cstn_edit.specs.Sessions.{EditSessionParts}
 use Rattle.cstn_edit.specs.Edits.{Session, begun_session, edited_of, with_change, outcome_at, with_verdict, the_session}
 use Rattle.cstn_edit.specs.declared.outcomes.Outcome.{Outcome as Answered}
@@ -32,20 +32,20 @@ abbrev pub begun_editing : ℕ → List (List ℕ) → Network → Editing
 begun_editing cap names net = record { cap = cap; names = names; session = begun_session net; verdict = None }
 
 -- the answer to an edit: why it is refused, or what is said of it and the session that follows
-abbrev pub answered_edit : Editing → Option Refusal → List ℕ → Session → Turn Editing
+abbrev pub answered_edit : Editing → Option ChangeRefusal → List ℕ → Session → Turn Editing
 answered_edit e None text next = more (line text) (record e { session = next })
-answered_edit e (Some why) text next = more (line (refused_text why)) e
+answered_edit e (Some why) text next = more (line (refused_change_text why)) e
 
 -- the answer to a change, or to an addition whose ends aren't both known
-abbrev pub answered_change : Editing → Result Change Refusal → Turn Editing
-answered_change e (Err why) = more (line (refused_text why)) e
+abbrev pub answered_change : Editing → Result Change ChangeRefusal → Turn Editing
+answered_change e (Err why) = more (line (refused_change_text why)) e
 answered_change e (Ok change) =
     answered_edit e (refusal most_constraints (edited_of e.session) change) (accepted_text e.session.next change) (with_change e.session change)
 
 -- what is said of a verdict: its load, after a no with the steps of the kept list that refute, or that the list is full
 abbrev pub verdict_text : ℕ → List (List ℕ) → List Entry → Verdict → List ℕ
 verdict_text cap names kept (Yes load) = yes_line load
-verdict_text cap names kept (No load) = shown names load (part kept)
+verdict_text cap names kept (No load) = refutation_shown names load (last_with_ancestors kept)
 verdict_text cap names kept IsFull = full_line cap
 
 abbrev pub outcome_text : ℕ → List (List ℕ) → List Entry → Answered → List ℕ

@@ -6,9 +6,9 @@ use Rattle.cstn_net.specs.Read.{the_network}
 use Rattle.cstn_rules.specs.Derivations.{Entry}
 use Rattle.cstn_log.specs.Entries.{bases}
 use Rattle.cstn_log.specs.Cuts.{dropped}
-use Rattle.cstn_change.specs.Changes.{EditedNetwork, Change, adds, removes, revalues, id_above, after}
+use Rattle.cstn_change.specs.Changes.{EditedNetwork, Change, adds, removes, revalues, id_above, edited_by}
 use Rattle.cstn_edit.specs.declared.outcomes.Outcome.{Outcome}
-use Rattle.cstn_edit.specs.Sessions.{EditSessionParts, kept_of, kept_after, outcome_of}
+use Rattle.cstn_edit.specs.Sessions.{EditSessionParts, kept_of, kept_after, new_outcome}
 
 -- a session: the network as edited, the list of bounds kept between its verdicts, the number of accepted edits, the id of the next
 -- constraint that is added, above all ever used, and the outcome of the last verdict, or none where an edit was accepted since
@@ -40,11 +40,11 @@ with_edited e kept = record { net = e.net; kept = kept; edits = e.edits; next = 
 
 -- the session after a change
 abbrev pub with_change : Session → Change → Session
-with_change s change = with_edited (after (edited_of s) change) (kept_through s.kept change)
+with_change s change = with_edited (edited_by (edited_of s) change) (kept_through s.kept change)
 
 -- the outcome of a verdict: the last one, or a new one where an edit was accepted since
 abbrev pub outcome_at : ℕ → Session → Outcome
-outcome_at cap s = unwrap_or s.last (outcome_of s.net cap s.kept)
+outcome_at cap s = unwrap_or s.last (new_outcome s.net cap s.kept)
 
 -- the kept list after a verdict, which leaves it as it is where the last outcome still stands
 abbrev pub kept_at : ℕ → Session → Option Outcome → List Entry

@@ -54,8 +54,8 @@ verdict_by net list = if is_refuted net list then No (length list) else Yes (len
 
 -- a new outcome: growth starts afresh where the kept list grows past the cap, and the verdict is full where the log of the
 -- network is longer than the cap as well
-abbrev pub outcome_of : Network → ℕ → List Entry → Outcome
-outcome_of net cap kept = record {
+abbrev pub new_outcome : Network → ℕ → List Entry → Outcome
+new_outcome net cap kept = record {
   afresh = nat_lt cap (length (grow net kept));
   verdict = if nat_lt cap (length (grow net kept)) && nat_lt cap (load_of net) then Full else verdict_by net (kept_after net cap kept);
 }

@@ -30,7 +30,7 @@ IsLastTrue net (Some o) = IsTrueOf net o.verdict
 
 -- the network is well-formed, with ids below the next one; the kept list is a derivation of it from the base bounds, in which
 -- no entry but perhaps the last refutes and none is dominated by an earlier one; and the last outcome is true
-pub record IsSound (s : Session) : Type 0 where
+pub record IsSoundSession (s : Session) : Type 0 where
   pub well_formed : IsWellFormed s.net
   pub below : All (λ c. c.id < s.next) s.net.constraints
   pub derivation : IsDerivation s.net s.kept

@@ -10,7 +10,7 @@ ghost use Rattle.cstn_check.specs.Growth.{grow, log_of, load_of};
 ghost use Rattle.cstn_check.specs.declared.growth.Grown.{Grown};
 ghost use Rattle.cstn_check.specs.Spent.{AreSpent, fresh_count, most_tries};
 ghost use Rattle.cstn_check.specs.Turns.{IsGrowable, IsGrown, KeepIds, LastRefutes};
-ghost use Rattle.cstn_edit.specs.Sessions.{IsKeptLog, Refuted, Consistent, kept_list, kept_after, outcome_of, verdict_by};
+ghost use Rattle.cstn_edit.specs.Sessions.{IsKeptLog, Refuted, Consistent, kept_list, kept_after, new_outcome, verdict_by};
 
 use crate::outcomes::Outcome;
 use cstn_check::{Grown, Verdict, grow, grow_on, verdict_of};
@@ -30,7 +30,7 @@ pub fn answer(
     requires kept { IsKeptLog (the_network net.now) log.old }
     requires births { log.old.births < 2 ^ 60 }
     requires spent { settled ≡ true → AreSpent (the_network net.now) (the_entries log.old.entries) fresh.now (length log.old.entries) }
-    ensures outcome { result ≡ outcome_of (the_network net.now) log.old.cap (kept_list (the_network net.now) log.old.cap (the_entries log.old.entries)) }
+    ensures outcome { result ≡ new_outcome (the_network net.now) log.old.cap (kept_list (the_network net.now) log.old.cap (the_entries log.old.entries)) }
     ensures list { kept_list (the_network net.now) log.old.cap (the_entries log.new.entries)
         ≡ kept_after (the_network net.now) log.old.cap (kept_list (the_network net.now) log.old.cap (the_entries log.old.entries)) }
     ensures kept { IsKeptLog (the_network net.now) log.new }

@@ -7,8 +7,8 @@ ghost use Rattle.cstn_net.specs.Limits.{most_constraints};
 ghost use Rattle.cstn_net.specs.Networks.{count};
 ghost use Rattle.cstn_net.specs.Read.{the_network};
 ghost use Rattle.cstn_text.specs.Names.{number_of};
-ghost use Rattle.cstn_refute.specs.Texts.{shown};
-ghost use Rattle.cstn_log.specs.Cuts.{part};
+ghost use Rattle.cstn_refute.specs.Texts.{refutation_shown};
+ghost use Rattle.cstn_log.specs.Cuts.{last_with_ancestors};
 ghost use Rattle.cstn_change.specs.Changes.{adds, removes, revalues};
 ghost use Rattle.cstn_change.specs.ChangeLines.{addition};
 ghost use Rattle.cstn_edit.specs.Sessions.{kept_of};
@@ -176,7 +176,7 @@ impl Editing {
     fn put_refutation(&self, text: &mut AnswerText) -> Result<(), AllocError>
         requires no { (o : Answered) × (load : ℕ) × (self.now.session.last ≡ Some o) × (o.verdict ≡ Verdict.No load) }
         ensures { OnOk result (text.new ≡ text.old
-            ++ shown self.now.names (length (kept_of self.now.session)) (part (kept_of self.now.session))) }
+            ++ refutation_shown self.now.names (length (kept_of self.now.session)) (last_with_ancestors (kept_of self.now.session))) }
     {
         let refutation = self.session.refutation(self.alloc)?;
         let printed = refutation.print(self.alloc, &self.names)?;

@@ -10,7 +10,7 @@ ghost use Rattle.cstn_net.specs.Strategies.{IsConsistent};
 ghost use Rattle.cstn_net.specs.Read.{the_network, without_id, with_most};
 ghost use Rattle.cstn_rules.specs.Derivations.{Entry, IsDerivation, IsRefutation};
 ghost use Rattle.cstn_log.specs.Entries.{bases, the_entries};
-ghost use Rattle.cstn_log.specs.Cuts.{chosen, dropped, marked_staying, part};
+ghost use Rattle.cstn_log.specs.Cuts.{chosen, dropped, marked_staying, last_with_ancestors};
 ghost use Rattle.cstn_check.specs.declared.verdicts.Verdict.{Verdict};
 ghost use Rattle.cstn_check.specs.Growth.{grow, load_of};
 ghost use Rattle.cstn_refute.specs.Refutations.{FitsText, the_steps};
@@ -18,9 +18,9 @@ ghost use Rattle.cstn_check.specs.Spent.{most_tries};
 ghost use Rattle.cstn_check.specs.Turns.{KeepIds};
 ghost use Rattle.cstn_edit.specs.Fresh.{fresh_with, constraint_ids};
 ghost use Rattle.cstn_change.specs.Changes.{adds, removes, revalues, id_above, refusal};
-ghost use Rattle.cstn_change.specs.Read.{refusal_of};
+ghost use Rattle.cstn_change.specs.Read.{change_refusal};
 ghost use Rattle.cstn_change.specs.declared.errors.EditError.{EditError};
-ghost use Rattle.cstn_edit.specs.Sessions.{kept_of, kept_after, outcome_of};
+ghost use Rattle.cstn_edit.specs.Sessions.{kept_of, kept_after, new_outcome};
 ghost use Rattle.cstn_edit.specs.Edits.{the_session, edited_of, begun_session, with_change, outcome_at, with_verdict};
 
 use crate::answers::answer;
@@ -142,7 +142,7 @@ impl Session {
             → (IsErrOf result (EditError.NotObserved p)
             ↔ ((self.old.edits < most_edits) × (length self.old.net.constraints < self.old.room) × IsValue most × IsPlain (marks label)
             × IsLeastUnobserved (the_network self.old.net) (marks label) p.index)) }
-        ensures refusal { refusal_of result ≡ refusal self.old.room (edited_of (the_session self.old)) (adds from.0 to.0 most (marks label)) }
+        ensures refusal { change_refusal result ≡ refusal self.old.room (edited_of (the_session self.old)) (adds from.0 to.0 most (marks label)) }
         ensures id { IfOk result (λ id. id ≡ self.old.next) }
         ensures added { IfOk result (λ id. self.new
             ≡ record self.old {
@@ -184,7 +184,7 @@ impl Session {
         ensures limit { IsErrOf result EditError.EditLimit ↔ (self.old.edits ≡ most_edits) }
         ensures none { (other : ℕ) → (IsErrOf result (EditError.NoSuch other)
             ↔ ((self.old.edits < most_edits) × All (λ c. c.id ≢ id) self.old.net.constraints × (other ≡ id))) }
-        ensures refusal { refusal_of result ≡ refusal self.old.room (edited_of (the_session self.old)) (removes id) }
+        ensures refusal { change_refusal result ≡ refusal self.old.room (edited_of (the_session self.old)) (removes id) }
         ensures removed { IsOk result → self.new
             ≡ record self.old {
               net = record self.old.net { constraints = without_id id self.old.net.constraints; spare = self.old.net.spare + 1 };
@@ -228,7 +228,7 @@ impl Session {
             ↔ ((self.old.edits < most_edits) × All (λ c. c.id ≢ id) self.old.net.constraints × (other ≡ id))) }
         ensures value { (v : ℤ) → (IsErrOf result (EditError.ValueRange v)
             ↔ ((self.old.edits < most_edits) × (All (λ c. c.id ≢ id) self.old.net.constraints → ⊥) × (IsValue most → ⊥) × (v ≡ most))) }
-        ensures refusal { refusal_of result ≡ refusal self.old.room (edited_of (the_session self.old)) (revalues id most) }
+        ensures refusal { change_refusal result ≡ refusal self.old.room (edited_of (the_session self.old)) (revalues id most) }
         ensures changed { IsOk result → self.new
             ≡ record self.old {
               net = record self.old.net { constraints = map (with_most id most) self.old.net.constraints };
@@ -265,7 +265,7 @@ impl Session {
     /// The verdict of the network as edited. The kept list is grown for it, or the log of the network afresh where that list
     /// gets longer than the cap. The outcome stands until the next accepted edit.
     pub fn verdict(&mut self) -> Outcome
-        ensures outcome { self.old.last ≡ None → result ≡ outcome_of (the_network self.old.net) self.old.cap (kept_of self.old) }
+        ensures outcome { self.old.last ≡ None → result ≡ new_outcome (the_network self.old.net) self.old.cap (kept_of self.old) }
         ensures kept { self.old.last ≡ None → kept_of self.new ≡ kept_after (the_network self.old.net) self.old.cap (kept_of self.old) }
         ensures same { self.new ≡ record self.old {
           entries = self.new.entries;
@@ -315,7 +315,7 @@ impl Session {
     /// list with its ancestors, and how long the list is. Fails for want of memory alone.
     pub fn refutation(&self, alloc: Global) -> Result<Refutation, AllocError>
         requires no { (o : Outcome) × (load : ℕ) × (self.now.last ≡ Some o) × (o.verdict ≡ Verdict.No load) }
-        ensures part { IfOk result (λ r. the_steps r ≡ part (kept_of self.now)) }
+        ensures part { IfOk result (λ r. the_steps r ≡ last_with_ancestors (kept_of self.now)) }
         ensures load { IfOk result (λ r. r.load ≡ length (kept_of self.now)) }
         ensures refutes { IfOk result (λ r. IsRefutation (the_network self.now.net) (the_steps r)) }
 

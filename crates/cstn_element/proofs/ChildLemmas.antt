@@ -11,8 +11,8 @@ use Rattle.cstn_element.specs.Results.Refusal.{shape}
 use Rattle.cstn_element.specs.Contents.{Tag, Content, contents, inner, outer, all_cut, opened, tag_of}
 use Rattle.cstn_element.specs.Contents.Content.{done, cut, run, element}
 use Rattle.cstn_element.specs.Elements.{Reading, read_by, blank}
-use Rattle.cstn_element.specs.Children.{past_blanks, Reaches, IsNext, Takes}
-use Rattle.cstn_element.specs.Reads.{Reads, Continues, Fails, inside, behind}
+use Rattle.cstn_element.specs.Children.{past_blanks, Reaches, BeginsWithPart, TakesTokens}
+use Rattle.cstn_element.specs.Reads.{Reads, ReadsFurther, Fails, inside, behind}
 use Rattle.cstn_element.specs.declared.children.Start.{Start}
 use Rattle.cstn_element.specs.declared.children.Next.{Next}
 use Rattle.cstn_element.specs.declared.children.Next.TheVariants.{Child}
@@ -58,11 +58,11 @@ starts names first before after at child attributes closed c h d =
     record { told = c.0 ∙ ap (λ cs. past_blanks (inner cs)) e; left = c.1 ∙ ap outer e }
 
 -- two equal answers of `next_child` say the same of what stands next
-pub next_is : (n m : Next) (name : List ℕ) (others : List (List ℕ)) (before after : List Token) → IsNext n name others before after → n ≡ m → IsNext m name others before after
-next_is n m name others before after h e = subst (λ x. IsNext x name others before after) e h
+pub next_is : (n m : Next) (name : List ℕ) (others : List (List ℕ)) (before after : List Token) → BeginsWithPart n name others before after → n ≡ m → BeginsWithPart m name others before after
+next_is n m name others before after h e = subst (λ x. BeginsWithPart x name others before after) e h
 
-pub takes_one : (n : Next) (start : Start) (before after : ℕ) → Takes n before after → n ≡ Child start → after < before
-takes_one n start before after h e = subst (λ x. Takes x before after) e h
+pub takes_one : (n : Next) (start : Start) (before after : ℕ) → TakesTokens n before after → n ≡ Child start → after < before
+takes_one n start before after h e = subst (λ x. TakesTokens x before after) e h
 
 -- a reading in which white space changes no state and any other text is refused
 module _ {S A : Type 0} (r : Reading S A) (blanks : (s : S) (at : ℕ) (raw : List ℕ) → r.runs s at raw ≡ (blank at raw >>= λ same. Ok s)) where
@@ -78,12 +78,12 @@ module _ {S A : Type 0} (r : Reading S A) (blanks : (s : S) (at : ℕ) (raw : Li
   read_past s (run at raw after) = ap (λ o. o >>= λ t. read_by r t after) (blanks s at raw) ∙ blank_by (list_all is_white raw) s at after (read_past s after)
   read_past s (element tag content after) = refl
 
-  module _ (start s : S) (name : List ℕ) (others : List (List ℕ)) (first before : List Token) (c : Continues (read_by r start) (read_by r s) (name ∷ others) first before) where
+  module _ (start s : S) (name : List ℕ) (others : List (List ℕ)) (first before : List Token) (c : ReadsFurther (read_by r start) (read_by r s) (name ∷ others) first before) where
     -- behind a child that was read, the reading goes on in the state that the child made
     pub fold_child : (t : S) (tag : Tag) (closed : Bool) (after later : List Token)
         → Reaches (name ∷ others) before (element tag (inside closed tag.at tag.name (name ∷ others) after) (inner (behind closed tag.name (name ∷ others) after))) (outer (behind closed tag.name (name ∷ others) after))
         → r.elements s tag (inside closed tag.at tag.name (name ∷ others) after) ≡ Ok t → behind closed tag.name (name ∷ others) after ≡ contents (name ∷ others) later
-        → Continues (read_by r start) (read_by r t) (name ∷ others) first later
+        → ReadsFurther (read_by r start) (read_by r t) (name ∷ others) first later
     unfolding read_by
     fold_child t tag closed after later n m l = record {
       told = c.told ∙ read_past s _ ∙ ap (read_by r s) n.told ∙ ap (λ o. o >>= λ u. read_by r u (inner (behind closed tag.name (name ∷ others) after))) m ∙ ap (λ cs. read_by r t (inner cs)) l;

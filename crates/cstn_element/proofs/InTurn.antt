@@ -10,7 +10,7 @@ use Rattle.cstn_element.specs.Results.Refusal.{shape}
 use Rattle.cstn_element.specs.Contents.{content_of}
 use Rattle.cstn_element.specs.Elements.{Reading, read_by}
 use Rattle.cstn_element.specs.Children.{tag_seen}
-use Rattle.cstn_element.specs.InTurn.{PassesBlanks, IsAt, GoesOn, IsRefusedInside, IsRefusedNext, IsEnded, GoesOnInDocument, IsRefusedInDocument, PassesBlank, IsStray, IsRefusedAt, IsFinished}
+use Rattle.cstn_element.specs.InTurn.{PassesBlanks, ReadingIsAt, GoesOnBehind, IsRefusedInside, IsRefusedNext, IsEnded, GoesOnInDocument, IsRefusedInDocument, PassesBlank, IsStray, IsRefusedAt, IsFinished}
 use Rattle.cstn_element.specs.declared.children.Next.TheVariants.{Child, End, Wrong}
 use Rattle.cstn_element.specs.declared.errors.DocError.TheVariants.{Shape}
 use Rattle.cstn_element.proofs.Places.{step_of, wrong_is}
@@ -20,7 +20,7 @@ use Rattle.cstn_element.proofs.Judging.{blank_refused, blank_passed}
 use Rattle.cstn_element.proofs.Tops.{top_cut, top_end, top_run_fails, top_whole_fails, ends_none, finished_is}
 
 module _ (S A : Type 0) (r : Reading S A) (blanks : PassesBlanks S A r) where
-  pub goes_on : GoesOn S A r
+  pub goes_on : GoesOnBehind S A r
   goes_on begun now later name others first before inside behind next start c n is q =
       fold_child r blanks begun now name others first before c later (tag_seen start) start.closed inside behind (next_is next (Child start) name others before inside n is) q.told q.left
 
@@ -36,7 +36,7 @@ module _ (S A : Type 0) (r : Reading S A) (blanks : PassesBlanks S A r) where
   blank_passes begun now first before after t raw c h is white =
       fold_run r begun (λ (a : A). a) now now [] t.at raw.now first before after c (step_of t (Text raw) before after h is) (blanks now t.at raw.now ∙ blank_passed now t.at raw.now white)
 
-  stray : (k : Lent) (begun now : S) (first before after : List Token) (t : LentToken) → IsAt r begun now [] first before → Steps (token_of t) before after → t.kind ≡ k → IsStray k → read_by r begun (content_of first) ≡ Err (shape t.at)
+  stray : (k : Lent) (begun now : S) (first before after : List Token) (t : LentToken) → ReadingIsAt r begun now [] first before → Steps (token_of t) before after → t.kind ≡ k → IsStray k → read_by r begun (content_of first) ≡ Err (shape t.at)
   stray (StartTag name attributes closed) begun now first before after t c h is s = absurd s
   stray (EndTag name) begun now first before after t c h is s = top_cut r begun now t.at first before c (ends_none name.now t.at before after (step_of t (EndTag name) before after h is))
   stray (Text raw) begun now first before after t c h is s =

@@ -11,7 +11,7 @@ use Rattle.cstn_markup.specs.Bytes.{◌>>=◌, when, past}
 use Rattle.cstn_markup.proofs.Rests.{bind_some, when_some, some_is, which}
 use Rattle.cstn_element.specs.WhiteSpace.{trimmed}
 use Rattle.cstn_element.specs.NumberTexts.{integer_text}
-use Rattle.cstn_element.specs.LabelTexts.{Literal, Expects, after_byte, said_by, with_literal, label_after, is_of_empty, label_of, IsOfLiterals}
+use Rattle.cstn_element.specs.LabelTexts.{Literal, Expects, after_byte, mark_said_by, with_literal, label_after, is_of_empty, label_of_text, IsOfLiterals}
 use Rattle.cstn_element.specs.LabelTexts.Expects.{literal, second_byte, letter}
 use Rattle.cstn_element.specs.ValueTexts.{Pair, is_separator, part_len, pair_of, paired, pair_at, pairs_by, pairs_after, values_of}
 use Rattle.cstn_label.proofs.LetterLemmas.{prop_small, with_small}
@@ -20,7 +20,7 @@ mark_by : (b : Bool) (m k : Mark) → IsMarkPlain m → IsMarkPlain k → IsMark
 mark_by true m k p q = p
 mark_by false m k p q = q
 
-said_plain : (negated : Bool) → IsMarkPlain (said_by negated)
+said_plain : (negated : Bool) → IsMarkPlain (mark_said_by negated)
 said_plain true = tt
 said_plain false = tt
 
@@ -58,8 +58,8 @@ byte_lettered letter b f e =
 literal_kept : (a b : Label) (l : Option Literal) → IsOfLiterals a → IsLettered l → with_literal a l ≡ Some b → IsOfLiterals b
 literal_kept a b None h small e = subst IsOfLiterals (some_is e) h
 literal_kept a b (Some l) h small e = subst IsOfLiterals (when_some _ _ b e) (record {
-  plain = λ q. mark_by (q == l.prop) (said_by l.negated) (a q) (said_plain l.negated) (h.plain q);
-  letters = λ q high. with_small q l.prop (said_by l.negated) (a q) small high (h.letters q high);
+  plain = λ q. mark_by (q == l.prop) (mark_said_by l.negated) (a q) (said_plain l.negated) (h.plain q);
+  letters = λ q high. with_small q l.prop (mark_said_by l.negated) (a q) small high (h.letters q high);
 })
 
 byte_kept : (found : Option Found) (a b : Label) (bytes : List ℕ) → IsOfLiterals a → ((f : Found) → found ≡ Some f → IsLettered f.0)
@@ -83,7 +83,7 @@ pub empty_of_literals : IsOfLiterals empty
 empty_of_literals = record { plain = λ p. tt; letters = λ p high. refl }
 
 -- the label of a label text consists of literals
-pub label_of_literals : (bytes : List ℕ) (a : Label) → label_of bytes ≡ Some a → IsOfLiterals a
+pub label_of_literals : (bytes : List ℕ) (a : Label) → label_of_text bytes ≡ Some a → IsOfLiterals a
 label_of_literals bytes a e =
     elim (which (is_of_empty bytes) _ _ _ e) [
       | inl h ↦ subst IsOfLiterals (some_is h.1) empty_of_literals

@@ -5,15 +5,15 @@ use Rattle.cstn_markup.specs.Bytes.{is_same}
 use Rattle.cstn_markup.specs.Tokens.{Attribute, Token}
 use Rattle.cstn_markup.specs.Tokens.Kind.{start_tag, end_tag, text_run, wrong, finish}
 use Rattle.cstn_markup.specs.Steps.{Steps, StepsBy}
-use Rattle.cstn_markup.specs.Seen.{kind_of, token_of}
+use Rattle.cstn_markup.specs.Seen.{token_kind, token_of}
 use Rattle.cstn_markup.specs.declared.token.Token.{Token as LentToken}
 use Rattle.cstn_markup.specs.declared.token.Kind.{Kind as Lent}
 use Rattle.cstn_element.specs.Contents.{tag_of, contents, contents_by, all_cut, with_run, with_closed, with_element, opened, closed_by}
 use Rattle.cstn_element.specs.Contents.Content.{done}
 
 -- what a step left, by the kind of the token that it gave
-pub step_of : (t : LentToken) (k : Lent) (before after : List Token) → Steps (token_of t) before after → t.kind ≡ k → StepsBy (kind_of k) (record { at = t.at; kind = kind_of k }) before after
-step_of t k before after h e = subst (λ q. StepsBy (kind_of q) (record { at = t.at; kind = kind_of q }) before after) e h
+pub step_of : (t : LentToken) (k : Lent) (before after : List Token) → Steps (token_of t) before after → t.kind ≡ k → StepsBy (token_kind k) (record { at = t.at; kind = token_kind k }) before after
+step_of t k before after h e = subst (λ q. StepsBy (token_kind q) (record { at = t.at; kind = token_kind q }) before after) e h
 
 pub first_is : (names : List (List ℕ)) (t : Token) (before after : List Token) → before ≡ t ∷ after → contents names before ≡ contents_by names t.at t.kind (λ others. contents others after)
 unfolding contents

@@ -51,16 +51,16 @@ pub record Reaches (names : List (List ℕ)) (before : List Token) (found : Cont
 
 -- What the tokens `before` begin with behind white space: an element, of which the start tag was read, the end of the innermost
 -- element, which was read, or a token that isn't allowed there. `after` are the tokens left then.
-abbrev pub IsNext : Next → List ℕ → List (List ℕ) → List Token → List Token → Type 0
-IsNext (Child start) name others before after =
+abbrev pub BeginsWithPart : Next → List ℕ → List (List ℕ) → List Token → List Token → Type 0
+BeginsWithPart (Child start) name others before after =
     Reaches (name ∷ others) before
     (element (tag_seen start) (inside_of start (name ∷ others) after) (inner (behind_of start (name ∷ others) after)))
     (outer (behind_of start (name ∷ others) after))
-IsNext (End at) name others before after = Reaches (name ∷ others) before (done at) (contents others after)
-IsNext (Wrong at) name others before after = past_blanks (inner (contents (name ∷ others) before)) ≡ cut at
+BeginsWithPart (End at) name others before after = Reaches (name ∷ others) before (done at) (contents others after)
+BeginsWithPart (Wrong at) name others before after = past_blanks (inner (contents (name ∷ others) before)) ≡ cut at
 
 -- fewer tokens are left after a start tag, and no more than before after anything else
-abbrev pub Takes : Next → ℕ → ℕ → Type 0
-Takes (Child start) before after = after < before
-Takes (End at) before after = after ≤ before
-Takes (Wrong at) before after = after ≤ before
+abbrev pub TakesTokens : Next → ℕ → ℕ → Type 0
+TakesTokens (Child start) before after = after < before
+TakesTokens (End at) before after = after ≤ before
+TakesTokens (Wrong at) before after = after ≤ before

@@ -4,9 +4,9 @@ use Rattle.cstn_element.specs.declared.errors.DocError.TheVariants.{Shape, Value
 use Rattle.cstn_element.specs.declared.errors.Fault.{Fault}
 use Rattle.cstn_element.specs.declared.errors.Fault.TheVariants.{Shape as ShapeFault, Value as ValueFault, LabelText as LabelTextFault, Contingent as ContingentFault, EdgeType as EdgeTypeFault}
 
-abbrev pub refusal_of : Fault → DocError
-refusal_of (ShapeFault at) = Shape at
-refusal_of (ValueFault at) = Value at
-refusal_of (LabelTextFault at) = LabelText at
-refusal_of (ContingentFault at) = Contingent at
-refusal_of (EdgeTypeFault at) = EdgeType at
+abbrev pub document_refusal : Fault → DocError
+document_refusal (ShapeFault at) = Shape at
+document_refusal (ValueFault at) = Value at
+document_refusal (LabelTextFault at) = LabelText at
+document_refusal (ContingentFault at) = Contingent at
+document_refusal (EdgeTypeFault at) = EdgeType at

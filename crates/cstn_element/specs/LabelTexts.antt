@@ -30,14 +30,14 @@ after_byte letter b =
     if is_white b then Some (None, letter) else
     (prop_of b >>= λ p. Some (Some (record { prop = p; negated = true }), literal))
 
-abbrev pub said_by : Bool → Mark
-said_by true = No
-said_by false = Yes
+abbrev pub mark_said_by : Bool → Mark
+mark_said_by true = No
+mark_said_by false = Yes
 
 -- the label with the literal, if there is one; None where the label has its letter already
 abbrev pub with_literal : Label → Option Literal → Option Label
 with_literal a None = Some a
-with_literal a (Some l) = when (is_absent (a l.prop)) (with_mark a l.prop (said_by l.negated))
+with_literal a (Some l) = when (is_absent (a l.prop)) (with_mark a l.prop (mark_said_by l.negated))
 
 -- the label of the literals of a and of those that the bytes write behind them; None where the bytes aren't of the form
 unfoldable pub label_after : Expects → Label → List ℕ → Option Label
@@ -51,8 +51,8 @@ abbrev pub is_of_empty : List ℕ → Bool
 is_of_empty bytes = is_same bytes [] || is_same bytes (226 ∷ 138 ∷ 161 ∷ [])
 
 -- the label of a label text, which is a text of the empty label, or literals
-abbrev pub label_of : List ℕ → Option Label
-label_of bytes = if is_of_empty bytes then Some empty else label_after literal empty bytes
+abbrev pub label_of_text : List ℕ → Option Label
+label_of_text bytes = if is_of_empty bytes then Some empty else label_after literal empty bytes
 
 -- a label that consists of literals: it has no unknown mark, and marks none but the 52 propositions that have letters
 pub record IsOfLiterals (a : Label) : Type 0 where

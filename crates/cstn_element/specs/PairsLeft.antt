@@ -14,8 +14,8 @@ abbrev pub pairs_left : List ℕ → List Pair
 pairs_left bytes = or_none (pairs_after 0 [] bytes)
 
 -- no pair was left, and what is left is as it was
-abbrev pub IsSpent : List ℕ → List ℕ → Type 0
-IsSpent old new = (pairs_left old ≡ []) × (new ≡ old)
+abbrev pub HasNoPairs : List ℕ → List ℕ → Type 0
+HasNoPairs old new = (pairs_left old ≡ []) × (new ≡ old)
 
 -- all pairs, by the first one and the bytes behind it
 abbrev pub first_seen : First → Option (List Pair)

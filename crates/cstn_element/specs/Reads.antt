@@ -5,7 +5,7 @@ use Rattle.cstn_markup.specs.Tokens.{Token}
 use Rattle.cstn_element.specs.Results.{Refusal}
 use Rattle.cstn_element.specs.Results.Refusal.{not_utf8, shape, name_twice, unknown_node, bad_value, label_text, contingent, edge_type, no_deadline}
 use Rattle.cstn_element.specs.Contents.{Content, contents, inner, outer}
-use Rattle.cstn_element.specs.Faults.{refusal_of}
+use Rattle.cstn_element.specs.Faults.{document_refusal}
 use Rattle.cstn_element.specs.declared.errors.Fault.{Fault}
 use Rattle.cstn_element.specs.declared.errors.DocError.{DocError}
 use Rattle.cstn_element.specs.declared.errors.DocError.TheVariants.{NotUtf8, Shape, NameTwice, UnknownNode, Value, LabelText, Contingent, EdgeType, NoDeadline, Net, Lift, Memory}
@@ -28,7 +28,7 @@ Fails (Memory e) told = Unit {0}
 -- what was returned, with a fault as the refusal that it stands for
 abbrev pub raised : {A : Type 0} → Result A Fault → Result A DocError
 raised (Ok x) = Ok x
-raised (Err fault) = Err (refusal_of fault)
+raised (Err fault) = Err (document_refusal fault)
 
 -- what was returned, seen by a view, is what the definition tells
 abbrev pub Gives : {A B : Type 0} → (A → B) → Result A DocError → Result B Refusal → Type 0
@@ -53,7 +53,7 @@ ReadsRest depth view meaning name before after result =
 
 -- The reading went from the tokens `before` on to the tokens `after` in the same element: what `meaning` tells of the rest from
 -- `before` on, `later` tells of the rest from `after` on.
-pub record Continues {B : Type 0} (meaning later : Content → Result B Refusal) (names : List (List ℕ)) (before after : List Token) : Type 0 where
+pub record ReadsFurther {B : Type 0} (meaning later : Content → Result B Refusal) (names : List (List ℕ)) (before after : List Token) : Type 0 where
   pub told : meaning (inner (contents names before)) ≡ later (inner (contents names after))
   pub left : outer (contents names before) ≡ outer (contents names after)
 

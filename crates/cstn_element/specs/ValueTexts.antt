@@ -5,7 +5,7 @@ use Rattle.cstn_markup.specs.Bytes.{◌>>=◌, when, is_same, is_white, past}
 use Rattle.cstn_label.specs.Labels.{Label}
 use Rattle.cstn_element.specs.WhiteSpace.{trimmed}
 use Rattle.cstn_element.specs.NumberTexts.{integer_text}
-use Rattle.cstn_element.specs.LabelTexts.{label_of}
+use Rattle.cstn_element.specs.LabelTexts.{label_of_text}
 
 -- a pair of a text of values: its integer, and its label, which is None where its text isn't a label text
 pub record Pair : Type 0 where
@@ -21,8 +21,8 @@ is_separator b = is_white b || b == 44
 
 -- the pair of two parts, of which exactly one is an integer text and the other one is the label
 abbrev pub pair_of : List ℕ → List ℕ → Option ℤ → Option ℤ → Option Pair
-pair_of first second (Some n) None = Some (record { most = n; label = label_of second })
-pair_of first second None (Some n) = Some (record { most = n; label = label_of first })
+pair_of first second (Some n) None = Some (record { most = n; label = label_of_text second })
+pair_of first second None (Some n) = Some (record { most = n; label = label_of_text first })
 pair_of first second (Some m) (Some n) = None
 pair_of first second None None = None
 

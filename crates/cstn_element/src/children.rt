@@ -1,7 +1,7 @@
 //! What stands next in an element.
 
 ghost use Rattle.std.specs.Prelude.{ℕ, List, length, ◌<◌};
-ghost use Rattle.cstn_element.specs.Children.{IsNext, Takes};
+ghost use Rattle.cstn_element.specs.Children.{BeginsWithPart, TakesTokens};
 
 use crate::is_blank;
 use cstn_markup::{Attributes, Kind, Scanner, Token};
@@ -29,8 +29,8 @@ pub enum Next<'a> {
 /// Reads what stands next in the element of this name, behind white space. The contract speaks of an element with fewer than 31
 /// others open around it.
 pub fn next_child<'a>(scanner: &mut Scanner<'a>, name: &[u8]) -> Next<'a>
-    ensures next { (others : List (List ℕ)) → length others < 31 → IsNext result name.now others scanner.old scanner.new }
-    ensures takes { Takes result (length scanner.old) (length scanner.new) }
+    ensures next { (others : List (List ℕ)) → length others < 31 → BeginsWithPart result name.now others scanner.old scanner.new }
+    ensures takes { TakesTokens result (length scanner.old) (length scanner.new) }
 {
     loop {
         let Token { at, kind } = scanner.step();

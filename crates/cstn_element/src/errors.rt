@@ -66,9 +66,9 @@ pub enum Fault {
 
 impl From<Fault> for DocError {
     ghost use Rattle.std.specs.Prelude.{◌≡◌};
-    ghost use Rattle.cstn_element.specs.Faults.{refusal_of};
+    ghost use Rattle.cstn_element.specs.Faults.{document_refusal};
 
-    ghost from_gives = { λ fault e. e ≡ refusal_of fault };
+    ghost from_gives = { λ fault e. e ≡ document_refusal fault };
 
     fn from(fault: Fault) -> DocError {
         match fault {

@@ -3,7 +3,7 @@
 ghost use Rattle.std.specs.Prelude.{◌≡◌, ◌==◌, length, option_map};
 ghost use Rattle.cstn_label.specs.Read.{marks};
 ghost use Rattle.cstn_label.specs.Labels.{empty};
-ghost use Rattle.cstn_element.specs.LabelTexts.{said_by, after_byte, with_literal, label_after, is_of_empty, label_of};
+ghost use Rattle.cstn_element.specs.LabelTexts.{mark_said_by, after_byte, with_literal, label_after, is_of_empty, label_of_text};
 ghost use Rattle.cstn_element.specs.LabelTexts.Expects.{literal};
 ghost use Rattle.cstn_element.specs.TextsSeen.{maybe_literal, expects_of};
 
@@ -64,7 +64,7 @@ fn after_byte(expects: Expects, b: u8) -> Option<(Option<Literal>, Expects)>
 
 /// The mark of a literal.
 fn said_by(negated: bool) -> Mark
-    ensures { result ≡ said_by negated }
+    ensures { result ≡ mark_said_by negated }
 {
     if negated { Mark::No } else { Mark::Yes }
 }
@@ -115,7 +115,7 @@ fn is_of_empty(bytes: &[u8]) -> bool
 /// The label of a label text, which is a text of the empty label, or literals with each letter at most once. None for any other
 /// text.
 pub fn label_of(bytes: &[u8]) -> Option<Label>
-    ensures { option_map marks result ≡ label_of bytes.now }
+    ensures { option_map marks result ≡ label_of_text bytes.now }
 {
     if is_of_empty(bytes) {
         return Some(Label::empty());

@@ -1,6 +1,7 @@
 //! What holds of reading elements one after the other. The calls do nothing: their contracts are the laws.
 
-ghost use Rattle.cstn_element.specs.InTurn.{GoesOn, IsRefusedInside, IsRefusedNext, IsEnded, LeavesState, GoesOnInDocument, IsRefusedInDocument, PassesBlank};
+ghost use Rattle.cstn_element.specs.InTurn.{GoesOnBehind, IsRefusedInside, IsRefusedNext, IsEnded, LeavesState, GoesOnInDocument, IsRefusedInDocument};
+ghost use Rattle.cstn_element.specs.InTurn.{PassesBlank};
 ghost use Rattle.cstn_element.specs.InTurn.{IsRefusedAt, IsFinished};
 
 /// A way to read the content of an element or of the document, in which only elements and white space may stand. `State` is the
@@ -27,7 +28,7 @@ pub trait ElementReading {
 /// made. Where a child is refused, so is the element. A token that isn't allowed between the children has the element refused
 /// at the token's place. At its end the answer for the element is what the end makes of the state.
 pub fn elements_are_read_in_turn<R: ElementReading>()
-    ensures child { GoesOn R.State R.Found R.reading }
+    ensures child { GoesOnBehind R.State R.Found R.reading }
     ensures refused { IsRefusedInside R.State R.Found R.Answer R.reading R.seen }
     ensures wrong { IsRefusedNext R.State R.Found R.Answer R.reading R.seen }
     ensures end { IsEnded R.State R.Found R.Answer R.reading R.seen }

@@ -4,7 +4,7 @@ ghost use Rattle.std.specs.Prelude.{◌≡◌, ◌≤◌, ◌+◌, [], ◌∷◌
 ghost use Rattle.std.specs.List.{prefix_len};
 ghost use Rattle.cstn_element.specs.ValueTexts.{is_of_part, is_separator, part_len, paired, pair_at, pairs_by, pairs_after, values_of};
 ghost use Rattle.cstn_element.specs.TextsSeen.{pair_seen};
-ghost use Rattle.cstn_element.specs.PairsLeft.{IsSpent, first_seen, pairs_left, IsShorter};
+ghost use Rattle.cstn_element.specs.PairsLeft.{HasNoPairs, first_seen, pairs_left, IsShorter};
 
 use crate::label_texts::label_of;
 use crate::number_texts::integer_text;
@@ -155,7 +155,7 @@ impl<'a> Model for Pairs<'a> {
 impl<'a> Pairs<'a> {
     /// Takes the next pair. None where no pair is left.
     pub fn next_pair(&mut self) -> Option<Pair>
-        ensures taken { MatchOption result (IsSpent self.old self.new) (λ pair. pairs_left self.old ≡ pair_seen pair ∷ pairs_left self.new) }
+        ensures taken { MatchOption result (HasNoPairs self.old self.new) (λ pair. pairs_left self.old ≡ pair_seen pair ∷ pairs_left self.new) }
     {
         match first_of(self.rest) {
             First::Pair { pair, rest } => {

@@ -15,16 +15,16 @@ use Rattle.cstn_lift.specs.Labelled.{Labelled}
 use Rattle.cstn_lift.specs.Completion.{completed_label}
 use Rattle.cstn_lift.specs.WellFormed.{IsLabelled}
 use Rattle.cstn_lift.specs.Lowered.{lowered}
-use Rattle.cstn_exec.specs.Runs.{Run, start, executed_at, outcome_of, observed_at, known, called}
-use Rattle.cstn_exec.specs.Moves.{moment_refusal, moved, handed, outcome_refusal, NotExecuted, unless_unseen, unless_known}
-use Rattle.cstn_exec.specs.Right.{IsRight}
+use Rattle.cstn_exec.specs.Runs.{Run, start_of_run, executed_at, outcome_of, observed_at, known, called}
+use Rattle.cstn_exec.specs.Moves.{moment_refusal, run_moved, handed, outcome_refusal, NotExecuted, unless_unseen, unless_known}
+use Rattle.cstn_exec.specs.Right.{IsRightRun}
 use Rattle.cstn_exec.proofs.Knowing.{known_from, known_to}
 use Rattle.cstn_exec.proofs.Moving.{start_right}
 use Rattle.cstn_exec.proofs.Dues.{accepted_right}
 use Rattle.cstn_exec.proofs.Refusals.{seen_right, called_ascend}
-use Rattle.cstn_exec.specs.Guides.{Guided, begun, is_left, holds_at, left_out, advanced, is_denied, see_refusal, noted}
+use Rattle.cstn_exec.specs.Guides.{Guided, guide_begun, was_left_out, holds_at, left_out, advanced, is_denied, see_refusal, outcome_noted}
 use Rattle.cstn_exec.specs.Sound.{HoldsBy, IsRuledOut, IsGuided}
-use Rattle.cstn_exec.specs.GuideRead.{AreFresh}
+use Rattle.cstn_exec.specs.GuideRead.{AreWithoutOutcomes}
 use Rattle.cstn_exec.proofs.Holding.{holds_is, holds_on, ruled_out_on}
 use Rattle.cstn_exec.proofs.GuideNaming.{moved_kept, moved_was, called_waits, called_inside, called_executed, called_unseen, known_more, left_parts, left_from, not_holding}
 use Rattle.cstn_exec.proofs.Denying.{all_executed, outcome_kept, outcome_there, fresh_filter, all_right, known_on, left_size, left_kept, left_in, left_not}
@@ -32,13 +32,13 @@ use Rattle.cstn_exec.proofs.Denying.{all_executed, outcome_kept, outcome_there, 
 -- ---- the beginning
 
 module _ (m : Labelled) (bounds : List Bound) (table : Table) (wf : IsWellFormed (lowered m)) (plan : IsEarliest (lowered m) bounds table) where
-  nobody : (x : ℕ) → is_left (begun (count m.base)) x ≡ true → ⊥
+  nobody : (x : ℕ) → was_left_out (guide_begun (count m.base)) x ≡ true → ⊥
   nobody x h = true≢false (sym h ∙ get_or_repeated (count m.base) x false)
 
-  nothing : (x t : ℕ) → executed_at (start (count m.base)) x ≡ Some t → ⊥
-  nothing x t e = some_or_none (executed_at (start (count m.base)) x) t e (get_or_repeated (count m.base) x None)
+  nothing : (x t : ℕ) → executed_at (start_of_run (count m.base)) x ≡ Some t → ⊥
+  nothing x t e = some_or_none (executed_at (start_of_run (count m.base)) x) t e (get_or_repeated (count m.base) x None)
 
-  pub begun_guided : IsGuided m (begun (count m.base))
+  pub begun_guided : IsGuided m (guide_begun (count m.base))
   begun_guided = record {
     right = start_right (lowered m) bounds table wf plan;
     size = length-replicate {A = Bool} (count m.base) false;
@@ -51,12 +51,12 @@ module _ (m : Labelled) (bounds : List Bound) (table : Table) (wf : IsWellFormed
 -- ---- moments
 
 -- the time-points that are called at an accepted moment are fresh
-pub called_fresh : (net : Network) (bounds : List Bound) → IsWellFormed net → (run : Run) → IsRight net run → (t : ℕ) →
-    AreFresh net (moved net bounds run t) (called net bounds run t)
+pub called_fresh : (net : Network) (bounds : List Bound) → IsWellFormed net → (run : Run) → IsRightRun net run → (t : ℕ) →
+    AreWithoutOutcomes net (run_moved net bounds run t) (called net bounds run t)
 called_fresh net bounds wf run right t = record {
   ascending = AllPairs-from_increasing (called net bounds run t) (called_ascend net bounds run t);
   inside = all_from (λ x. x < count net) (called net bounds run t) (called_inside net bounds wf run right t);
-  placed = all_from (λ x. (u : ℕ) × (executed_at (moved net bounds run t) x ≡ Some u)) (called net bounds run t)
+  placed = all_from (λ x. (u : ℕ) × (executed_at (run_moved net bounds run t) x ≡ Some u)) (called net bounds run t)
       (λ x c. (t, called_executed net bounds wf run right t x c));
   unseen = called_unseen net bounds wf run right t;
 }
@@ -68,7 +68,7 @@ module _ (m : Labelled) (bounds : List Bound) (table : Table) (good : IsLabelled
   net = lowered m
 
   abbrev moved_run : Run
-  moved_run = moved (lowered m) bounds g.run t
+  moved_run = run_moved (lowered m) bounds g.run t
 
   abbrev out : List ℕ
   out = left_out m bounds g.run t
@@ -76,7 +76,7 @@ module _ (m : Labelled) (bounds : List Bound) (table : Table) (good : IsLabelled
   abbrev after : Guided
   after = advanced m bounds g t
 
-  fresh : AreFresh net moved_run out
+  fresh : AreWithoutOutcomes net moved_run out
   fresh = fresh_filter net wf (λ x. not (holds_at m g.run t x)) moved_run (called net bounds g.run t) (called_fresh net bounds wf g.run right.right t)
 
   more : (u p : ℕ) (v : Bool) → known net g.run u p ≡ Some v → known net after.run u p ≡ Some v
@@ -98,7 +98,7 @@ module _ (m : Labelled) (bounds : List Bound) (table : Table) (good : IsLabelled
       (here, moved_was net bounds wf g.run right.right t x u here e_moved)
 
   -- a time-point that was left out before isn't called at t
-  not_again : (x : ℕ) → Contains (called net bounds g.run t) x → is_left g x ≡ true → ⊥
+  not_again : (x : ℕ) → Contains (called net bounds g.run t) x → was_left_out g x ≡ true → ⊥
   not_again x c h =
       let e = right.placed x h in
       some_or_none (executed_at g.run x) e.0 e.1 (called_waits net bounds wf g.run right.right t x c)
@@ -106,32 +106,32 @@ module _ (m : Labelled) (bounds : List Bound) (table : Table) (good : IsLabelled
   left_inside : (x : ℕ) → x < count m.base → x < length g.left
   left_inside x here = let size = right.size in omega arith
 
-  pub advanced_held : (x u : ℕ) → executed_at after.run x ≡ Some u → is_left after x ≡ false → HoldsBy (known net after.run (u + 1)) (completed_label m x)
+  pub advanced_held : (x u : ℕ) → executed_at after.run x ≡ Some u → was_left_out after x ≡ false → HoldsBy (known net after.run (u + 1)) (completed_label m x)
   advanced_held x u e stays =
       let from = was x u e in
       let inside = left_inside x from.0 in
       elim from.1 [
-        | inl before ↦ elim (cases_Bool (is_left g x)) [
-          | inl left ↦ absurd (both_ways (is_left after x) stays (left_kept out g.left x inside left))
+        | inl before ↦ elim (cases_Bool (was_left_out g x)) [
+          | inl left ↦ absurd (both_ways (was_left_out after x) stays (left_kept out g.left x inside left))
           | inr kept ↦ holds_still (u + 1) x (right.held x u before kept)
         ]
         | inr now ↦ elim (cases_Bool (holds_at m g.run t x)) [
           | inl holds ↦ subst (λ w. HoldsBy (known net after.run (w + 1)) (completed_label m x)) (sym now.1)
               (holds_still (t + 1) x ((holds_is m (known net g.run (t + 1)) x good).0 holds))
-          | inr fails ↦ absurd (both_ways (is_left after x) stays (left_in out g.left x (left_from m bounds g.run t x now.0 fails) inside))
+          | inr fails ↦ absurd (both_ways (was_left_out after x) stays (left_in out g.left x (left_from m bounds g.run t x now.0 fails) inside))
         ]
       ]
 
-  pub advanced_out : (x u : ℕ) → executed_at after.run x ≡ Some u → is_left after x ≡ true → IsRuledOut (known net after.run (u + 1)) (completed_label m x)
+  pub advanced_out : (x u : ℕ) → executed_at after.run x ≡ Some u → was_left_out after x ≡ true → IsRuledOut (known net after.run (u + 1)) (completed_label m x)
   advanced_out x u e gone =
       let from = was x u e in
       elim from.1 [
-        | inl before ↦ elim (cases_Bool (is_left g x)) [
+        | inl before ↦ elim (cases_Bool (was_left_out g x)) [
           | inl left ↦ out_still (u + 1) x (right.ruled_out x u before left)
           | inr kept ↦
               let same = left_not out g.left x (λ c.
               some_or_none (executed_at g.run x) u before (called_waits net bounds wf g.run right.right t x (left_parts m bounds g.run t x c).0)) in
-              absurd (both_ways (is_left g x) kept (sym same ∙ gone))
+              absurd (both_ways (was_left_out g x) kept (sym same ∙ gone))
         ]
         | inr now ↦ elim (cases_Bool (holds_at m g.run t x)) [
           | inr fails ↦ subst (λ w. IsRuledOut (known net after.run (w + 1)) (completed_label m x)) (sym now.1)
@@ -143,7 +143,7 @@ module _ (m : Labelled) (bounds : List Bound) (table : Table) (good : IsLabelled
       ]
 
   -- a time-point that is left out in the new state was left out before, or is left out at t
-  left_when : (x : ℕ) → is_left after x ≡ true → (is_left g x ≡ true) ⊎ Contains out x
+  left_when : (x : ℕ) → was_left_out after x ≡ true → (was_left_out g x ≡ true) ⊎ Contains out x
   left_when x gone = elim (contains_or_not out x) [
     | inl there ↦ inr there
     | inr nowhere ↦ inl (sym (left_not out g.left x nowhere) ∙ gone)
@@ -224,7 +224,7 @@ module _ (m : Labelled) (wf : IsWellFormed (lowered m)) (g : Guided) (right : Is
         passed = r.passed;
       }) (others q w from.1)
 
-  pub noted_guided : p < 52 → IsGuided m (noted g p v)
+  pub noted_guided : p < 52 → IsGuided m (outcome_noted g p v)
   noted_guided letter = record {
     right = seen_right (lowered m) g.run p wf right.right is_open.accepted letter v;
     size = right.size;

@@ -11,7 +11,7 @@ use Rattle.cstn_label.specs.Read.{the_bound, known_value}
 use Rattle.cstn_net.specs.Networks.{Network}
 use Rattle.cstn_plan.specs.Asked.{greatest, moment_of}
 use Rattle.cstn_plan.specs.Plans.{the_bounds}
-use Rattle.cstn_exec.specs.Runs.{Run, known, is_possible, earliest}
+use Rattle.cstn_exec.specs.Runs.{Run, known, is_possible, earliest_moment}
 
 -- a test of one bound and that of another may be made in either order
 swapped : (c d : Bool) (m n k : ℕ) →
@@ -48,7 +48,7 @@ greatest_more test bounds k b before now at old new =
 -- bounds ask for the same moment by the words k, where these hold exactly the values that are known before u
 pub earliest_by : (net : Network) (bounds : List Bound) (run : Run) (u x : ℕ) (k : Known) →
     ((p : ℕ) → known_value k p ≡ known net run u p) →
-    greatest (λ b. (b.node == x) && is_possible (known_value k) b.label) bounds ≡ earliest net bounds run u x
+    greatest (λ b. (b.node == x) && is_possible (known_value k) b.label) bounds ≡ earliest_moment net bounds run u x
 earliest_by net bounds run u x k same =
     let e : known_value k ≡ known net run u = fun_ext same in
     ap (λ values. greatest (λ b. (b.node == x) && is_possible values b.label) bounds) e

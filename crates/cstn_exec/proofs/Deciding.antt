@@ -17,7 +17,7 @@ use Rattle.cstn_lift.specs.WellFormed.{IsLabelled}
 use Rattle.cstn_lift.specs.Lowered.{lowered}
 use Rattle.cstn_lift.proofs.Twins.{decided_known}
 use Rattle.cstn_exec.specs.Runs.{Run, next, executed_at, outcome_of, known, fits_known, is_possible}
-use Rattle.cstn_exec.specs.Right.{AgreesKnown, IsRight}
+use Rattle.cstn_exec.specs.Right.{AgreesKnown, IsRightRun}
 use Rattle.cstn_exec.proofs.Knowing.{Ready, known_to, awaited_to, possible_from}
 use Rattle.cstn_exec.proofs.Running.{agrees_before, executed_is, waits_from}
 use Rattle.cstn_exec.proofs.Dues.{seen_scenario, seen_agrees}
@@ -43,7 +43,7 @@ ruled_out values a h =
     (fails.0, wrong.0, wrong.1, wrong.2)
 
 -- in a right run, what is known by the table of least moments at a moment that has passed is known in the run
-module _ (net : Network) (bounds : List Bound) (table : Table) (wf : IsWellFormed net) (plan : IsEarliest net bounds table) (run : Run) (right : IsRight net run) where
+module _ (net : Network) (bounds : List Bound) (table : Table) (wf : IsWellFormed net) (plan : IsEarliest net bounds table) (run : Run) (right : IsRightRun net run) where
   abbrev seen : Scenario
   seen = seen_scenario run
 
@@ -72,7 +72,7 @@ module _ (net : Network) (bounds : List Bound) (table : Table) (wf : IsWellForme
       ]
 
 module _ (m : Labelled) (bounds : List Bound) (table : Table) (good : IsLabelled m) (wf : IsWellFormed (lowered m))
-    (plan : IsEarliest (lowered m) bounds table) (run : Run) (right : IsRight (lowered m) run) where
+    (plan : IsEarliest (lowered m) bounds table) (run : Run) (right : IsRightRun (lowered m) run) where
   abbrev net : Network
   net = lowered m
 

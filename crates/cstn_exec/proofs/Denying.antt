@@ -13,11 +13,11 @@ use Rattle.cstn_facts.proofs.Places.{some_within}
 use Rattle.cstn_net.specs.Networks.{Network, IsWellFormed, Observes, count}
 use Rattle.cstn_exec.specs.Runs.{Run, executed_at, outcome_of, observed_at, known}
 use Rattle.cstn_exec.specs.Moves.{outcome_refusal, unless_unseen, unless_known}
-use Rattle.cstn_exec.specs.Right.{IsRight}
+use Rattle.cstn_exec.specs.Right.{IsRightRun}
 use Rattle.cstn_exec.proofs.Knowing.{known_from, known_to, observed_where}
 use Rattle.cstn_exec.proofs.Moving.{handed_right}
 use Rattle.cstn_exec.specs.Guides.{denied, all_denied, with_left}
-use Rattle.cstn_exec.specs.GuideRead.{AreFresh}
+use Rattle.cstn_exec.specs.GuideRead.{AreWithoutOutcomes}
 
 -- ---- elements of lists
 
@@ -101,7 +101,7 @@ module _ (net : Network) where
 -- ---- fresh time-points
 
 module _ (net : Network) (wf : IsWellFormed net) where
-  pub fresh_filter : (test : ℕ → Bool) (run : Run) (xs : List ℕ) → AreFresh net run xs → AreFresh net run (filter test xs)
+  pub fresh_filter : (test : ℕ → Bool) (run : Run) (xs : List ℕ) → AreWithoutOutcomes net run xs → AreWithoutOutcomes net run (filter test xs)
   fresh_filter test run xs f = record {
     ascending = AllPairs-filter (λ x y. x < y) test xs f.ascending;
     inside = All-filter test (λ x. x < count net) xs f.inside;
@@ -109,7 +109,7 @@ module _ (net : Network) (wf : IsWellFormed net) where
     unseen = λ x p c. f.unseen x p (filter_contained test xs x c);
   }
 
-  fresh_next : (run : Run) (x : ℕ) (xs : List ℕ) → AreFresh net run (x ∷ xs) → AreFresh net (denied (slice_index_or net.observes x None) run) xs
+  fresh_next : (run : Run) (x : ℕ) (xs : List ℕ) → AreWithoutOutcomes net run (x ∷ xs) → AreWithoutOutcomes net (denied (slice_index_or net.observes x None) run) xs
   fresh_next run x xs f =
       let o = slice_index_or net.observes x None in
       record {
@@ -126,14 +126,14 @@ module _ (net : Network) (wf : IsWellFormed net) where
             ∙ f.unseen y q (contains_tail x y xs c) sees;
       }
 
-  denied_right : (run : Run) (x : ℕ) (o : Option ℕ) → slice_index_or net.observes x None ≡ o → IsRight net run → (t : ℕ) → executed_at run x ≡ Some t →
-      ((p : ℕ) → Observes net x p → outcome_of run p ≡ None) → IsRight net (denied o run)
+  denied_right : (run : Run) (x : ℕ) (o : Option ℕ) → slice_index_or net.observes x None ≡ o → IsRightRun net run → (t : ℕ) → executed_at run x ≡ Some t →
+      ((p : ℕ) → Observes net x p → outcome_of run p ≡ None) → IsRightRun net (denied o run)
   denied_right run x None e right t done unseen = right
   denied_right run x (Some p) e right t done unseen =
       let sees : Observes net x p = record { what = e } in
       handed_right net wf run p false right (unseen p sees) (wf.letters x p sees) t (observed_where net wf.network run x p sees ∙ done)
 
-  pub all_right : (xs : List ℕ) (run : Run) → IsRight net run → AreFresh net run xs → IsRight net (all_denied net xs run)
+  pub all_right : (xs : List ℕ) (run : Run) → IsRightRun net run → AreWithoutOutcomes net run xs → IsRightRun net (all_denied net xs run)
   all_right [] run right f = right
   all_right (x ∷ xs) run right f =
       let o = slice_index_or net.observes x None in
@@ -141,7 +141,7 @@ module _ (net : Network) (wf : IsWellFormed net) where
       all_right xs (denied o run) (denied_right run x o refl right done.0 done.1 (λ p. f.unseen x p (contains_head x xs))) (fresh_next run x xs f)
 
   -- what is known stays known
-  pub known_on : (xs : List ℕ) (run : Run) → AreFresh net run xs → (u p : ℕ) (v : Bool) → known net run u p ≡ Some v →
+  pub known_on : (xs : List ℕ) (run : Run) → AreWithoutOutcomes net run xs → (u p : ℕ) (v : Bool) → known net run u p ≡ Some v →
       known net (all_denied net xs run) u p ≡ Some v
   known_on xs run f u p v k =
       let from = known_from net wf.network run u p v k in
@@ -155,7 +155,7 @@ module _ (net : Network) (wf : IsWellFormed net) where
       }) (outcome_elsewhere net xs run p (λ y c sees. some_or_none (outcome_of run p) v from.1 (f.unseen y p c sees)) ∙ from.1)
 
   -- the outcome of the proposition that the next time-point of the list observes isn't refused
-  pub next_open : (test : ℕ → Bool) (run : Run) (xs : List ℕ) (k : ℕ) (x : ℕ) → AreFresh net run xs → k < length xs → slice_index_or xs k x ≡ x →
+  pub next_open : (test : ℕ → Bool) (run : Run) (xs : List ℕ) (k : ℕ) (x : ℕ) → AreWithoutOutcomes net run xs → k < length xs → slice_index_or xs k x ≡ x →
       (p : ℕ) → Observes net x p → outcome_refusal net (all_denied net (filter test (take k xs)) run) p ≡ None
   next_open test run xs k x f inside at p sees =
       let ys = filter test (take k xs) in

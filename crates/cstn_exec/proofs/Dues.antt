@@ -13,9 +13,9 @@ use Rattle.cstn_label.specs.Bounds.{Bound}
 use Rattle.cstn_net.specs.Networks.{Network, IsWellFormed, count}
 use Rattle.cstn_net.specs.Strategies.{Table}
 use Rattle.cstn_plan.specs.Plans.{IsEarliest}
-use Rattle.cstn_exec.specs.Runs.{Run, next, is_done, executed_at, outcome_of, awaited, is_free, has_work, due}
-use Rattle.cstn_exec.specs.Moves.{moment_refusal, moved}
-use Rattle.cstn_exec.specs.Right.{AgreesKnown, IsRight, HasWork, IsDue, IsDone, IsFulfilled}
+use Rattle.cstn_exec.specs.Runs.{Run, next, is_run_done, executed_at, outcome_of, awaited, is_free, has_work, due}
+use Rattle.cstn_exec.specs.Moves.{moment_refusal, run_moved}
+use Rattle.cstn_exec.specs.Right.{AgreesKnown, IsRightRun, HasWork, IsDue, IsDone, IsFulfilled}
 use Rattle.cstn_exec.proofs.Judging.{IsAccepted, judged}
 use Rattle.cstn_exec.proofs.Knowing.{known_from}
 use Rattle.cstn_exec.proofs.Running.{IsQuiet, awaits_none, awaited_least, executed_is, idle_from, quiet_later}
@@ -36,12 +36,12 @@ seen_agrees net wf run u p v k = ap value_or_false (known_from net wf.network ru
 
 -- ---- whether all is executed
 
-pub done_from : (net : Network) (run : Run) → length run.moments ≡ count net → is_done run ≡ true → IsDone net run
+pub done_from : (net : Network) (run : Run) → length run.moments ≡ count net → is_run_done run ≡ true → IsDone net run
 done_from net run size h x here =
     is_some-true (executed_at run x) (All-get_or (λ o. is_some o ≡ true) run.moments x None (omega arith)
     (AllPass-from_list_all is_some run.moments h))
 
-pub done_to : (net : Network) (run : Run) → length run.moments ≡ count net → IsDone net run → is_done run ≡ true
+pub done_to : (net : Network) (run : Run) → length run.moments ≡ count net → IsDone net run → is_run_done run ≡ true
 done_to net run size all =
     list_all-from_AllPass is_some run.moments (All-from_get_or (λ o. is_some o ≡ true) run.moments None
     (λ x inside. let e = all x (omega arith) in ap is_some e.1))
@@ -54,7 +54,7 @@ some_none (Some m ∷ ms) h =
     (suc later.0, let inside = later.1 in omega arith, later.2)
 
 -- where not all is executed, some time-point isn't
-pub someone_waits : (net : Network) (run : Run) → length run.moments ≡ count net → is_done run ≡ false →
+pub someone_waits : (net : Network) (run : Run) → length run.moments ≡ count net → is_run_done run ≡ false →
     (x : ℕ) × (x < count net) × (executed_at run x ≡ None)
 someone_waits net run size h =
     let waits = some_none run.moments h in
@@ -74,7 +74,7 @@ abbrev pub IsFirstWork : Network → List Bound → Run → ℕ → Type 0
 IsFirstWork net bounds run = IsFirstFrom (has_work net bounds run) (next run) (moments_left net run)
 
 module _ (net : Network) (bounds : List Bound) (table : Table) (wf : IsWellFormed net) (plan : IsEarliest net bounds table)
-    (run : Run) (right : IsRight net run) where
+    (run : Run) (right : IsRightRun net run) where
   -- where a time-point isn't executed and it is quiet up to t, t is at most the deadline
   pub upto_deadline : (x : ℕ) → x < count net → executed_at run x ≡ None → (t : ℕ) → next run ≤ t → IsQuiet net bounds run t → t ≤ net.deadline
   upto_deadline x here waiting t from quiet =
@@ -122,7 +122,7 @@ module _ (net : Network) (bounds : List Bound) (table : Table) (wf : IsWellForme
       (record { from = from; work = work_is t from quiet first.passes; first = idle_before t quiet }, omega arith)
 
   -- where not all is executed, there is a first moment with work
-  pub some_first : is_done run ≡ false → (t : ℕ) × IsFirstWork net bounds run t
+  pub some_first : is_run_done run ≡ false → (t : ℕ) × IsFirstWork net bounds run t
   some_first waits = elim (cases_option (first_work net bounds run)) [
     | inr some ↦ (some.0, find_first (has_work net bounds run) (next run) (moments_left net run) some.0 some.1)
     | inl none ↦
@@ -139,33 +139,33 @@ module _ (net : Network) (bounds : List Bound) (table : Table) (wf : IsWellForme
   ]
 
   pub due_first : (t : ℕ) → due net bounds run ≡ Some t →
-      (is_done run ≡ false) × IsFirstWork net bounds run t
-  due_first t e = elim (cases_Bool (is_done run)) [
+      (is_run_done run ≡ false) × IsFirstWork net bounds run t
+  due_first t e = elim (cases_Bool (is_run_done run)) [
     | inl all ↦
-        let none = cond-true (is_done run) None (first_work net bounds run) all in
+        let none = cond-true (is_run_done run) None (first_work net bounds run) all in
         let f : ⊥ = cc in
         absurd f
     | inr waits ↦
-        let there = cond-false (is_done run) None (first_work net bounds run) waits in
+        let there = cond-false (is_run_done run) None (first_work net bounds run) waits in
         (waits, find_first (has_work net bounds run) (next run) (moments_left net run) t (sym there ∙ e))
   ]
 
   pub due_is_due : (t : ℕ) → due net bounds run ≡ Some t → IsDue net run t × (t ≤ net.deadline)
   due_is_due t e = first_is_due t (due_first t e).1
 
-  pub due_none : due net bounds run ≡ None → is_done run ≡ true
-  due_none e = elim (cases_Bool (is_done run)) [
+  pub due_none : due net bounds run ≡ None → is_run_done run ≡ true
+  due_none e = elim (cases_Bool (is_run_done run)) [
     | inl all ↦ all
     | inr waits ↦
         let first = some_first waits in
-        let there = cond-false (is_done run) None (first_work net bounds run) waits in
+        let there = cond-false (is_run_done run) None (first_work net bounds run) waits in
         let at = found (has_work net bounds run) (next run) (moments_left net run) first.0 first.1 in
         let f : ⊥ = cc in
         absurd f
   ]
 
-  pub done_none : is_done run ≡ true → due net bounds run ≡ None
-  done_none all = cond-true (is_done run) None (first_work net bounds run) all
+  pub done_none : is_run_done run ≡ true → due net bounds run ≡ None
+  done_none all = cond-true (is_run_done run) None (first_work net bounds run) all
 
   -- the moments of a run in which all is executed are those of a strategy
   pub carried_out : IsDone net run → IsFulfilled net run
@@ -184,7 +184,7 @@ module _ (net : Network) (bounds : List Bound) (table : Table) (wf : IsWellForme
 
 -- where t is accepted, it is quiet up to t, and t is at most the deadline
 pub accepted_quiet : (net : Network) (bounds : List Bound) (table : Table) → IsWellFormed net → IsEarliest net bounds table →
-    (run : Run) → IsRight net run → (t : ℕ) → IsAccepted net bounds run t → IsQuiet net bounds run t × (t ≤ net.deadline)
+    (run : Run) → IsRightRun net run → (t : ℕ) → IsAccepted net bounds run t → IsQuiet net bounds run t × (t ≤ net.deadline)
 accepted_quiet net bounds table wf plan run right t ok = elim (cases_option (due net bounds run)) [
   | inl none ↦ absurd (true≢false (sym (due_none net bounds table wf plan run right none) ∙ ok.waits))
   | inr some ↦
@@ -195,8 +195,8 @@ accepted_quiet net bounds table wf plan run right t ok = elim (cases_option (due
 ]
 
 pub accepted_right : (net : Network) (bounds : List Bound) (table : Table) → IsWellFormed net → IsEarliest net bounds table →
-    (run : Run) → IsRight net run → (t : ℕ) → moment_refusal net bounds run t ≡ None →
-    IsRight net (moved net bounds run t) × (t ≤ net.deadline)
+    (run : Run) → IsRightRun net run → (t : ℕ) → moment_refusal net bounds run t ≡ None →
+    IsRightRun net (run_moved net bounds run t) × (t ≤ net.deadline)
 accepted_right net bounds table wf plan run right t none =
     let ok = judged net bounds run t None none in
     let quiet = accepted_quiet net bounds table wf plan run right t ok in

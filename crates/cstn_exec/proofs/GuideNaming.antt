@@ -17,8 +17,8 @@ use Rattle.cstn_lift.specs.Completion.{completed_label}
 use Rattle.cstn_lift.specs.WellFormed.{IsLabelled}
 use Rattle.cstn_lift.specs.Lowered.{lowered}
 use Rattle.cstn_exec.specs.Runs.{Run, executed_at, outcome_of, known, is_free, called}
-use Rattle.cstn_exec.specs.Moves.{moment_refusal, moved}
-use Rattle.cstn_exec.specs.Right.{IsRight}
+use Rattle.cstn_exec.specs.Moves.{moment_refusal, run_moved}
+use Rattle.cstn_exec.specs.Right.{IsRightRun}
 use Rattle.cstn_exec.proofs.Knowing.{known_from, known_to, observed_where}
 use Rattle.cstn_exec.proofs.Naming.{executed_passing, executed_failing, from_passing, in_passing}
 use Rattle.cstn_exec.proofs.Moving.{free_parts}
@@ -46,13 +46,13 @@ module _ (f g : ℕ → Bool) (n x : ℕ) where
 
 -- ---- the run after a moment
 
-module _ (net : Network) (bounds : List Bound) (wf : IsWellFormed net) (run : Run) (right : IsRight net run) (t : ℕ) where
-  pub moved_kept : (x u : ℕ) → executed_at run x ≡ Some u → executed_at (moved net bounds run t) x ≡ Some u
+module _ (net : Network) (bounds : List Bound) (wf : IsWellFormed net) (run : Run) (right : IsRightRun net run) (t : ℕ) where
+  pub moved_kept : (x u : ℕ) → executed_at run x ≡ Some u → executed_at (run_moved net bounds run t) x ≡ Some u
   moved_kept x u e =
       executed_failing (is_free net bounds run t) t 0 (count net) run.moments x
       (false_from_ne_true (is_free net bounds run t x) (λ free. some_or_none (executed_at run x) u e (free_parts net bounds run t x free).0)) ∙ e
 
-  pub moved_was : (x u : ℕ) → x < count net → executed_at (moved net bounds run t) x ≡ Some u →
+  pub moved_was : (x u : ℕ) → x < count net → executed_at (run_moved net bounds run t) x ≡ Some u →
       (executed_at run x ≡ Some u) ⊎ (Contains (called net bounds run t) x × (u ≡ t))
   moved_was x u here e =
       let size = right.moments in
@@ -71,7 +71,7 @@ module _ (net : Network) (bounds : List Bound) (wf : IsWellFormed net) (run : Ru
   pub called_inside : (x : ℕ) → Contains (called net bounds run t) x → x < count net
   called_inside x c = let parts = from_passing (is_free net bounds run t) 0 (count net) x c in let upto = parts.1 in omega arith
 
-  pub called_executed : (x : ℕ) → Contains (called net bounds run t) x → executed_at (moved net bounds run t) x ≡ Some t
+  pub called_executed : (x : ℕ) → Contains (called net bounds run t) x → executed_at (run_moved net bounds run t) x ≡ Some t
   called_executed x c =
       let size = right.moments in
       let parts = from_passing (is_free net bounds run t) 0 (count net) x c in
@@ -87,11 +87,11 @@ module _ (net : Network) (bounds : List Bound) (wf : IsWellFormed net) (run : Ru
         absurd (some_or_none (executed_at run x) seen.0 (sym (observed_where net wf.network run x p o) ∙ seen.1) (called_waits x c))
   ]
 
-  pub known_more : (u p : ℕ) (v : Bool) → known net run u p ≡ Some v → known net (moved net bounds run t) u p ≡ Some v
+  pub known_more : (u p : ℕ) (v : Bool) → known net run u p ≡ Some v → known net (run_moved net bounds run t) u p ≡ Some v
   known_more u p v k =
       let from = known_from net wf.network run u p v k in
       let r = from.0 in
-      known_to net wf.network (moved net bounds run t) u p v (record {
+      known_to net wf.network (run_moved net bounds run t) u p v (record {
         observer = r.observer;
         moment = r.moment;
         observes = r.observes;
@@ -100,9 +100,9 @@ module _ (net : Network) (bounds : List Bound) (wf : IsWellFormed net) (run : Ru
       }) from.1
 
   -- executing observers at t makes nothing more known at t
-  pub known_back : (p : ℕ) (v : Bool) → known net (moved net bounds run t) (t + 1) p ≡ Some v → known net run (t + 1) p ≡ Some v
+  pub known_back : (p : ℕ) (v : Bool) → known net (run_moved net bounds run t) (t + 1) p ≡ Some v → known net run (t + 1) p ≡ Some v
   known_back p v k =
-      let from = known_from net wf.network (moved net bounds run t) (t + 1) p v k in
+      let from = known_from net wf.network (run_moved net bounds run t) (t + 1) p v k in
       let r = from.0 in
       let reacts = wf.network.reacts r.observer p r.observes in
       let soon = r.passed in
@@ -139,7 +139,7 @@ module _ (m : Labelled) (bounds : List Bound) (run : Run) (t : ℕ) where
   named_ascend = IsStrictlyIncreasing-filter (holds_at m run t) (called (lowered m) bounds run t) (called_ascend (lowered m) bounds run t)
 
 module _ (m : Labelled) (bounds : List Bound) (table : Table) (run : Run) (t : ℕ) (good : IsLabelled m) (wf : IsWellFormed (lowered m))
-    (plan : IsEarliest (lowered m) bounds table) (right : IsRight (lowered m) run) (ok : moment_refusal (lowered m) bounds run t ≡ None) where
+    (plan : IsEarliest (lowered m) bounds table) (right : IsRightRun (lowered m) run) (ok : moment_refusal (lowered m) bounds run t ≡ None) where
   -- the completed label of a time-point that is called at t is ruled out where it doesn't hold
   pub not_holding : (x : ℕ) → Contains (called (lowered m) bounds run t) x → holds_at m run t x ≡ false →
       IsRuledOut (known (lowered m) run (t + 1)) (completed_label m x)
@@ -147,10 +147,10 @@ module _ (m : Labelled) (bounds : List Bound) (table : Table) (run : Run) (t : �
       let net = lowered m in
       let right_then = (accepted_right net bounds table wf plan run right t ok).0 in
       let back = known_back net bounds wf run right t in
-      elim (decided m bounds table good wf plan (moved net bounds run t) right_then x t (called_executed net bounds wf run right t x c)) [
-        | inr out ↦ ruled_out_on (known net (moved net bounds run t) (t + 1)) (known net run (t + 1)) (completed_label m x) back out
+      elim (decided m bounds table good wf plan (run_moved net bounds run t) right_then x t (called_executed net bounds wf run right t x c)) [
+        | inr out ↦ ruled_out_on (known net (run_moved net bounds run t) (t + 1)) (known net run (t + 1)) (completed_label m x) back out
         | inl holds ↦
-            let before = holds_on (known net (moved net bounds run t) (t + 1)) (known net run (t + 1)) (completed_label m x) back holds in
+            let before = holds_on (known net (run_moved net bounds run t) (t + 1)) (known net run (t + 1)) (completed_label m x) back holds in
             absurd (both_ways (holds_at m run t x) h ((holds_is m (known net run (t + 1)) x good).1 before))
       ]
 

@@ -7,7 +7,7 @@ use Rattle.cstn_lift.specs.Labelled.{Labelled}
 use Rattle.cstn_lift.specs.Lowered.{lowered, observer_of}
 use Rattle.cstn_exec.specs.Runs.{executed_at, outcome_of, observed_at}
 use Rattle.cstn_exec.specs.Moves.{NotExecuted, outcome_refusal, unless_unseen, unless_known}
-use Rattle.cstn_exec.specs.Guides.{Guided, is_left, named_at, is_among, is_denied, see_refusal}
+use Rattle.cstn_exec.specs.Guides.{Guided, was_left_out, named_at, is_among, is_denied, see_refusal}
 
 pub known_already : (p : ℕ) (o : Option Bool) → unless_known p o ≡ Some (NotExecuted p) → ⊥
 known_already p None e = let f : ⊥ = cc in f
@@ -16,11 +16,11 @@ known_already p (Some v) e = let f : ⊥ = cc in f
 -- for a network in which `observer_of` finds exactly the time-point that observes a proposition
 module _ (m : Labelled) (found : (x p : ℕ) → Observes (lowered m) x p → observer_of (lowered m) p ≡ Some x)
     (only : (x p : ℕ) → observer_of (lowered m) p ≡ Some x → Observes (lowered m) x p) (g : Guided) (p : ℕ) where
-  marked_so : (x : ℕ) → Observes (lowered m) x p → is_denied (lowered m) g p ≡ is_left g x
+  marked_so : (x : ℕ) → Observes (lowered m) x p → is_denied (lowered m) g p ≡ was_left_out g x
   marked_so x o = ap (is_among g.left) (found x p o)
 
   named_is : is_denied (lowered m) g p ≡ false → (x : ℕ) → Observes (lowered m) x p → named_at g x ≡ executed_at g.run x
-  named_is kept x o = cond-false (is_left g x) None (executed_at g.run x) (sym (marked_so x o) ∙ kept)
+  named_is kept x o = cond-false (was_left_out g x) None (executed_at g.run x) (sym (marked_so x o) ∙ kept)
 
   observed_where : (x : ℕ) → Observes (lowered m) x p → observed_at (lowered m) g.run p ≡ executed_at g.run x
   observed_where x o = ap (λ o. option_and_then (executed_at g.run) o) (found x p o)
@@ -52,7 +52,7 @@ module _ (m : Labelled) (found : (x p : ℕ) → Observes (lowered m) x p → ob
   pub refused_unnamed : see_refusal m g p ≡ Some (NotExecuted p) ↔ ((x : ℕ) → Observes (lowered m) x p → named_at g x ≡ None)
   refused_unnamed = elim (cases_Bool (is_denied (lowered m) g p)) [
     | inl gone ↦ (
-      (λ e x o. cond-true (is_left g x) None (executed_at g.run x) (sym (marked_so x o) ∙ gone)),
+      (λ e x o. cond-true (was_left_out g x) None (executed_at g.run x) (sym (marked_so x o) ∙ gone)),
       (λ h. cond-true (is_denied (lowered m) g p) (Some (NotExecuted p)) (outcome_refusal (lowered m) g.run p) gone),
     )
     | inr kept ↦ refused_kept kept (observed_at (lowered m) g.run p) refl

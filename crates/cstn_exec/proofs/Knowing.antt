@@ -12,7 +12,7 @@ use Rattle.cstn_facts.proofs.Places.{some_within}
 use Rattle.cstn_label.specs.Labels.{Label, MarkFits}
 use Rattle.cstn_net.specs.Networks.{Network, IsNetwork, Observes, is_prop}
 use Rattle.cstn_net.proofs.Knowledge.{observer_within}
-use Rattle.cstn_exec.specs.Runs.{Run, executed_at, outcome_of, observed_at, is_before, is_ready, known, is_awaited, fits_known, is_possible}
+use Rattle.cstn_exec.specs.Runs.{Run, executed_at, outcome_of, observed_at, is_before, is_outcome_ready, known, is_awaited, fits_known, is_possible}
 use Rattle.cstn_label.proofs.MarkLemmas.{fits_true, true_fits}
 use Rattle.cstn_net.proofs.Observed.{prop_true, true_prop}
 
@@ -60,7 +60,7 @@ module _ (net : Network) (wf : IsNetwork net) where
           absurd f
       go (Some x) some = (x, at_observer x p some, subst (λ o. option_and_then (executed_at run) o ≡ Some m) some e)
 
-  pub ready_from : (run : Run) (u p : ℕ) → is_ready net run u p ≡ true → Ready run u p
+  pub ready_from : (run : Run) (u p : ℕ) → is_outcome_ready net run u p ≡ true → Ready run u p
   ready_from run u p h = go (observed_at net run p) refl
     where
       go : (o : Option ℕ) → observed_at net run p ≡ o → Ready run u p
@@ -75,31 +75,31 @@ module _ (net : Network) (wf : IsNetwork net) where
             passed = ltb-true (m + net.reaction p) u (subst (λ o. is_before u (option_map (λ m. m + net.reaction p) o) ≡ true) some h);
           }
 
-  pub ready_to : (run : Run) (u p : ℕ) → Ready run u p → is_ready net run u p ≡ true
+  pub ready_to : (run : Run) (u p : ℕ) → Ready run u p → is_outcome_ready net run u p ≡ true
   ready_to run u p r =
       let at : observed_at net run p ≡ Some r.moment = observed_where run r.observer p r.observes ∙ r.executed in
       subst (λ o. is_before u (option_map (λ m. m + net.reaction p) o) ≡ true) (sym at) (lt-ltb (r.moment + net.reaction p) u r.passed)
 
   pub known_from : (run : Run) (u p : ℕ) (v : Bool) → known net run u p ≡ Some v → Ready run u p × (outcome_of run p ≡ Some v)
-  known_from run u p v e = elim (cases_Bool (is_ready net run u p)) [
-    | inl yes_ready ↦ (ready_from run u p yes_ready, sym (cond-true (is_ready net run u p) (outcome_of run p) None yes_ready) ∙ e)
+  known_from run u p v e = elim (cases_Bool (is_outcome_ready net run u p)) [
+    | inl yes_ready ↦ (ready_from run u p yes_ready, sym (cond-true (is_outcome_ready net run u p) (outcome_of run p) None yes_ready) ∙ e)
     | inr no_ready ↦
-        let none = cond-false (is_ready net run u p) (outcome_of run p) None no_ready in
+        let none = cond-false (is_outcome_ready net run u p) (outcome_of run p) None no_ready in
         let f : ⊥ = cc in
         absurd f
   ]
 
   pub known_to : (run : Run) (u p : ℕ) (v : Bool) → Ready run u p → outcome_of run p ≡ Some v → known net run u p ≡ Some v
-  known_to run u p v r e = cond-true (is_ready net run u p) (outcome_of run p) None (ready_to run u p r) ∙ e
+  known_to run u p v r e = cond-true (is_outcome_ready net run u p) (outcome_of run p) None (ready_to run u p r) ∙ e
 
   pub awaited_from : (run : Run) (u p : ℕ) → is_awaited net run u p ≡ true → Ready run u p × (outcome_of run p ≡ None)
   awaited_from run u p h =
-      let both = and_parts (is_ready net run u p) (is_none (outcome_of run p)) h in
+      let both = and_parts (is_outcome_ready net run u p) (is_none (outcome_of run p)) h in
       (ready_from run u p both.0, is_none-true (outcome_of run p) both.1)
 
   pub awaited_to : (run : Run) (u p : ℕ) → Ready run u p → outcome_of run p ≡ None → is_awaited net run u p ≡ true
   awaited_to run u p r e =
-      and_from (is_ready net run u p) (is_none (outcome_of run p)) (ready_to run u p r) (ap is_none e)
+      and_from (is_outcome_ready net run u p) (is_none (outcome_of run p)) (ready_to run u p r) (ap is_none e)
 
   ready_later : (run : Run) (u w p : ℕ) → u ≤ w → Ready run u p → Ready run w p
   ready_later run u w p upto r = record {
@@ -125,7 +125,7 @@ pub possible_from : (net : Network) (run : Run) (u : ℕ) (a : Label) → length
     (p : ℕ) (v : Bool) → known net run u p ≡ Some v → MarkFits v (a p)
 unfolding is_possible
 possible_from net run u a size h p v k =
-    let seen : outcome_of run p ≡ Some v = is_outcome (is_ready net run u p) (outcome_of run p) k in
+    let seen : outcome_of run p ≡ Some v = is_outcome (is_outcome_ready net run u p) (outcome_of run p) k in
     let inside = some_within run.outcomes p v seen in
     let fit = each_passes (λ q. fits_known (known net run u q) (a q)) 0 52 h p (omega arith) (omega arith) in
     fits_true v (a p) (subst (λ o. fits_known o (a p) ≡ true) k fit)

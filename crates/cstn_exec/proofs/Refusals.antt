@@ -12,7 +12,7 @@ use Rattle.cstn_net.specs.Strategies.{Table}
 use Rattle.cstn_plan.specs.Plans.{IsEarliest}
 use Rattle.cstn_exec.specs.Runs.{Run, observed_at, outcome_of, awaited, is_free, called, due}
 use Rattle.cstn_exec.specs.Moves.{Done, Past, Late, Awaiting, moment_refusal, outcome_refusal, unless_unseen, unless_known, handed}
-use Rattle.cstn_exec.specs.Right.{IsRight, IsCalled, IsDue, IsDone, IsBetween, IsFirstAwaited}
+use Rattle.cstn_exec.specs.Right.{IsRightRun, IsCalled, IsDue, IsDone, IsBetween, IsFirstAwaited}
 use Rattle.cstn_exec.proofs.Judging.{judged, not_refused, refusal_done}
 use Rattle.cstn_exec.proofs.Naming.{from_passing, in_passing}
 use Rattle.cstn_exec.proofs.Running.{awaits_none, awaited_least}
@@ -21,8 +21,8 @@ use Rattle.cstn_exec.proofs.Dues.{seen_scenario, seen_agrees, done_from, done_to
 
 -- ---- outcomes
 
-pub seen_right : (net : Network) (run : Run) (p : ℕ) → IsWellFormed net → IsRight net run → outcome_refusal net run p ≡ None → p < 52 →
-    (v : Bool) → IsRight net (handed run p v)
+pub seen_right : (net : Network) (run : Run) (p : ℕ) → IsWellFormed net → IsRightRun net run → outcome_refusal net run p ≡ None → p < 52 →
+    (v : Bool) → IsRightRun net (handed run p v)
 seen_right net run p wf right ok letter v = elim (cases_option (observed_at net run p)) [
   | inl none ↦
       let refused = subst (λ o. unless_unseen p o (unless_known p (outcome_of run p)) ≡ None) none ok in
@@ -42,7 +42,7 @@ seen_right net run p wf right ok letter v = elim (cases_option (observed_at net 
 -- ---- which time-points are called
 
 pub called_exactly : (net : Network) (bounds : List Bound) (table : Table) (run : Run) (t : ℕ) → IsWellFormed net → IsEarliest net bounds table →
-    IsRight net run → moment_refusal net bounds run t ≡ None → (x : ℕ) → Contains (called net bounds run t) x ↔ IsCalled net run t x
+    IsRightRun net run → moment_refusal net bounds run t ≡ None → (x : ℕ) → Contains (called net bounds run t) x ↔ IsCalled net run t x
 called_exactly net bounds table run t wf plan right none x =
     let ok = judged net bounds run t None none in
     let quiet = (accepted_quiet net bounds table wf plan run right t ok).0 in
@@ -61,7 +61,7 @@ called_ascend net bounds run t = passing_ascends (is_free net bounds run t) (cou
 
 -- ---- moments
 
-pub refused_done : (net : Network) (bounds : List Bound) (run : Run) (t : ℕ) → IsRight net run → moment_refusal net bounds run t ≡ Some Done ↔ IsDone net run
+pub refused_done : (net : Network) (bounds : List Bound) (run : Run) (t : ℕ) → IsRightRun net run → moment_refusal net bounds run t ≡ Some Done ↔ IsDone net run
 refused_done net bounds run t right = (
   (λ e. done_from net run right.moments (judged net bounds run t (Some Done) e)),
   (λ all. refusal_done net bounds run t (done_to net run right.moments all)),
@@ -78,7 +78,7 @@ refused_awaiting net bounds run t p wf e =
     record { awaited = first.0; least = first.1 }
 
 pub refused_late : (net : Network) (bounds : List Bound) (table : Table) (run : Run) (t u : ℕ) → IsWellFormed net → IsEarliest net bounds table →
-    IsRight net run → moment_refusal net bounds run t ≡ Some (Late u) → IsDue net run u × (u < t)
+    IsRightRun net run → moment_refusal net bounds run t ≡ Some (Late u) → IsDue net run u × (u < t)
 refused_late net bounds table run t u wf plan right e =
     let late = judged net bounds run t (Some (Late u)) e in
     ((due_is_due net bounds table wf plan run right u late.0).0, late.1)
@@ -86,7 +86,7 @@ refused_late net bounds table run t u wf plan right e =
 -- ---- before the due moment
 
 pub accepted_before : (net : Network) (bounds : List Bound) (table : Table) (run : Run) (t u : ℕ) → IsWellFormed net → IsEarliest net bounds table →
-    IsRight net run → due net bounds run ≡ Some t → IsBetween run u t → (moment_refusal net bounds run u ≡ None) × (called net bounds run u ≡ [])
+    IsRightRun net run → due net bounds run ≡ Some t → IsBetween run u t → (moment_refusal net bounds run u ≡ None) × (called net bounds run u ≡ [])
 accepted_before net bounds table run t u wf plan right e between =
     let first = due_first net bounds table wf plan run right t e in
     let idle = or_parts (is_some (awaited net run (u + 1))) (list_any (is_free net bounds run u) (range_with_len 0 (count net)))

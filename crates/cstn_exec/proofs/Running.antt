@@ -15,8 +15,8 @@ use Rattle.cstn_net.proofs.Dynamic.{one_least}
 use Rattle.cstn_net.proofs.Knowledge.{observer_within}
 use Rattle.cstn_plan.specs.Plans.{IsEarliest}
 use Rattle.cstn_plan.proofs.AskedLemmas.{greatest_upper, greatest_attained}
-use Rattle.cstn_exec.specs.Runs.{Run, next, executed_at, outcome_of, known, is_awaited, awaited, is_possible, earliest, is_free, has_work}
-use Rattle.cstn_exec.specs.Right.{AgreesKnown, IsRight}
+use Rattle.cstn_exec.specs.Runs.{Run, next, executed_at, outcome_of, known, is_awaited, awaited, is_possible, earliest_moment, is_free, has_work}
+use Rattle.cstn_exec.specs.Right.{AgreesKnown, IsRightRun}
 use Rattle.cstn_exec.proofs.Knowing.{Ready, known_from, known_to, known_later, awaited_from, awaited_to, possible_from, possible_to}
 
 -- a scenario that agrees with what is known agrees with what was known before
@@ -41,16 +41,16 @@ module _ (net : Network) (bounds : List Bound) (run : Run) (wf : IsWellFormed ne
       let first = find_first (is_awaited net run u) 0 52 p e in
       (first.passes, λ q before h. both_ways (is_awaited net run u q) (first.before q (omega arith) before) h)
 
-  pub held_unless_free : (t x : ℕ) → is_free net bounds run t x ≡ false → executed_at run x ≡ None → t < earliest net bounds run (t + 1) x
-  held_unless_free t x h none = elim (and_cases (is_none (executed_at run x)) (not (nat_lt t (earliest net bounds run (t + 1) x))) h) [
+  pub held_unless_free : (t x : ℕ) → is_free net bounds run t x ≡ false → executed_at run x ≡ None → t < earliest_moment net bounds run (t + 1) x
+  held_unless_free t x h none = elim (and_cases (is_none (executed_at run x)) (not (nat_lt t (earliest_moment net bounds run (t + 1) x))) h) [
     | inl some ↦ absurd (true≢false (sym (ap is_none none) ∙ some))
-    | inr held ↦ ltb-true t (earliest net bounds run (t + 1) x) (not-false (nat_lt t (earliest net bounds run (t + 1) x)) held)
+    | inr held ↦ ltb-true t (earliest_moment net bounds run (t + 1) x) (not-false (nat_lt t (earliest_moment net bounds run (t + 1) x)) held)
   ]
 
   -- nothing is awaited at t, and every time-point that isn't executed is held back
   pub record Idle (t : ℕ) : Type 0 where
     pub none_awaited : (p : ℕ) → is_awaited net run (t + 1) p ≡ true → ⊥
-    pub held : (x : ℕ) → x < count net → executed_at run x ≡ None → t < earliest net bounds run (t + 1) x
+    pub held : (x : ℕ) → x < count net → executed_at run x ≡ None → t < earliest_moment net bounds run (t + 1) x
 
   pub idle_from : (t : ℕ) → has_work net bounds run t ≡ false → Idle t
   idle_from t h =
@@ -66,7 +66,7 @@ abbrev pub IsQuiet : Network → List Bound → Run → ℕ → Type 0
 IsQuiet net bounds run t = (u : ℕ) → next run ≤ u → u < t → has_work net bounds run u ≡ false
 
 module _ (net : Network) (bounds : List Bound) (table : Table) (wf : IsWellFormed net) (plan : IsEarliest net bounds table)
-    (run : Run) (right : IsRight net run) where
+    (run : Run) (right : IsRightRun net run) where
   pub executed_is : (s : Scenario) (x m : ℕ) → AgreesKnown net run (next run) s → executed_at run x ≡ Some m → table s x ≡ m
   executed_is s x m agrees e =
       let size = right.moments in
@@ -113,7 +113,7 @@ module _ (net : Network) (bounds : List Bound) (table : Table) (wf : IsWellForme
     -- under the same conditions, a time-point that is held back at t comes later
     held_later : ((y : ℕ) → y < count net → executed_at run y ≡ None → t ≤ table s y) →
         ((p : ℕ) → is_awaited net run (t + 1) p ≡ true → ⊥) → (x : ℕ) → x < count net →
-        t < earliest net bounds run (t + 1) x → t < table s x
+        t < earliest_moment net bounds run (t + 1) x → t < table s x
     held_later rest none x here held =
         let test : Bound → Bool = λ b. (b.node == x) && is_possible (known net run (t + 1)) b.label in
         elim (greatest_attained test bounds) [
@@ -133,7 +133,7 @@ module _ (net : Network) (bounds : List Bound) (table : Table) (wf : IsWellForme
               })
         ]
 
-    later_held : (x : ℕ) → x < count net → t < table s x → t < earliest net bounds run (t + 1) x
+    later_held : (x : ℕ) → x < count net → t < table s x → t < earliest_moment net bounds run (t + 1) x
     later_held x here later =
         let held = (plan.held s t x here).1 later in
         let test : Bound → Bool = λ b. (b.node == x) && is_possible (known net run (t + 1)) b.label in
@@ -170,7 +170,7 @@ module _ (net : Network) (bounds : List Bound) (table : Table) (wf : IsWellForme
   pub at_moment : (s : Scenario) (t : ℕ) → next run ≤ t → IsQuiet net bounds run t →
       ((p : ℕ) → is_awaited net run (t + 1) p ≡ true → ⊥) → AgreesKnown net run (t + 1) s → (x : ℕ) → x < count net →
       executed_at run x ≡ None →
-      (earliest net bounds run (t + 1) x ≤ t → table s x ≡ t) × (t < earliest net bounds run (t + 1) x → t < table s x)
+      (earliest_moment net bounds run (t + 1) x ≤ t → table s x ≡ t) × (t < earliest_moment net bounds run (t + 1) x → t < table s x)
   at_moment s t from quiet none agrees x here waiting =
       let rest = λ (y : ℕ) (in_net : y < count net) (not_yet : executed_at run y ≡ None).
       quiet_later s t from quiet (agrees_before net run t (t + 1) s wf.network (omega arith) agrees) y in_net not_yet in (

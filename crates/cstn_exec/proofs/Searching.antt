@@ -11,8 +11,8 @@ use Rattle.cstn_net.specs.Networks.{Network, IsWellFormed, count}
 use Rattle.cstn_net.specs.Strategies.{Table}
 use Rattle.cstn_plan.specs.Asked.{greatest}
 use Rattle.cstn_plan.specs.Plans.{IsEarliest}
-use Rattle.cstn_exec.specs.Runs.{Run, next, is_done, executed_at, outcome_of, is_ready, is_awaited, awaited, is_possible, earliest, is_free, has_work, due}
-use Rattle.cstn_exec.specs.Right.{IsRight}
+use Rattle.cstn_exec.specs.Runs.{Run, next, is_run_done, executed_at, outcome_of, is_outcome_ready, is_awaited, awaited, is_possible, earliest_moment, is_free, has_work, due}
+use Rattle.cstn_exec.specs.Right.{IsRightRun}
 use Rattle.cstn_exec.proofs.Knowing.{Ready, ready_from, ready_to}
 use Rattle.cstn_exec.proofs.Running.{IsQuiet}
 use Rattle.cstn_exec.proofs.Moving.{free_parts, free_from}
@@ -92,11 +92,11 @@ awaited_nowhere net run u h = not_found (is_awaited net run u) 0 52 (λ q from u
 -- ---- from t to w nothing becomes known or awaited
 
 module _ (net : Network) (bounds : List Bound) (run : Run) (wf : IsWellFormed net) (t w : ℕ) (upto : t ≤ w)
-    (same : (p : ℕ) → is_ready net run (w + 1) p ≡ true → is_ready net run (t + 1) p ≡ true) where
-  ready_same : is_ready net run (w + 1) ≡ is_ready net run (t + 1)
+    (same : (p : ℕ) → is_outcome_ready net run (w + 1) p ≡ true → is_outcome_ready net run (t + 1) p ≡ true) where
+  ready_same : is_outcome_ready net run (w + 1) ≡ is_outcome_ready net run (t + 1)
   ready_same = fun_ext at
     where
-      later : (p : ℕ) → Ready net wf.network run (t + 1) p → is_ready net run (w + 1) p ≡ true
+      later : (p : ℕ) → Ready net wf.network run (t + 1) p → is_outcome_ready net run (w + 1) p ≡ true
       later p r = ready_to net wf.network run (w + 1) p (record {
         observer = r.observer;
         moment = r.moment;
@@ -105,13 +105,13 @@ module _ (net : Network) (bounds : List Bound) (run : Run) (wf : IsWellFormed ne
         passed = let soon = r.passed in omega arith;
       })
 
-      at : (p : ℕ) → is_ready net run (w + 1) p ≡ is_ready net run (t + 1) p
-      at p = elim (cases_Bool (is_ready net run (t + 1) p)) [
+      at : (p : ℕ) → is_outcome_ready net run (w + 1) p ≡ is_outcome_ready net run (t + 1) p
+      at p = elim (cases_Bool (is_outcome_ready net run (t + 1) p)) [
         | inl h ↦ later p (ready_from net wf.network run (t + 1) p h) ∙ sym h
-        | inr h ↦ false_from_ne_true (is_ready net run (w + 1) p) (λ y. both_ways (is_ready net run (t + 1) p) h (same p y)) ∙ sym h
+        | inr h ↦ false_from_ne_true (is_outcome_ready net run (w + 1) p) (λ y. both_ways (is_outcome_ready net run (t + 1) p) h (same p y)) ∙ sym h
       ]
 
-  pub earliest_same : (x : ℕ) → earliest net bounds run (w + 1) x ≡ earliest net bounds run (t + 1) x
+  pub earliest_same : (x : ℕ) → earliest_moment net bounds run (w + 1) x ≡ earliest_moment net bounds run (t + 1) x
   earliest_same x =
       ap (λ (r : ℕ → Bool). greatest (λ b. (b.node == x) && is_possible (λ p. if r p then outcome_of run p else None) b.label) bounds) ready_same
 
@@ -121,7 +121,7 @@ module _ (net : Network) (bounds : List Bound) (run : Run) (wf : IsWellFormed ne
 
   -- there is nothing to be done at w, if nothing is awaited and all time-points that aren't executed are held back
   pub still_idle : awaited net run (t + 1) ≡ None →
-      ((x : ℕ) → x < count net → executed_at run x ≡ None → w < earliest net bounds run (t + 1) x) → has_work net bounds run w ≡ false
+      ((x : ℕ) → x < count net → executed_at run x ≡ None → w < earliest_moment net bounds run (t + 1) x) → has_work net bounds run w ≡ false
   still_idle none held =
       or_from (is_some (awaited net run (w + 1))) (list_any (is_free net bounds run w) (range_with_len 0 (count net)))
       (ap is_some (awaited_same ∙ none)) (none_passes (is_free net bounds run w) 0 (count net) fails)
@@ -135,7 +135,7 @@ module _ (net : Network) (bounds : List Bound) (run : Run) (wf : IsWellFormed ne
           omega arith)
 
   -- there is something to be done at w, if a time-point that isn't executed isn't held back
-  pub work_then : (x : ℕ) → x < count net → executed_at run x ≡ None → earliest net bounds run (t + 1) x ≤ w → has_work net bounds run w ≡ true
+  pub work_then : (x : ℕ) → x < count net → executed_at run x ≡ None → earliest_moment net bounds run (t + 1) x ≤ w → has_work net bounds run w ≡ true
   work_then x here waiting free =
       or_right (is_some (awaited net run (w + 1))) (list_any (is_free net bounds run w) (range_with_len 0 (count net)))
       (passing_at (is_free net bounds run w) 0 (count net) x (omega arith) (omega arith)
@@ -144,8 +144,8 @@ module _ (net : Network) (bounds : List Bound) (run : Run) (wf : IsWellFormed ne
 -- it stays quiet while nothing becomes known or awaited and all time-points that aren't executed are held back
 pub quiet_on : (net : Network) (bounds : List Bound) (run : Run) → IsWellFormed net → (t u : ℕ) → IsQuiet net bounds run t →
     awaited net run (t + 1) ≡ None →
-    ((w p : ℕ) → t ≤ w → w < u → is_ready net run (w + 1) p ≡ true → is_ready net run (t + 1) p ≡ true) →
-    ((x w : ℕ) → x < count net → executed_at run x ≡ None → t ≤ w → w < u → w < earliest net bounds run (t + 1) x) → IsQuiet net bounds run u
+    ((w p : ℕ) → t ≤ w → w < u → is_outcome_ready net run (w + 1) p ≡ true → is_outcome_ready net run (t + 1) p ≡ true) →
+    ((x w : ℕ) → x < count net → executed_at run x ≡ None → t ≤ w → w < u → w < earliest_moment net bounds run (t + 1) x) → IsQuiet net bounds run u
 quiet_on net bounds run wf t u quiet none same held = λ w low high. elim (cases_lt w t) [
   | inl before ↦ quiet w low before
   | inr after ↦ still_idle net bounds run wf t w after (λ p. same w p after high) none (λ x here waiting. held x w here waiting after high)
@@ -157,12 +157,12 @@ work_awaited net bounds run t p e =
 
 -- the due moment is the first with something to be done
 pub due_is : (net : Network) (bounds : List Bound) (table : Table) → IsWellFormed net → IsEarliest net bounds table →
-    (run : Run) → IsRight net run → is_done run ≡ false → (t : ℕ) → next run ≤ t → IsQuiet net bounds run t →
+    (run : Run) → IsRightRun net run → is_run_done run ≡ false → (t : ℕ) → next run ≤ t → IsQuiet net bounds run t →
     has_work net bounds run t ≡ true → due net bounds run ≡ Some t
 due_is net bounds table wf plan run right waits t from quiet work =
     let x = someone_waits net run right.moments waits in
     let within = upto_deadline net bounds table wf plan run right x.0 x.1 x.2 t from quiet in
-    cond-false (is_done run) None (first_work net bounds run) waits
+    cond-false (is_run_done run) None (first_work net bounds run) waits
     ∙ found (has_work net bounds run) (next run) (moments_left net run) t (record {
       from = from;
       upto = omega arith;

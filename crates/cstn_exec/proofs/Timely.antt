@@ -25,14 +25,14 @@ use Rattle.cstn_lift.proofs.Twins.{twin_least, defaulted_least}
 use Rattle.cstn_exec.specs.Runs.{next, executed_at, outcome_of, known}
 use Rattle.cstn_exec.specs.Right.{AgreesKnown, IsDone}
 use Rattle.cstn_exec.proofs.Knowing.{known_from, known_later}
-use Rattle.cstn_exec.specs.Guides.{Guided, is_left, named_at, is_among, is_denied}
+use Rattle.cstn_exec.specs.Guides.{Guided, was_left_out, named_at, is_among, is_denied}
 use Rattle.cstn_exec.specs.Sound.{IsGuided, AgreesHanded, IsOnTime, IsLed}
 
 -- a time-point that was named at t has this moment in the run, and was not left out
-pub named_parts : (g : Guided) (x t : ℕ) → named_at g x ≡ Some t → (is_left g x ≡ false) × (executed_at g.run x ≡ Some t)
-named_parts g x t e = elim (cases_Bool (is_left g x)) [
-  | inl left ↦ absurd (some_or_none (named_at g x) t e (cond-true (is_left g x) None (executed_at g.run x) left))
-  | inr kept ↦ (kept, sym (cond-false (is_left g x) None (executed_at g.run x) kept) ∙ e)
+pub named_parts : (g : Guided) (x t : ℕ) → named_at g x ≡ Some t → (was_left_out g x ≡ false) × (executed_at g.run x ≡ Some t)
+named_parts g x t e = elim (cases_Bool (was_left_out g x)) [
+  | inl left ↦ absurd (some_or_none (named_at g x) t e (cond-true (was_left_out g x) None (executed_at g.run x) left))
+  | inr kept ↦ (kept, sym (cond-false (was_left_out g x) None (executed_at g.run x) kept) ∙ e)
 ]
 
 module _ (m : Labelled) (good : IsLabelled m) (wf : IsWellFormed (lowered m)) (g : Guided) (right : IsGuided m g) where
@@ -45,8 +45,8 @@ module _ (m : Labelled) (good : IsLabelled m) (wf : IsWellFormed (lowered m)) (g
   above : (j p : ℕ) → Observes m.base j p → Observes net j p
   above j p o = record { what = o.what }
 
-  -- `is_denied` says of p what `is_left` says of its observer j
-  pub denied_where : (j p : ℕ) → Observes net j p → is_denied net g p ≡ is_left g j
+  -- `is_denied` says of p what `was_left_out` says of its observer j
+  pub denied_where : (j p : ℕ) → Observes net j p → is_denied net g p ≡ was_left_out g j
   denied_where j p o = ap (is_among g.left) (observer_found net wf.network j p o)
 
   -- what was known at the moment of x is still known
@@ -58,8 +58,8 @@ module _ (m : Labelled) (good : IsLabelled m) (wf : IsWellFormed (lowered m)) (g
   module _ (s : Scenario) (agrees : AgreesHanded m g s) where
     -- where x was left out but is executed in s, some proposition rules out its completed label; the observer of that
     -- proposition is executed in s as well, and was left out
-    left_wrong : (x t : ℕ) → executed_at g.run x ≡ Some t → IsExecuted m s x → is_left g x ≡ true →
-        (k p : ℕ) × (u : ℕ) × Observes m.base k p × (executed_at g.run k ≡ Some u) × IsMarked (completed_label m x) p × IsExecuted m s k × (is_left g k ≡ false → ⊥)
+    left_wrong : (x t : ℕ) → executed_at g.run x ≡ Some t → IsExecuted m s x → was_left_out g x ≡ true →
+        (k p : ℕ) × (u : ℕ) × Observes m.base k p × (executed_at g.run k ≡ Some u) × IsMarked (completed_label m x) p × IsExecuted m s k × (was_left_out g k ≡ false → ⊥)
     left_wrong x t done h left =
         let out = right.ruled_out x t done left in
         let from = (known_from net wf.network g.run (t + 1) out.0 out.1 out.2).0 in
@@ -78,9 +78,9 @@ module _ (m : Labelled) (good : IsLabelled m) (wf : IsWellFormed (lowered m)) (g
         )
 
     -- a time-point of the run that is executed in s was named: first for observers, by induction on their rank
-    observer_named : (n j q t : ℕ) → rank m good j < n → Observes m.base j q → executed_at g.run j ≡ Some t → IsExecuted m s j → is_left g j ≡ false
+    observer_named : (n j q t : ℕ) → rank m good j < n → Observes m.base j q → executed_at g.run j ≡ Some t → IsExecuted m s j → was_left_out g j ≡ false
     observer_named zero j q t lt o done h = absurd (omega arith)
-    observer_named (suc n) j q t lt o done h = elim (cases_Bool (is_left g j)) [
+    observer_named (suc n) j q t lt o done h = elim (cases_Bool (was_left_out g j)) [
       | inr kept ↦ kept
       | inl left ↦
           let w = left_wrong j t done h left in
@@ -88,8 +88,8 @@ module _ (m : Labelled) (good : IsLabelled m) (wf : IsWellFormed (lowered m)) (g
           absurd (w.7 (observer_named n w.0 w.1 w.2 (omega arith) w.3 w.4 w.6))
     ]
 
-    pub executed_named : (x t : ℕ) → executed_at g.run x ≡ Some t → IsExecuted m s x → is_left g x ≡ false
-    executed_named x t done h = elim (cases_Bool (is_left g x)) [
+    pub executed_named : (x t : ℕ) → executed_at g.run x ≡ Some t → IsExecuted m s x → was_left_out g x ≡ false
+    executed_named x t done h = elim (cases_Bool (was_left_out g x)) [
       | inr kept ↦ kept
       | inl left ↦
           let w = left_wrong x t done h left in
@@ -97,9 +97,9 @@ module _ (m : Labelled) (good : IsLabelled m) (wf : IsWellFormed (lowered m)) (g
     ]
 
     -- the observers of the propositions that the completed label of a named time-point marks were named
-    marks_named : (x t j p u : ℕ) → executed_at g.run x ≡ Some t → is_left g x ≡ false → IsMarked (completed_label m x) p → Observes m.base j p →
-        executed_at g.run j ≡ Some u → is_left g j ≡ false
-    marks_named x t j p u done kept marked o done_j = elim (cases_Bool (is_left g j)) [
+    marks_named : (x t j p u : ℕ) → executed_at g.run x ≡ Some t → was_left_out g x ≡ false → IsMarked (completed_label m x) p → Observes m.base j p →
+        executed_at g.run j ≡ Some u → was_left_out g j ≡ false
+    marks_named x t j p u done kept marked o done_j = elim (cases_Bool (was_left_out g j)) [
       | inr also ↦ also
       | inl left ↦
           let out = right.ruled_out j u done_j left in
@@ -113,7 +113,7 @@ module _ (m : Labelled) (good : IsLabelled m) (wf : IsWellFormed (lowered m)) (g
           absurd (misfits (subst (λ v. MarkFits v (completed_label m x out.0)) same held.2))
     ]
 
-    pub named_executed : (x t : ℕ) → executed_at g.run x ≡ Some t → is_left g x ≡ false → IsExecuted m s x
+    pub named_executed : (x t : ℕ) → executed_at g.run x ≡ Some t → was_left_out g x ≡ false → IsExecuted m s x
     named_executed x t done kept p = elim (absent_or_not (completed_label m x p)) [
       | inl none ↦ fits_absent (s p) (completed_label m x p) none
       | inr marked ↦
@@ -145,7 +145,7 @@ module _ (m : Labelled) (good : IsLabelled m) (wf : IsWellFormed (lowered m)) (g
       | inl left ↦
           let there = sym (denied_where j p (above j p o)) ∙ left in
           let done = right.placed j there in
-          absurd (both_ways (is_left g j) (executed_named j done.0 done.1 h) there)
+          absurd (both_ways (was_left_out g j) (executed_named j done.0 done.1 h) there)
     ]
 
     pub named_least : (x t : ℕ) → named_at g x ≡ Some t → IsLabelledLeast m s x t
@@ -164,7 +164,7 @@ module _ (m : Labelled) (good : IsLabelled m) (wf : IsWellFormed (lowered m)) (g
     named = λ s x t agrees e. named_least s agrees x t e;
     left = λ s x agrees left h.
         let done = right.placed x left in
-        both_ways (is_left g x) (executed_named s agrees x done.0 done.1 h) left;
+        both_ways (was_left_out g x) (executed_named s agrees x done.0 done.1 h) left;
   }
 
   pub led : (bounds : List Bound) (table : Table) → IsEarliest net bounds table → IsDone net g.run → IsLed m g
@@ -184,7 +184,7 @@ module _ (m : Labelled) (good : IsLabelled m) (wf : IsWellFormed (lowered m)) (g
         named = λ s x agrees here h.
             let done = all x here in
             let kept = executed_named s agrees x done.0 done.1 h in
-            let e : named_at g x ≡ Some done.0 = cond-false (is_left g x) None (executed_at g.run x) kept ∙ done.1 in
+            let e : named_at g x ≡ Some done.0 = cond-false (was_left_out g x) None (executed_at g.run x) kept ∙ done.1 in
             e ∙ ap (λ t. Some t) (at s x done.0 agrees here e);
         others = λ s x agrees not_there. elim (cases_option (named_at g x)) [
           | inl nowhere ↦ nowhere

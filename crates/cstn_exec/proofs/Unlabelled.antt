@@ -13,8 +13,8 @@ use Rattle.cstn_lift.specs.WellFormed.{IsLabelled}
 use Rattle.cstn_lift.specs.Lowered.{lowered, observer_of}
 use Rattle.cstn_lift.proofs.CompletionLemmas.{completed_least, empty_within}
 use Rattle.cstn_exec.specs.Runs.{Run, known, called}
-use Rattle.cstn_exec.specs.Moves.{NotExecuted, moved, outcome_refusal}
-use Rattle.cstn_exec.specs.Guides.{Guided, is_left, holds_by, holds_at, named, left_out, advanced, all_denied, with_left, is_among, is_denied, see_refusal}
+use Rattle.cstn_exec.specs.Moves.{NotExecuted, run_moved, outcome_refusal}
+use Rattle.cstn_exec.specs.Guides.{Guided, was_left_out, holds_by, holds_at, named, left_out, advanced, all_denied, with_left, is_among, is_denied, see_refusal}
 use Rattle.cstn_exec.specs.Sound.{IsGuided}
 use Rattle.cstn_exec.proofs.Holding.{holds_to}
 use Rattle.cstn_lift.proofs.Unlabelled.{all_empty}
@@ -38,13 +38,13 @@ module _ (m : Labelled) (good : IsLabelled m) (none : (x : ℕ) → x < count m.
   nobody_left bounds run t =
       filter_nothing (λ x. not (holds_at m run t x)) (called (lowered m) bounds run t) (λ x. ap not (each_holds (known (lowered m) run (t + 1)) x))
 
-  pub just_moved : (bounds : List Bound) (g : Guided) (t : ℕ) → advanced m bounds g t ≡ record { run = moved (lowered m) bounds g.run t; left = g.left }
+  pub just_moved : (bounds : List Bound) (g : Guided) (t : ℕ) → advanced m bounds g t ≡ record { run = run_moved (lowered m) bounds g.run t; left = g.left }
   just_moved bounds g t =
-      ap (λ (xs : List ℕ). record { run = all_denied (lowered m) xs (moved (lowered m) bounds g.run t); left = with_left xs g.left })
+      ap (λ (xs : List ℕ). record { run = all_denied (lowered m) xs (run_moved (lowered m) bounds g.run t); left = with_left xs g.left })
       (nobody_left bounds g.run t)
 
-  not_left : (g : Guided) → IsGuided m g → (x : ℕ) → is_left g x ≡ false
-  not_left g right x = elim (cases_Bool (is_left g x)) [
+  not_left : (g : Guided) → IsGuided m g → (x : ℕ) → was_left_out g x ≡ false
+  not_left g right x = elim (cases_Bool (was_left_out g x)) [
     | inr kept ↦ kept
     | inl left ↦
         let done = right.placed x left in

@@ -2,8 +2,8 @@
 use Rattle.std.specs.Prelude.{ℕ, Bool, List, [], ◌∷◌, Option, Some, None, length}
 use Rattle.cstn_label.specs.Bounds.{Bound}
 use Rattle.cstn_net.specs.Networks.{Network}
-use Rattle.cstn_exec.specs.Runs.{Run, start, due, called}
-use Rattle.cstn_exec.specs.Moves.{Refusal, moment_refusal, moved, outcome_refusal, handed}
+use Rattle.cstn_exec.specs.Runs.{Run, start_of_run, due, called}
+use Rattle.cstn_exec.specs.Moves.{EventRefusal, moment_refusal, run_moved, outcome_refusal, handed}
 
 -- an event: a moment, an outcome, or the question for the due moment
 pub data Event : Type 0 where
@@ -16,21 +16,21 @@ pub data Event : Type 0 where
 pub data Answer : Type 0 where
   Names : (xs : List ℕ) → Answer
   Kept : Answer
-  Refused : (why : Refusal) → Answer
+  Refused : (why : EventRefusal) → Answer
   DueAt : (t : Option ℕ) → Answer
 
 -- the answer to a moment that is refused for this reason, or accepted if there is none
-abbrev pub moment_answer : Network → List Bound → Run → ℕ → Option Refusal → Answer
+abbrev pub moment_answer : Network → List Bound → Run → ℕ → Option EventRefusal → Answer
 moment_answer net bounds run t None = Names (called net bounds run t)
 moment_answer net bounds run t (Some why) = Refused why
 
 -- the run as it was if there is a reason to refuse, and the other run if there is none
-abbrev pub run_unless : Run → Run → Option Refusal → Run
+abbrev pub run_unless : Run → Run → Option EventRefusal → Run
 run_unless run other None = other
 run_unless run other (Some why) = run
 
 -- the answer to an outcome
-abbrev pub see_answer : Option Refusal → Answer
+abbrev pub see_answer : Option EventRefusal → Answer
 see_answer None = Kept
 see_answer (Some why) = Refused why
 
@@ -42,7 +42,7 @@ answer_to net bounds run AskDue = DueAt (due net bounds run)
 
 -- the run after an event
 abbrev pub run_after : Network → List Bound → Run → Event → Run
-run_after net bounds run (Moment t) = run_unless run (moved net bounds run t) (moment_refusal net bounds run t)
+run_after net bounds run (Moment t) = run_unless run (run_moved net bounds run t) (moment_refusal net bounds run t)
 run_after net bounds run (See p v) = run_unless run (handed run p v) (outcome_refusal net run p)
 run_after net bounds run AskDue = run
 
@@ -52,5 +52,5 @@ answers_from net bounds [] run = []
 answers_from net bounds (e ∷ es) run = answer_to net bounds run e ∷ answers_from net bounds es (run_after net bounds run e)
 
 -- the answers to events from the start on
-abbrev pub answers : Network → List Bound → List Event → List Answer
-answers net bounds events = answers_from net bounds events (start (length net.observes))
+abbrev pub event_answers : Network → List Bound → List Event → List Answer
+event_answers net bounds events = answers_from net bounds events (start_of_run (length net.observes))

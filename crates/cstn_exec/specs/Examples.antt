@@ -6,7 +6,7 @@ use Rattle.cstn_label.specs.Bounds.{Bound}
 use Rattle.cstn_net.specs.Networks.{Network}
 use Rattle.cstn_exec.specs.Moves.{Done, Past, Late, Awaiting, NotExecuted, Known}
 use Rattle.cstn_exec.specs.Answers.{Event, Moment, See, AskDue, Answer, Names, Kept, Refused, DueAt}
-use Rattle.cstn_net.specs.Examples.{only}
+use Rattle.cstn_net.specs.Examples.{only_mark}
 
 -- x is at `least` or later where the label is possible
 abbrev pub from : ℕ → ℕ → Label → Bound
@@ -17,22 +17,22 @@ abbrev pub observing : ℕ → List (Option ℕ) → ℕ → Network
 observing deadline observes reaction = record { deadline = deadline; observes = observes; reaction = λ p. reaction; constraints = [] }
 
 -- Z, P, which observes p, and X, which is at 10 where p is true
-abbrev pub branch : Network
-branch = observing 10 (None ∷ (Some 0 ∷ (None ∷ []))) 1
+abbrev pub branch_at_ten : Network
+branch_at_ten = observing 10 (None ∷ (Some 0 ∷ (None ∷ []))) 1
 
 abbrev pub branch_plan : List Bound
-branch_plan = from 0 0 empty ∷ (from 1 0 empty ∷ (from 2 10 (only Yes) ∷ (from 2 1 empty ∷ [])))
+branch_plan = from 0 0 empty ∷ (from 1 0 empty ∷ (from 2 10 (only_mark Yes) ∷ (from 2 1 empty ∷ [])))
 
 -- the branch network with p known 3 ticks after P
 abbrev pub slow_branch : Network
 slow_branch = observing 10 (None ∷ (Some 0 ∷ (None ∷ []))) 3
 
 abbrev pub slow_branch_plan : List Bound
-slow_branch_plan = from 0 0 empty ∷ (from 1 0 empty ∷ (from 2 10 (only Yes) ∷ (from 2 3 empty ∷ [])))
+slow_branch_plan = from 0 0 empty ∷ (from 1 0 empty ∷ (from 2 10 (only_mark Yes) ∷ (from 2 3 empty ∷ [])))
 
 -- the branch network with P at 2 or later
 abbrev pub last_tick_plan : List Bound
-last_tick_plan = from 0 0 empty ∷ (from 1 2 empty ∷ (from 2 10 (only Yes) ∷ (from 2 3 empty ∷ [])))
+last_tick_plan = from 0 0 empty ∷ (from 1 2 empty ∷ (from 2 10 (only_mark Yes) ∷ (from 2 3 empty ∷ [])))
 
 -- P and Q, each of which would have to wait for the other
 abbrev pub crossed : Network
@@ -42,13 +42,13 @@ abbrev pub crossed_plan : List Bound
 crossed_plan = from 0 0 empty ∷ (from 2 5 empty ∷ (from 1 5 empty ∷ []))
 
 -- Z, S, P, which observes p, T and E: a process from S to E in which T and E are later where p is false
-abbrev pub process : Network
-process = observing 40 (None ∷ (None ∷ (Some 0 ∷ (None ∷ (None ∷ []))))) 1
+abbrev pub later_process : Network
+later_process = observing 40 (None ∷ (None ∷ (Some 0 ∷ (None ∷ (None ∷ []))))) 1
 
 abbrev pub process_plan : List Bound
 process_plan =
-    from 0 0 empty ∷ (from 1 0 empty ∷ (from 2 5 empty ∷ (from 3 7 (only Yes) ∷ (from 3 13 (only No) ∷ (from 4 10 (only Yes) ∷
-    (from 3 6 empty ∷ (from 4 16 (only No) ∷ (from 4 9 empty ∷ []))))))))
+    from 0 0 empty ∷ (from 1 0 empty ∷ (from 2 5 empty ∷ (from 3 7 (only_mark Yes) ∷ (from 3 13 (only_mark No) ∷ (from 4 10 (only_mark Yes) ∷
+    (from 3 6 empty ∷ (from 4 16 (only_mark No) ∷ (from 4 9 empty ∷ []))))))))
 
 -- events where p is false, with every refusal, and their answers
 abbrev pub branch_events : List Event

@@ -8,17 +8,17 @@ use Rattle.cstn_net.specs.Networks.{count}
 use Rattle.cstn_lift.specs.Labelled.{Labelled}
 use Rattle.cstn_lift.specs.Lowered.{lowered}
 use Rattle.cstn_exec.specs.Runs.{due}
-use Rattle.cstn_exec.specs.Moves.{Refusal, Awaiting, NotExecuted, Known, moment_refusal}
+use Rattle.cstn_exec.specs.Moves.{EventRefusal, Awaiting, NotExecuted, Known, moment_refusal}
 use Rattle.cstn_exec.specs.Answers.{Event, Moment, See, AskDue, Answer, Names, Kept, Refused, DueAt, see_answer}
-use Rattle.cstn_net.specs.Examples.{only}
+use Rattle.cstn_net.specs.Examples.{only_mark}
 use Rattle.cstn_exec.specs.Examples.{from, observing}
-use Rattle.cstn_exec.specs.Guides.{Guided, begun, named, advanced, see_refusal, noted}
+use Rattle.cstn_exec.specs.Guides.{Guided, guide_begun, named, advanced, see_refusal, outcome_noted}
 
-abbrev pub moment_answer : Labelled → List Bound → Guided → ℕ → Option Refusal → Answer
+abbrev pub moment_answer : Labelled → List Bound → Guided → ℕ → Option EventRefusal → Answer
 moment_answer m bounds g t None = Names (named m bounds g.run t)
 moment_answer m bounds g t (Some why) = Refused why
 
-abbrev pub unless_refused : Guided → Guided → Option Refusal → Guided
+abbrev pub unless_refused : Guided → Guided → Option EventRefusal → Guided
 unless_refused g other None = other
 unless_refused g other (Some why) = g
 
@@ -27,26 +27,26 @@ answer_to m bounds g (Moment t) = moment_answer m bounds g t (moment_refusal (lo
 answer_to m bounds g (See p v) = see_answer (see_refusal m g p)
 answer_to m bounds g AskDue = DueAt (due (lowered m) bounds g.run)
 
-abbrev pub state_after : Labelled → List Bound → Guided → Event → Guided
-state_after m bounds g (Moment t) = unless_refused g (advanced m bounds g t) (moment_refusal (lowered m) bounds g.run t)
-state_after m bounds g (See p v) = unless_refused g (noted g p v) (see_refusal m g p)
-state_after m bounds g AskDue = g
+abbrev pub guide_after : Labelled → List Bound → Guided → Event → Guided
+guide_after m bounds g (Moment t) = unless_refused g (advanced m bounds g t) (moment_refusal (lowered m) bounds g.run t)
+guide_after m bounds g (See p v) = unless_refused g (outcome_noted g p v) (see_refusal m g p)
+guide_after m bounds g AskDue = g
 
 -- the answers to events in their order
 abbrev pub answers_from : Labelled → List Bound → List Event → Guided → List Answer
 answers_from m bounds [] g = []
-answers_from m bounds (e ∷ es) g = answer_to m bounds g e ∷ answers_from m bounds es (state_after m bounds g e)
+answers_from m bounds (e ∷ es) g = answer_to m bounds g e ∷ answers_from m bounds es (guide_after m bounds g e)
 
 -- the answers to events from the beginning on
 abbrev pub guide_answers : Labelled → List Bound → List Event → List Answer
-guide_answers m bounds events = answers_from m bounds events (begun (count m.base))
+guide_answers m bounds events = answers_from m bounds events (guide_begun (count m.base))
 
 -- Z, P, which observes p, and X, which has the label p and is at 5 or later
 abbrev pub treatment : Labelled
-treatment = record { base = observing 10 (None ∷ (Some 0 ∷ (None ∷ []))) 1; labels = empty ∷ (empty ∷ (only Yes ∷ [])) }
+treatment = record { base = observing 10 (None ∷ (Some 0 ∷ (None ∷ []))) 1; labels = empty ∷ (empty ∷ (only_mark Yes ∷ [])) }
 
 abbrev pub treatment_plan : List Bound
-treatment_plan = from 0 0 empty ∷ (from 1 0 empty ∷ (from 2 5 (only Yes) ∷ (from 2 1 empty ∷ [])))
+treatment_plan = from 0 0 empty ∷ (from 1 0 empty ∷ (from 2 5 (only_mark Yes) ∷ (from 2 1 empty ∷ [])))
 
 -- where p is true, X is named at 5
 abbrev pub needed_events : List Event
@@ -66,7 +66,7 @@ spared_answers = Names (0 ∷ (1 ∷ [])) ∷ (Kept ∷ (DueAt (Some 1) ∷ (Nam
 abbrev pub second_test : Labelled
 second_test = record {
   base = observing 10 (None ∷ (Some 0 ∷ (Some 1 ∷ (None ∷ [])))) 1;
-  labels = empty ∷ (empty ∷ (only Yes ∷ (empty ∷ [])));
+  labels = empty ∷ (empty ∷ (only_mark Yes ∷ (empty ∷ [])));
 }
 
 abbrev pub second_test_plan : List Bound
@@ -95,13 +95,13 @@ second_test_answers =
 -- the label with this mark on q, and no other
 abbrev pub on_second : Mark → Label
 on_second m zero = Absent
-on_second m (suc p) = only m p
+on_second m (suc p) = only_mark m p
 
 -- the same time-points and labels, with outcomes known 3 ticks after their observers
 abbrev pub slow_second_test : Labelled
 slow_second_test = record {
   base = observing 10 (None ∷ (Some 0 ∷ (Some 1 ∷ (None ∷ [])))) 3;
-  labels = empty ∷ (empty ∷ (only Yes ∷ (empty ∷ [])));
+  labels = empty ∷ (empty ∷ (only_mark Yes ∷ (empty ∷ [])));
 }
 
 -- X is at 9 where q is true

@@ -21,8 +21,8 @@ pub record GuideParts : Type 0 where
   pub named : List ℕ
 
 -- a guide with these parts
-abbrev pub parts : LabelledParts → List Bound → Guided → List ℕ → GuideParts
-parts labels bounds g names = record { labelled = labels; bounds = bounds; state = g; named = names }
+abbrev pub guide_parts : LabelledParts → List Bound → Guided → List ℕ → GuideParts
+guide_parts labels bounds g names = record { labelled = labels; bounds = bounds; state = g; named = names }
 
 -- the guide after the accepted moment t
 abbrev pub advanced_on : GuideParts → ℕ → GuideParts
@@ -39,7 +39,7 @@ pub record IsGuide (net : NetworkParts) (labels : LabelledParts) (g : Guided) (s
   pub room : count (the_labelled labels).base ≤ size
 
 -- time-points in ascending number, each with a moment in the run, and no outcome seen of what they observe
-pub record AreFresh (net : Network) (run : Run) (xs : List ℕ) : Type 0 where
+pub record AreWithoutOutcomes (net : Network) (run : Run) (xs : List ℕ) : Type 0 where
   pub ascending : AllPairs (λ x y. x < y) xs
   pub inside : All (λ x. x < count net) xs
   pub placed : All (λ x. (t : ℕ) × (executed_at run x ≡ Some t)) xs

@@ -11,8 +11,8 @@ use Rattle.cstn_label.specs.Tests.{fits}
 use Rattle.cstn_lift.specs.Labelled.{Labelled}
 use Rattle.cstn_lift.specs.Completion.{completed_label}
 use Rattle.cstn_lift.specs.Lowered.{lowered, observer_of}
-use Rattle.cstn_exec.specs.Runs.{Run, start, executed_at, known, called}
-use Rattle.cstn_exec.specs.Moves.{Refusal, NotExecuted, moved, handed, outcome_refusal}
+use Rattle.cstn_exec.specs.Runs.{Run, start_of_run, executed_at, known, called}
+use Rattle.cstn_exec.specs.Moves.{EventRefusal, NotExecuted, run_moved, handed, outcome_refusal}
 
 -- the state of a guide: the run of the lowered network, and of each time-point whether it was left out
 pub record Guided : Type 0 where
@@ -20,16 +20,16 @@ pub record Guided : Type 0 where
   pub left : List Bool
 
 -- the state of a guide in which none of n time-points was named or left out, and nothing was seen
-abbrev pub begun : ℕ → Guided
-begun n = record { run = start n; left = replicate n false }
+abbrev pub guide_begun : ℕ → Guided
+guide_begun n = record { run = start_of_run n; left = replicate n false }
 
 -- x was left out
-abbrev pub is_left : Guided → ℕ → Bool
-is_left g x = slice_index_or g.left x false
+abbrev pub was_left_out : Guided → ℕ → Bool
+was_left_out g x = slice_index_or g.left x false
 
 -- the moment at which x was named, if it was: its moment in the run, unless it was left out
 abbrev pub named_at : Guided → ℕ → Option ℕ
-named_at g x = if is_left g x then None else executed_at g.run x
+named_at g x = if was_left_out g x then None else executed_at g.run x
 
 -- ---- what holds by what is known
 
@@ -83,7 +83,7 @@ with_left (x ∷ xs) left = with_left xs (slice_set left x true)
 -- of what they observe is false.
 abbrev pub advanced : Labelled → List Bound → Guided → ℕ → Guided
 advanced m bounds g t = record {
-  run = all_denied (lowered m) (left_out m bounds g.run t) (moved (lowered m) bounds g.run t);
+  run = all_denied (lowered m) (left_out m bounds g.run t) (run_moved (lowered m) bounds g.run t);
   left = with_left (left_out m bounds g.run t) g.left;
 }
 
@@ -98,9 +98,9 @@ abbrev pub is_denied : Network → Guided → ℕ → Bool
 is_denied net g p = is_among g.left (observer_of net p)
 
 -- why an outcome of p is refused, if it is: its observer was left out or has no moment yet, or an outcome is kept already
-abbrev pub see_refusal : Labelled → Guided → ℕ → Option Refusal
+abbrev pub see_refusal : Labelled → Guided → ℕ → Option EventRefusal
 see_refusal m g p = if is_denied (lowered m) g p then Some (NotExecuted p) else outcome_refusal (lowered m) g.run p
 
 -- the state after the accepted outcome v of p
-abbrev pub noted : Guided → ℕ → Bool → Guided
-noted g p v = record { run = handed g.run p v; left = g.left }
+abbrev pub outcome_noted : Guided → ℕ → Bool → Guided
+outcome_noted g p v = record { run = handed g.run p v; left = g.left }

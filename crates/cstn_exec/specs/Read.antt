@@ -7,8 +7,8 @@ use Rattle.cstn_exec.specs.declared.errors.ExecError.{ExecError}
 use Rattle.cstn_exec.specs.declared.errors.ExecError.TheVariants.{Past, Late, Awaiting, NotExecuted, Known as AlreadyKnown, Done}
 use Rattle.cstn_net.specs.Networks.{Network, count}
 use Rattle.cstn_exec.specs.Runs.{Run, next, called}
-use Rattle.cstn_exec.specs.Right.{IsRight}
-use Rattle.cstn_exec.specs.Moves.{Refusal, moved, Done as AllDone, Past as PastNow, Late as PastDue, Awaiting as StillAwaiting, NotExecuted as NotObserved, Known as KnownAlready}
+use Rattle.cstn_exec.specs.Right.{IsRightRun}
+use Rattle.cstn_exec.specs.Moves.{EventRefusal, run_moved, Done as AllDone, Past as PastNow, Late as PastDue, Awaiting as StillAwaiting, NotExecuted as NotObserved, Known as KnownAlready}
 
 -- what contracts see of an executive: the network and the bounds of its plan, its run, and the time-points that were named at
 -- the last accepted moment
@@ -25,31 +25,31 @@ run_of now moments outcomes = record { now = now; moments = moments; outcomes = 
 -- the executive after the accepted moment t
 abbrev pub moved_on : ExecParts → ℕ → ExecParts
 moved_on e t = record e {
-  run = moved (the_network e.net) (the_bounds e.bounds) e.run t;
+  run = run_moved (the_network e.net) (the_bounds e.bounds) e.run t;
   named = called (the_network e.net) (the_bounds e.bounds) e.run t;
 }
 
 -- what an error tells
-abbrev pub the_refusal : ExecError → Refusal
-the_refusal Done = AllDone
-the_refusal (Past now) = PastNow now
-the_refusal (Late due) = PastDue due
-the_refusal (Awaiting prop) = StillAwaiting prop.index
-the_refusal (NotExecuted prop) = NotObserved prop.index
-the_refusal (AlreadyKnown prop value) = KnownAlready prop.index value
+abbrev pub the_event_refusal : ExecError → EventRefusal
+the_event_refusal Done = AllDone
+the_event_refusal (Past now) = PastNow now
+the_event_refusal (Late due) = PastDue due
+the_event_refusal (Awaiting prop) = StillAwaiting prop.index
+the_event_refusal (NotExecuted prop) = NotObserved prop.index
+the_event_refusal (AlreadyKnown prop value) = KnownAlready prop.index value
 
 -- what a call was refused for, if it was
-abbrev pub refusal_of : {X : Type 0} → Result X ExecError → Option Refusal
-refusal_of (Ok x) = None
-refusal_of (Err e) = Some (the_refusal e)
+abbrev pub event_refusal : {X : Type 0} → Result X ExecError → Option EventRefusal
+event_refusal (Ok x) = None
+event_refusal (Err e) = Some (the_event_refusal e)
 
 -- what an executive keeps: its run is right and not past the deadline, and there is room for an answer of all time-points
 pub record IsExecutive (net : Network) (run : Run) (size : ℕ) : Type 0 where
-  pub right : IsRight net run
+  pub right : IsRightRun net run
   pub in_time : next run ≤ net.deadline + 1
   pub room : count net ≤ size
 
 -- a run that an executive of the network can have: it is right and not past the deadline
 pub record IsRunOf (net : Network) (run : Run) : Type 0 where
-  pub right : IsRight net run
+  pub right : IsRightRun net run
   pub in_time : next run ≤ net.deadline + 1

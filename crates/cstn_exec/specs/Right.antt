@@ -9,7 +9,7 @@ use Rattle.cstn_plan.specs.Plans.{IsEarliest}
 use Rattle.cstn_exec.specs.Runs.{Run, next, executed_at, outcome_of, observed_at, known, is_awaited}
 
 -- the bounds are those of a plan of a network that has a strategy: they ask for the least moments
-pub record IsPlan (net : Network) (bounds : List Bound) : Type 0 where
+pub record IsPlanBounds (net : Network) (bounds : List Bound) : Type 0 where
   pub well_formed : IsWellFormed net
   pub table : Table
   pub earliest : IsEarliest net bounds table
@@ -20,7 +20,7 @@ AgreesKnown net run u s = (p : ℕ) (v : Bool) → known net run u p ≡ Some v 
 
 -- outcomes are kept of executed observers alone; up to `now` nothing is awaited; and in each scenario that agrees with what is
 -- known, each executed time-point was executed at its least moment, up to `now`, and each other one has a later least moment
-pub record IsRight (net : Network) (run : Run) : Type 0 where
+pub record IsRightRun (net : Network) (run : Run) : Type 0 where
   pub moments : length run.moments ≡ count net
   pub outcomes : length run.outcomes ≡ 52
   pub seen : (p : ℕ) (v : Bool) → outcome_of run p ≡ Some v → (m : ℕ) × (observed_at net run p ≡ Some m)

@@ -9,7 +9,7 @@ use Rattle.cstn_net.specs.Networks.{Network, count}
 use Rattle.cstn_net.specs.Read.{NetworkParts, the_network}
 use Rattle.cstn_lines.specs.LiveLines.{Live, moment_at, seen, due_now, live_read, printed_truth}
 use Rattle.cstn_exec.specs.Runs.{Run, called, due}
-use Rattle.cstn_exec.specs.Moves.{Refusal, Done, Past, Late, Awaiting, NotExecuted, Known, moment_refusal, moved, outcome_refusal, handed}
+use Rattle.cstn_exec.specs.Moves.{EventRefusal, Done, Past, Late, Awaiting, NotExecuted, Known, moment_refusal, run_moved, outcome_refusal, handed}
 use Rattle.cstn_reply.specs.Texts.{line, Said, say}
 use Rattle.cstn_reply.specs.Sessions.{Turn, more, last, wrong}
 use Rattle.cstn_reply.specs.declared.output.Outcome.TheVariants.{Good, Unfinished}
@@ -27,7 +27,7 @@ abbrev pub letter : ℕ → List ℕ
 letter p = letter_of p ∷ []
 
 -- what is said of a refused moment or outcome
-abbrev pub refused_text : Refusal → List ℕ
+abbrev pub refused_text : EventRefusal → List ℕ
 refused_text Done = codes "refused E6"
 refused_text (Past now) = codes "refused E1 " ++ decimal now
 refused_text (Late u) = codes "refused E2 " ++ decimal u
@@ -49,11 +49,11 @@ abbrev pub executing : {State : Type 0} → List ℕ → State → Option ℕ �
 executing text state None = last (record { outcome = Good; text = text ++ line (codes "done") })
 executing text state (Some t) = more text state
 
-abbrev pub moment_turn : List (List ℕ) → Network → List Bound → Run → ℕ → Option Refusal → Turn Run
-moment_turn names net bounds run t None = executing (moment_line names t (called net bounds run t)) (moved net bounds run t) (due net bounds (moved net bounds run t))
+abbrev pub moment_turn : List (List ℕ) → Network → List Bound → Run → ℕ → Option EventRefusal → Turn Run
+moment_turn names net bounds run t None = executing (moment_line names t (called net bounds run t)) (run_moved net bounds run t) (due net bounds (run_moved net bounds run t))
 moment_turn names net bounds run t (Some refusal) = more (line (refused_text refusal)) run
 
-abbrev pub seen_turn : Run → ℕ → Bool → Option Refusal → Turn Run
+abbrev pub seen_turn : Run → ℕ → Bool → Option EventRefusal → Turn Run
 seen_turn run p value None = more (line (seen_text p value)) (handed run p value)
 seen_turn run p value (Some refusal) = more (line (refused_text refusal)) run
 

@@ -12,8 +12,8 @@ use Rattle.cstn_lift.specs.WellFormed.{IsLabelled}
 use Rattle.cstn_lift.specs.Lowered.{lowered}
 use Rattle.cstn_lift.specs.Strategies.{IsExecuted, IsInForce, IsLabelledStrategy, IsLabelledLeast}
 use Rattle.cstn_exec.specs.Runs.{Run, next, executed_at, outcome_of, known}
-use Rattle.cstn_exec.specs.Right.{IsRight, IsCalled}
-use Rattle.cstn_exec.specs.Guides.{Guided, is_left, named_at, is_denied}
+use Rattle.cstn_exec.specs.Right.{IsRightRun, IsCalled}
+use Rattle.cstn_exec.specs.Guides.{Guided, was_left_out, named_at, is_denied}
 
 -- a labelled network that has a strategy, and the bounds of a plan of the lowered one
 pub record IsPlanned (m : Labelled) (bounds : List Bound) : Type 0 where
@@ -48,12 +48,12 @@ pub record IsLeftAt (m : Labelled) (run : Run) (t x : ℕ) : Type 0 where
 -- what was known at that moment, and left out if the label was ruled out; there is no other case. A time-point that was left
 -- out has a moment in the run too, and the outcome of what it observes is false.
 pub record IsGuided (m : Labelled) (g : Guided) : Type 0 where
-  pub right : IsRight (lowered m) g.run
+  pub right : IsRightRun (lowered m) g.run
   pub size : length g.left ≡ count m.base
-  pub held : (x t : ℕ) → executed_at g.run x ≡ Some t → is_left g x ≡ false → HoldsBy (known (lowered m) g.run (t + 1)) (completed_label m x)
-  pub ruled_out : (x t : ℕ) → executed_at g.run x ≡ Some t → is_left g x ≡ true → IsRuledOut (known (lowered m) g.run (t + 1)) (completed_label m x)
-  pub placed : (x : ℕ) → is_left g x ≡ true → (t : ℕ) × (executed_at g.run x ≡ Some t)
-  pub denied : (x p : ℕ) → Observes (lowered m) x p → is_left g x ≡ true → outcome_of g.run p ≡ Some false
+  pub held : (x t : ℕ) → executed_at g.run x ≡ Some t → was_left_out g x ≡ false → HoldsBy (known (lowered m) g.run (t + 1)) (completed_label m x)
+  pub ruled_out : (x t : ℕ) → executed_at g.run x ≡ Some t → was_left_out g x ≡ true → IsRuledOut (known (lowered m) g.run (t + 1)) (completed_label m x)
+  pub placed : (x : ℕ) → was_left_out g x ≡ true → (t : ℕ) × (executed_at g.run x ≡ Some t)
+  pub denied : (x p : ℕ) → Observes (lowered m) x p → was_left_out g x ≡ true → outcome_of g.run p ≡ Some false
 
 -- the scenario agrees with the outcomes that were handed in and are known
 abbrev pub AgreesHanded : Labelled → Guided → Scenario → Type 0
@@ -63,7 +63,7 @@ AgreesHanded m g s = (p : ℕ) (v : Bool) → is_denied (lowered m) g p ≡ fals
 -- least one; a time-point that was left out isn't executed
 pub record IsOnTime (m : Labelled) (g : Guided) : Type 0 where
   pub named : (s : Scenario) (x t : ℕ) → AgreesHanded m g s → named_at g x ≡ Some t → IsLabelledLeast m s x t
-  pub left : (s : Scenario) (x : ℕ) → AgreesHanded m g s → is_left g x ≡ true → IsExecuted m s x → ⊥
+  pub left : (s : Scenario) (x : ℕ) → AgreesHanded m g s → was_left_out g x ≡ true → IsExecuted m s x → ⊥
 
 -- in each scenario that agrees with what was handed in and is known, the named moments are those of one labelled strategy,
 -- and meet each constraint that is in force

@@ -6,10 +6,10 @@ ghost use Rattle.cstn_net.specs.Networks.{IsWellFormed, count};
 ghost use Rattle.cstn_net.specs.Strategies.{Table};
 ghost use Rattle.cstn_net.specs.Read.{the_network};
 ghost use Rattle.cstn_plan.specs.Plans.{IsEarliest, the_bounds};
-ghost use Rattle.cstn_exec.specs.Runs.{start, due};
+ghost use Rattle.cstn_exec.specs.Runs.{start_of_run, due};
 ghost use Rattle.cstn_exec.specs.Moves.{moment_refusal, outcome_refusal, handed};
-ghost use Rattle.cstn_exec.specs.Right.{IsRight, IsCalled, IsDue, IsDone, IsFulfilled};
-ghost use Rattle.cstn_exec.specs.Read.{moved_on, refusal_of, the_refusal};
+ghost use Rattle.cstn_exec.specs.Right.{IsRightRun, IsCalled, IsDue, IsDone, IsFulfilled};
+ghost use Rattle.cstn_exec.specs.Read.{moved_on, event_refusal, the_event_refusal};
 
 mod accepting;
 mod asked;
@@ -65,7 +65,7 @@ impl Executive {
     /// An executive of the plan, with nothing executed yet. All memory is taken here, also for an answer that names every
     /// time-point. Fails only where memory is refused, and drops the plan then.
     pub fn start(alloc: Global, plan: SoundPlan) -> Result<Executive, AllocError>
-        ensures start { IfOk result (λ e. e ≡ record { net = plan.net; bounds = plan.bounds; run = start (count (the_network plan.net)); named = [] }) }
+        ensures start { IfOk result (λ e. e ≡ record { net = plan.net; bounds = plan.bounds; run = start_of_run (count (the_network plan.net)); named = [] }) }
     {
         let count = plan.network().count() as usize;
         let mut moments = Vec::with_capacity(alloc, count)?;
@@ -82,7 +82,7 @@ impl Executive {
 
     /// Begins again: nothing is executed, and no outcome is kept. The network and the plan stay.
     pub fn restart(&mut self)
-        ensures started { self.new ≡ record self.old { run = start (count (the_network self.old.net)); named = [] } }
+        ensures started { self.new ≡ record self.old { run = start_of_run (count (the_network self.old.net)); named = [] } }
     {
         self.is_right();
         self.last = None;
@@ -95,7 +95,7 @@ impl Executive {
     /// scenario.
     pub fn network(&self) -> &Network
         ensures network { result.now ≡ self.now.net }
-        ensures right { IsRight (the_network self.now.net) self.now.run }
+        ensures right { IsRightRun (the_network self.now.net) self.now.run }
         ensures well_formed { IsWellFormed (the_network self.now.net) }
         ensures earliest { (table : Table) × IsEarliest (the_network self.now.net) (the_bounds self.now.bounds) table }
     {
@@ -129,7 +129,7 @@ impl Executive {
 
     /// Why `moment` would refuse t, in ticks; none exactly where it would accept t.
     pub fn can(&self, t: u32) -> Option<ExecError>
-        ensures { option_map the_refusal result ≡ moment_refusal (the_network self.now.net) (the_bounds self.now.bounds) self.now.run t }
+        ensures { option_map the_event_refusal result ≡ moment_refusal (the_network self.now.net) (the_bounds self.now.bounds) self.now.run t }
     {
         match self.due_if_accepted(t) {
             Ok(_) => None,
@@ -141,7 +141,7 @@ impl Executive {
     /// with the first that applies of `Done`, `Past`, `Awaiting` and `Late`. Takes at most as many passes over the plan's
     /// bounds as `due`.
     pub fn moment(&mut self, t: u32) -> Result<(), ExecError>
-        ensures refused { refusal_of result ≡ moment_refusal (the_network self.old.net) (the_bounds self.old.bounds) self.old.run t }
+        ensures refused { event_refusal result ≡ moment_refusal (the_network self.old.net) (the_bounds self.old.bounds) self.old.run t }
         ensures moved { OnOk result (self.new ≡ moved_on self.old t) }
         ensures same { OnErr result (self.new ≡ self.old) }
 
@@ -162,7 +162,7 @@ impl Executive {
     /// Keeps the outcome of a proposition. It is known once the reaction of the proposition has passed after its observer was
     /// executed. Refused with the first that applies of `NotExecuted` and `Known`.
     pub fn see(&mut self, p: Prop, value: bool) -> Result<(), ExecError>
-        ensures refused { refusal_of result ≡ outcome_refusal (the_network self.old.net) self.old.run p.index }
+        ensures refused { event_refusal result ≡ outcome_refusal (the_network self.old.net) self.old.run p.index }
         ensures handed { OnOk result (self.new ≡ record self.old { run = handed self.old.run p.index value }) }
         ensures same { OnErr result (self.new ≡ self.old) }
     {

@@ -9,9 +9,9 @@ ghost use Rattle.cstn_lift.specs.Completion.{completed_label};
 ghost use Rattle.cstn_lift.specs.WellFormed.{IsLabelled};
 ghost use Rattle.cstn_lift.specs.Lowered.{lowered};
 ghost use Rattle.cstn_exec.specs.Runs.{Run, executed_at, known, called};
-ghost use Rattle.cstn_exec.specs.Moves.{NotExecuted, moment_refusal, moved, outcome_refusal};
-ghost use Rattle.cstn_exec.specs.Right.{IsRight, IsDone};
-ghost use Rattle.cstn_exec.specs.Guides.{Guided, begun, named_at, holds_by, named, left_out, advanced, see_refusal, noted};
+ghost use Rattle.cstn_exec.specs.Moves.{NotExecuted, moment_refusal, run_moved, outcome_refusal};
+ghost use Rattle.cstn_exec.specs.Right.{IsRightRun, IsDone};
+ghost use Rattle.cstn_exec.specs.Guides.{Guided, guide_begun, named_at, holds_by, named, left_out, advanced, see_refusal, outcome_noted};
 ghost use Rattle.cstn_exec.specs.Sound.{IsPlanned, HoldsBy, IsDecided, IsNamedAt, IsLeftAt, IsGuided, IsOnTime, IsLed};
 ghost use Rattle.cstn_exec.specs.GuideExamples.{guide_answers, treatment, treatment_plan, needed_events, needed_answers, spared_events, spared_answers};
 ghost use Rattle.cstn_exec.specs.GuideExamples.{second_test, second_test_plan, no_second_test_events, no_second_test_answers, second_test_events};
@@ -21,17 +21,17 @@ use cstn_lift::observers_are_found;
 
 /// The state with nothing named or left out is right, and accepted moments and outcomes keep a state right.
 pub fn guides_stay_right()
-    ensures begun { (m : Labelled) (bounds : List Bound) → IsPlanned m bounds → IsGuided m (begun (count m.base)) }
+    ensures begun { (m : Labelled) (bounds : List Bound) → IsPlanned m bounds → IsGuided m (guide_begun (count m.base)) }
     ensures advanced { (m : Labelled) (bounds : List Bound) (g : Guided) (t : ℕ) → IsPlanned m bounds → IsGuided m g
         → moment_refusal (lowered m) bounds g.run t ≡ None → IsGuided m (advanced m bounds g t) }
     ensures noted { (m : Labelled) (g : Guided) (p : ℕ) (v : Bool) → IsLabelled m → IsWellFormed (lowered m) → IsGuided m g
-        → see_refusal m g p ≡ None → p < 52 → IsGuided m (noted g p v) }
+        → see_refusal m g p ≡ None → p < 52 → IsGuided m (outcome_noted g p v) }
 {}
 
 /// What was known at the moment of a time-point in a right run of the lowered network decides the completed label of the
 /// time-point: the label holds, or is ruled out. `holds_by` tests exactly whether it holds.
 pub fn holding_is_decided()
-    ensures decided { (m : Labelled) (bounds : List Bound) (run : Run) (x t : ℕ) → IsPlanned m bounds → IsRight (lowered m) run
+    ensures decided { (m : Labelled) (bounds : List Bound) (run : Run) (x t : ℕ) → IsPlanned m bounds → IsRightRun (lowered m) run
         → executed_at run x ≡ Some t → IsDecided (known (lowered m) run (t + 1)) (completed_label m x) }
     ensures holds { (m : Labelled) (values : ℕ → Option Bool) (x : ℕ) → IsLabelled m
         → (holds_by values (completed_label m x) ≡ true ↔ HoldsBy values (completed_label m x)) }
@@ -68,7 +68,7 @@ pub fn unlabelled_guides_are_executives()
     ensures named { (m : Labelled) (bounds : List Bound) (run : Run) (t : ℕ) → IsLabelled m → HasNoLabels m
         → named m bounds run t ≡ called (lowered m) bounds run t }
     ensures advanced { (m : Labelled) (bounds : List Bound) (g : Guided) (t : ℕ) → IsLabelled m → HasNoLabels m
-        → advanced m bounds g t ≡ record { run = moved (lowered m) bounds g.run t; left = g.left } }
+        → advanced m bounds g t ≡ record { run = run_moved (lowered m) bounds g.run t; left = g.left } }
     ensures see { (m : Labelled) (g : Guided) (p : ℕ) → IsLabelled m → HasNoLabels m → IsGuided m g
         → see_refusal m g p ≡ outcome_refusal (lowered m) g.run p }
 {}

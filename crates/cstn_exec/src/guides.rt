@@ -9,10 +9,10 @@ ghost use Rattle.cstn_lift.specs.Read.{the_labelled};
 ghost use Rattle.cstn_exec.specs.Runs.{due};
 ghost use Rattle.cstn_exec.specs.Moves.{moment_refusal};
 ghost use Rattle.cstn_exec.specs.Right.{IsDue, IsDone};
-ghost use Rattle.cstn_exec.specs.Read.{refusal_of};
-ghost use Rattle.cstn_exec.specs.Guides.{begun, is_left, is_denied, see_refusal, noted};
+ghost use Rattle.cstn_exec.specs.Read.{event_refusal};
+ghost use Rattle.cstn_exec.specs.Guides.{guide_begun, was_left_out, is_denied, see_refusal, outcome_noted};
 ghost use Rattle.cstn_exec.specs.Sound.{IsPlanned, IsNamedAt, IsLeftAt, IsGuided, IsOnTime, IsLed};
-ghost use Rattle.cstn_exec.specs.GuideRead.{parts, advanced_on};
+ghost use Rattle.cstn_exec.specs.GuideRead.{guide_parts, advanced_on};
 
 mod sorting;
 
@@ -42,11 +42,11 @@ pub struct Guide {
 
 impl Model for Guide {
     ghost use Rattle.std.specs.Prelude.{map};
-    ghost use Rattle.cstn_exec.specs.GuideRead.{GuideParts, parts, IsGuide};
+    ghost use Rattle.cstn_exec.specs.GuideRead.{GuideParts, guide_parts, IsGuide};
 
     ghost Value = { GuideParts };
 
-    ghost view = { λ g. parts g.labels g.executive.bounds (record { run = g.executive.run; left = g.left.items }) (map (λ x. x.0) g.named.items) };
+    ghost view = { λ g. guide_parts g.labels g.executive.bounds (record { run = g.executive.run; left = g.left.items }) (map (λ x. x.0) g.named.items) };
 
     ghost invariant = { λ g. IsGuide g.executive.net g.labels (record { run = g.executive.run; left = g.left.items }) g.named.capacity };
 }
@@ -56,7 +56,7 @@ impl Guide {
     /// time-point. Fails only where memory is refused, and drops the plan and the labels then.
     pub fn start(alloc: Global, plan: SoundPlan, labels: Labels) -> Result<Guide, AllocError>
         requires lowered { the_network plan.net ≡ lowered (the_labelled labels) }
-        ensures start { IfOk result (λ g. g ≡ parts labels plan.bounds (begun (count (the_labelled labels).base)) []) }
+        ensures start { IfOk result (λ g. g ≡ guide_parts labels plan.bounds (guide_begun (count (the_labelled labels).base)) []) }
     {
         let count = labels.base().count() as usize;
         let mut left = Vec::with_capacity(alloc, count)?;
@@ -111,13 +111,13 @@ impl Guide {
     /// known are named, and the others are left out; `named` then returns the named ones. Refused as [`Executive::moment`] is,
     /// with the first that applies of `Done`, `Past`, `Awaiting` and `Late`.
     pub fn moment(&mut self, t: u32) -> Result<(), ExecError>
-        ensures refused { refusal_of result ≡ moment_refusal (lowered (the_labelled self.old.labelled)) (the_bounds self.old.bounds) self.old.state.run t }
+        ensures refused { event_refusal result ≡ moment_refusal (lowered (the_labelled self.old.labelled)) (the_bounds self.old.bounds) self.old.state.run t }
         ensures advanced { OnOk result (self.new ≡ advanced_on self.old t) }
         ensures same { OnErr result (self.new ≡ self.old) }
 
         ensures named { OnOk result ((x : ℕ) → Contains self.new.named x ↔ IsNamedAt (the_labelled self.old.labelled) self.old.state.run t x) }
         ensures ascending { OnOk result (IsStrictlyIncreasing self.new.named) }
-        ensures left { OnOk result ((x : ℕ) → IsLeftAt (the_labelled self.old.labelled) self.old.state.run t x → IsTrue (is_left self.new.state x)) }
+        ensures left { OnOk result ((x : ℕ) → IsLeftAt (the_labelled self.old.labelled) self.old.state.run t x → IsTrue (was_left_out self.new.state x)) }
         ensures on_time { IsOnTime (the_labelled self.old.labelled) self.new.state }
     {
         self.is_guided();
@@ -138,8 +138,8 @@ impl Guide {
     /// Keeps the outcome of a proposition. Refused with the first that applies of `NotExecuted`, also where the observer was left
     /// out, and `Known`.
     pub fn see(&mut self, p: Prop, value: bool) -> Result<(), ExecError>
-        ensures refused { refusal_of result ≡ see_refusal (the_labelled self.old.labelled) self.old.state p.index }
-        ensures noted { OnOk result (self.new ≡ record self.old { state = noted self.old.state p.index value }) }
+        ensures refused { event_refusal result ≡ see_refusal (the_labelled self.old.labelled) self.old.state p.index }
+        ensures noted { OnOk result (self.new ≡ record self.old { state = outcome_noted self.old.state p.index value }) }
         ensures same { OnErr result (self.new ≡ self.old) }
         ensures on_time { IsOnTime (the_labelled self.old.labelled) self.new.state }
     {

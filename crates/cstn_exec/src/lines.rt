@@ -2,7 +2,7 @@
 ghost use Rattle.std.specs.Prelude.{◌≡◌, ◌≤◌, ◌<◌, ◌+◌, ◌*◌, ◌++◌, ◌∷◌, map, string_bytes, length, IfOk};
 ghost use Rattle.std.specs.List.{All};
 ghost use Rattle.cstn_net.specs.Limits.{most_time_points};
-ghost use Rattle.cstn_exec.specs.Read.{the_refusal};
+ghost use Rattle.cstn_exec.specs.Read.{the_event_refusal};
 ghost use Rattle.cstn_text.specs.PrintedNames.{printed_name};
 ghost use Rattle.cstn_reply.specs.Room.{HasRoom};
 ghost use Rattle.cstn_reply.specs.Texts.{line};
@@ -17,7 +17,7 @@ use std::alloc::{AllocError, Global};
 /// Puts why a moment or an outcome is refused.
 pub fn put_refusal(text: &mut AnswerText, error: ExecError)
     requires room { HasRoom text.old 60 }
-    ensures { text.new ≡ text.old ++ line (refused_text (the_refusal error)) }
+    ensures { text.new ≡ text.old ++ line (refused_text (the_event_refusal error)) }
 {
     match error {
         ExecError::Past { now } => text.put_number(b"refused E1 ", now),

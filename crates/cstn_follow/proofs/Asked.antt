@@ -4,8 +4,8 @@ use Rattle.std.specs.Prelude.{map, nat_lt, if◌then◌else◌, codes}
 use Rattle.std.proofs.lemmas.List.{map-append, length-append, length-map}
 use Rattle.cstn_net.specs.Networks.{Network, count}
 use Rattle.cstn_rules.specs.Derivations.{Entry}
-use Rattle.cstn_log.specs.Cuts.{part}
-use Rattle.cstn_refute.specs.Texts.{shown}
+use Rattle.cstn_log.specs.Cuts.{last_with_ancestors}
+use Rattle.cstn_refute.specs.Texts.{refutation_shown}
 use Rattle.cstn_reply.specs.Texts.{line, full_line}
 use Rattle.cstn_lift.specs.Labelled.{Labelled}
 use Rattle.cstn_lift.specs.Lowered.{lowered}
@@ -62,14 +62,14 @@ no_load cap load net is = by_tests (nat_lt cap (load_of net)) (is_refuted net (l
 
 -- the text of the refutation and `end` are what is said after a no
 pub check_said : (s : Following) (load l : ℕ) (names : List (List ℕ)) (steps : List Entry) (text : List ℕ) → verdict_now s ≡ No load
-    → names ≡ names_left s → l ≡ load_of (lowered (left_now s)) → steps ≡ part (log_of (lowered (left_now s)))
-    → text ≡ shown names l steps ++ line (codes "end") → on_check s ≡ says text s
+    → names ≡ names_left s → l ≡ load_of (lowered (left_now s)) → steps ≡ last_with_ancestors (log_of (lowered (left_now s)))
+    → text ≡ refutation_shown names l steps ++ line (codes "end") → on_check s ≡ says text s
 check_said s load l names steps text refuted named long taken is =
     let same : load ≡ l = no_load s.cap load (lowered (left_now s)) refuted ∙ sym long in
     ap (check_after s) refuted
-    ∙ ap (λ t. says t s) (ap (λ n. shown (names_left s) n (part (log_of (lowered (left_now s)))) ++ line (codes "end")) same
-    ∙ ap (λ n. shown n l (part (log_of (lowered (left_now s)))) ++ line (codes "end")) (sym named)
-    ∙ ap (λ es. shown names l es ++ line (codes "end")) (sym taken) ∙ sym is)
+    ∙ ap (λ t. says t s) (ap (λ n. refutation_shown (names_left s) n (last_with_ancestors (log_of (lowered (left_now s)))) ++ line (codes "end")) same
+    ∙ ap (λ n. refutation_shown n l (last_with_ancestors (log_of (lowered (left_now s)))) ++ line (codes "end")) (sym named)
+    ∙ ap (λ es. refutation_shown names l es ++ line (codes "end")) (sym taken) ∙ sym is)
 
 -- without a no the line of the verdict is said
 pub other_said : (s : Following) (text : List ℕ) (v : Verdict) → verdict_now s ≡ v → ((load : ℕ) → v ≡ No load → ⊥) → tells_verdict s ≡ says text s

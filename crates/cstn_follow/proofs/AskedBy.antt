@@ -8,7 +8,7 @@ use Rattle.cstn_lift.specs.Labelled.{Labelled}
 use Rattle.cstn_lift.specs.Completion.{completed_label}
 use Rattle.cstn_lift.specs.Lowered.{lowered}
 use Rattle.cstn_check.specs.declared.verdicts.Verdict.TheVariants.{Yes, No, Full}
-use Rattle.cstn_history.specs.Facts.{FactRefusal, Done, Undecided}
+use Rattle.cstn_history.specs.Facts.{FactRefusal, Done, Undecided, ruled_out, wait_refusal}
 use Rattle.cstn_history.specs.Histories.{History, allows}
 use Rattle.cstn_reply.specs.Texts.{line, full_line}
 use Rattle.cstn_follow.specs.Following.{Following, says, left_now, too_many, verdict_now, verdict_line}
@@ -16,7 +16,6 @@ use Rattle.cstn_follow.specs.FactLines.{refused_fact}
 use Rattle.cstn_follow.specs.Questions.{tells_verdict}
 use Rattle.cstn_follow.specs.Searches.{has_place_for_one, by_refusal, by_line, until_text, by_after, by_unless, by_number, on_by}
 use Rattle.cstn_follow.specs.Waiting.{HasRoomToWait, waits_until}
-use Rattle.cstn_follow.specs.Answers.{ruled_out, wait_refusal}
 
 -- where x is a time-point, this is why it isn't told
 refused_by : (m : Labelled) (h : History) (x : ℕ) → x < count m.base → wait_refusal m h x ≡ ruled_out m h x (h.done x)

@@ -18,7 +18,7 @@ use Rattle.cstn_lift.proofs.WellFormed.{lowered_well_formed}
 use Rattle.cstn_history.specs.Histories.{History, IsTimelyHistory}
 use Rattle.cstn_history.specs.Continuations.{Can}
 use Rattle.cstn_history.specs.Rest.{rest}
-use Rattle.cstn_history.specs.Handed.{HasRoom}
+use Rattle.cstn_history.specs.Handed.{HasFewConstraints}
 use Rattle.cstn_history.proofs.Decides.{can_both}
 use Rattle.cstn_history.proofs.Edited.{timely_edited}
 use Rattle.cstn_history.proofs.WellFormed.{rest_labelled}
@@ -32,7 +32,7 @@ found_ascend m h fresh cap ids good is = found_ascends (said_by_network m h fres
 -- ---- what is said without an id
 
 module _ (m : Labelled) (h : History) (fresh : ℕ) (good : IsLabelled m) (timely : IsTimelyHistory m h)
-    (above : All (λ c. c.id < fresh) m.base.constraints) (room : HasRoom (rest m h fresh)) where
+    (above : All (λ c. c.id < fresh) m.base.constraints) (room : HasFewConstraints (rest m h fresh)) where
   goes : (test : ℕ → Bool) → (is_consistent (lowered (rest (network_alone m test) h fresh)) ≡ true) ↔ Can (network_alone m test) h
   goes test =
       let part = network_alone m test in

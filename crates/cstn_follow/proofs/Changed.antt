@@ -13,7 +13,7 @@ use Rattle.cstn_history.specs.declared.errors.RestError.TheVariants.{TooManyCons
 use Rattle.cstn_history.specs.Histories.{edited}
 use Rattle.cstn_history.specs.Read.{the_history, IsKeptFor}
 use Rattle.cstn_history.proofs.Edited.{timely_edited}
-use Rattle.cstn_change.specs.Changes.{EditedNetwork, Change, edited_base, after, constraints_after}
+use Rattle.cstn_change.specs.Changes.{EditedNetwork, Change, edited_base, edited_by, constraints_after}
 use Rattle.cstn_follow.specs.Following.{verdict_left}
 use Rattle.cstn_follow.proofs.Edited.{left_many}
 use Rattle.cstn_follow.specs.declared.findings.Finding.{Finding}
@@ -75,7 +75,7 @@ kept_replanned s m deadline cs good is =
     let kept = good.execution.kept in
     let timely = timely_edited (the_labelled s.network) (the_history s.history) deadline cs kept.history kept.in_time in
     subst (λ (n : Labelled). IsKeptFor n s.history) (sym is)
-    (record { one_each = kept.one_each; wide = kept.wide; history = timely.history; in_time = timely.in_time })
+    (record { one_each = kept.one_each; wide = kept.wide; ready_each = kept.ready_each; history = timely.history; in_time = timely.in_time })
 
 -- there is no verdict where it has too many constraints, lowered
 pub too_many_edited : (s : SessionParts) (e : EditedNetwork) → most_constraints < length (lowered (labelled_replanned s e)).constraints → verdict_replanned s e ≡ None
@@ -83,9 +83,9 @@ too_many_edited s e many = left_many (labelled_replanned s e) (the_history s.his
 
 module _ (s : SessionParts) (l : LabelledParts) (same : l ≡ s.network) where
   pub many_changed : (fresh : ℕ) (change : Change) → fresh ≡ s.fresh → most_constraints < length (lowered (changed_network l fresh change)).constraints
-      → verdict_replanned s (after (edited_now s) change) ≡ None
+      → verdict_replanned s (edited_by (edited_now s) change) ≡ None
   many_changed fresh change next many =
-      too_many_edited s (after (edited_now s) change)
+      too_many_edited s (edited_by (edited_now s) change)
       (subst (λ (m : Labelled). most_constraints < length (lowered m).constraints) (changed_by s _ l fresh change same next refl) many)
 
   pub many_due : (deadline : ℕ) → most_constraints < length (lowered (edited (the_labelled l) deadline (the_labelled l).base.constraints)).constraints

@@ -16,6 +16,7 @@ use Rattle.cstn_lift.specs.Labelled.{Labelled}
 use Rattle.cstn_history.specs.Histories.{History}
 use Rattle.cstn_history.specs.Rest.{is_left, left_upto}
 use Rattle.cstn_history.proofs.Lists.{passing_next}
+use Rattle.cstn_next.proofs.Filled.{drop_next}
 use Rattle.cstn_follow.specs.LeastDeadline.{label_coming, goes_with}
 
 abbrev pub label_read : Option Words → Option Label
@@ -24,13 +25,6 @@ label_read o = option_map marks o
 -- the bound can hold with the label of its time-point
 abbrev pub may_come : List (Option Words) → Bound → Bool
 may_come labels b = goes_with (slice_index_or (map label_read labels) b.node None) b.label
-
-drop_next : (bounds : List ProgramBound) (k : ℕ) (b : ProgramBound) → slice_get bounds k ≡ Some b → drop k bounds ≡ b ∷ drop (k + 1) bounds
-drop_next bounds k b at =
-    let inside = slice_get_within bounds k b at in
-    let here : b ≡ get_or bounds k b = let there = slice_get-get_or bounds k b inside in cc in
-    let next : suc k ≡ k + 1 = omega arith in
-    drop-cons bounds k b inside ∙ ap (λ y. y ∷ drop (suc k) bounds) (sym here) ∙ ap (λ n. b ∷ drop n bounds) next
 
 -- the latest moment that the bounds from the place k on ask for, from that of those behind it
 pub later_more : (labels : List (Option Words)) (bounds : List ProgramBound) (k : ℕ) (b : ProgramBound) (before now : ℕ) → slice_get bounds k ≡ Some b

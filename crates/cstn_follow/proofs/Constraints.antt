@@ -12,8 +12,8 @@ use Rattle.cstn_lift.specs.Completion.{completed, full_label}
 use Rattle.cstn_lift.specs.Lowered.{is_plain, with_full_label, full_of, full_constraints, guards_of, all_guards, guards, lowered, observer_of, numbered}
 use Rattle.cstn_lift.specs.WellFormed.{IsLabelled}
 use Rattle.cstn_lift.proofs.ListLemmas.{numbered_length}
-use Rattle.cstn_history.specs.Histories.{History, is_done, is_told, allows, label_left}
-use Rattle.cstn_history.specs.Rest.{is_left, sight_left, number_of, value_left, cut, moved, is_over, constraint_left, bare, late_one, watched_one, stands_at}
+use Rattle.cstn_history.specs.Histories.{History, is_done, is_told, allows, label_left, soonest}
+use Rattle.cstn_history.specs.Rest.{is_left, sight_left, number_left, value_left, value_cut, moved, is_over, constraint_left, bare, late_one, watched_one, stands_at}
 use Rattle.cstn_history.specs.Rest.{moment_watched, coming_one, late, watched, coming, added, reaction_after, reaction_by, constraints_left, rest}
 use Rattle.cstn_history.proofs.Edited.{completed_new}
 use Rattle.cstn_follow.specs.Tries.{with_base}
@@ -81,7 +81,7 @@ module _ (m : Labelled) (cs : List Constraint) (h : History) where
   is_left_same : is_left N h ≡ is_left m h
   is_left_same = fun_ext left_same
 
-  number_same : (x : ℕ) → number_of N h x ≡ number_of m h x
+  number_same : (x : ℕ) → number_left N h x ≡ number_left m h x
   number_same x = ap (λ (f : ℕ → Bool). length (filter f (range_with_len 0 x))) is_left_same
 
   allowed_same : (c : Constraint) → allows h (full_label N c) ≡ allows h (full_label m c)
@@ -92,7 +92,7 @@ module _ (m : Labelled) (cs : List Constraint) (h : History) where
     id = c.id;
     from = if is_done h c.from then 0 else n c.from;
     to = if is_done h c.to then 0 else n c.to;
-    most = cut (value_left h c);
+    most = value_cut (value_left h c);
     label = label_left h c.label;
   }) (fun_ext number_same)
 
@@ -116,8 +116,9 @@ module _ (m : Labelled) (cs : List Constraint) (h : History) where
 
   coming_same : (x : ℕ) → coming_one N h x ≡ coming_one m h x
   coming_same x =
-      ap (λ b. if nat_lt 0 h.now && b && not (is_done h x) then bare (number_of N h x) 0 (pos 0 -ℤ pos h.now) ∷ [] else []) (left_same x)
-      ∙ ap (λ (n : ℕ). if nat_lt 0 h.now && is_left m h x && not (is_done h x) then bare n 0 (pos 0 -ℤ pos h.now) ∷ [] else []) (number_same x)
+      ap (λ b. if nat_lt 0 (soonest h x) && b && not (is_done h x) then bare (number_left N h x) 0 (pos 0 -ℤ pos (soonest h x)) ∷ [] else []) (left_same x)
+      ∙ ap (λ (n : ℕ). if nat_lt 0 (soonest h x) && is_left m h x && not (is_done h x) then bare n 0 (pos 0 -ℤ pos (soonest h x)) ∷ [] else [])
+      (number_same x)
 
   added_same : added N h ≡ added m h
   added_same =

@@ -35,8 +35,8 @@ use Rattle.cstn_check.specs.declared.verdicts.Verdict.TheVariants.{Yes, No, Full
 use Rattle.cstn_check.proofs.Decides.{log_closed, log_sound}
 use Rattle.cstn_history.specs.Histories.{History, IsHistory, IsTimelyHistory, IsObservedAt, AgreesWith}
 use Rattle.cstn_history.specs.Continuations.{Continues, Can, IsKnownAfter, IsLeastNow, IsLeastTable}
-use Rattle.cstn_history.specs.Handed.{HasRoom}
-use Rattle.cstn_history.specs.Rest.{is_left, number_of, rest, moment_done}
+use Rattle.cstn_history.specs.Handed.{HasFewConstraints}
+use Rattle.cstn_history.specs.Rest.{is_left, number_left, rest, moment_done}
 use Rattle.cstn_history.proofs.Settled.{as_told, told_agrees, told_same, told_itself, holds_allows, some_or_none}
 use Rattle.cstn_history.proofs.Places.{old, count_left, left_coming, left_allows, new_inside, old_new, old_stands, observes_back}
 use Rattle.cstn_history.proofs.ToRest.{executed_left}
@@ -44,19 +44,12 @@ use Rattle.cstn_history.proofs.Decides.{least_both}
 use Rattle.cstn_history.proofs.Edited.{completed_new, continues_new, timely_edited}
 use Rattle.cstn_history.proofs.WellFormed.{rest_labelled}
 use Rattle.cstn_next.specs.Next.{IsPlannedBy}
+use Rattle.cstn_next.proofs.Exact.{least_one}
 use Rattle.cstn_follow.specs.Following.{verdict_left}
 use Rattle.cstn_follow.specs.LeastDeadline.{by_deadline, IsLeastDeadlineOf, last_done, label_coming, labels_coming, goes_with, is_coming, deadline_by, least_by}
 use Rattle.cstn_follow.specs.LeastDeadline.{least_of, IsRightLeast}
 use Rattle.cstn_follow.proofs.GoesOn.{left_says, verdict_right}
 use Rattle.cstn_follow.proofs.Going.{least_table}
-
-least_one : (m : Labelled) (h : History) (s : Scenario) (x t u : ℕ) → IsLeastNow m h s x t → IsLeastNow m h s x u → t ≡ u
-least_one m h s x t u a b =
-    let up = a.least b.reached.0 b.reached.1 in
-    let up_at = b.reached.2 in
-    let down = b.least a.reached.0 a.reached.1 in
-    let down_at = a.reached.2 in
-    omega arith
 
 -- ---- the greatest of the moments
 
@@ -140,7 +133,7 @@ module _ (m : Labelled) (top : ℕ) (h : History) (fresh : ℕ) (bounds : List B
   net = lowered R
 
   abbrev new : ℕ → ℕ
-  new = number_of M h
+  new = number_left M h
 
   abbrev good : IsLabelled M
   good = plan.labelled
@@ -324,7 +317,7 @@ module _ (m : Labelled) (top : ℕ) (h : History) (fresh : ℕ) (bounds : List B
     by_last = record {
       done = goes.done;
       in_time = λ s x t agrees is. done_by s x t agrees is;
-      from_now = λ s x agrees here none e. goes.from_now s x agrees here none (executed_by m last top s x e);
+      from_soonest = λ s x agrees here none e. goes.from_soonest s x agrees here none (executed_by m last top s x e);
       within = λ s x agrees here none e. within_by s x agrees here none (executed_by m last top s x e);
       meets = λ s c agrees has force. goes.meets s c agrees has
           (subst (Holds s) (completed_new m last m.base.constraints _ ∙ sym (completed_new m top m.base.constraints _)) force);
@@ -347,7 +340,7 @@ module _ (m : Labelled) (top : ℕ) (h : History) (fresh : ℕ) (bounds : List B
 
 -- a network that isn't refuted has a plan
 module _ (m : Labelled) (h : History) (fresh : ℕ) (good : IsLabelled m) (timely : IsTimelyHistory m h) (above : All (λ c. c.id < fresh) m.base.constraints)
-    (room : HasRoom (rest m h fresh)) (stands : is_refuted (lowered (rest m h fresh)) (log_of (lowered (rest m h fresh))) ≡ false) where
+    (room : HasFewConstraints (rest m h fresh)) (stands : is_refuted (lowered (rest m h fresh)) (log_of (lowered (rest m h fresh))) ≡ false) where
   abbrev left_net : Network
   left_net = lowered (rest m h fresh)
 

@@ -9,7 +9,7 @@ use Rattle.cstn_check.specs.Decisions.{verdict}
 use Rattle.cstn_check.specs.declared.verdicts.Verdict.{Verdict}
 use Rattle.cstn_history.specs.Histories.{History}
 use Rattle.cstn_history.specs.Rest.{rest}
-use Rattle.cstn_history.specs.Handed.{HasRoom}
+use Rattle.cstn_history.specs.Handed.{HasFewConstraints}
 use Rattle.cstn_follow.specs.Following.{Following, has_few, is_within_limits, verdict_left, verdict_now, verdict_within}
 
 few_true : (n : ℕ) → n ≤ most_constraints → nat_le n most_constraints ≡ true
@@ -19,7 +19,7 @@ many_false : (n : ℕ) → most_constraints < n → nat_le n most_constraints �
 many_false n many = grind arith
 
 -- there is a verdict where there are few enough constraints
-pub left_fits : (m : Labelled) (h : History) (fresh cap : ℕ) → length (lowered m).constraints ≤ most_constraints → HasRoom (rest m h fresh)
+pub left_fits : (m : Labelled) (h : History) (fresh cap : ℕ) → length (lowered m).constraints ≤ most_constraints → HasFewConstraints (rest m h fresh)
     → verdict_left m h fresh cap ≡ Some (verdict cap (lowered (rest m h fresh)))
 left_fits m h fresh cap few room =
     all_fit (has_few (lowered m)) (has_few (rest m h fresh).base) (has_few (lowered (rest m h fresh)))
@@ -65,7 +65,7 @@ within_is s v is = by_fit (is_within_limits s.network s.history s.fresh) is
     by_fit false here = absurd (cc)
 
 -- the limits are kept, or they aren't
-pub fits_within : (m : Labelled) (h : History) (fresh : ℕ) → length (lowered m).constraints ≤ most_constraints → HasRoom (rest m h fresh)
+pub fits_within : (m : Labelled) (h : History) (fresh : ℕ) → length (lowered m).constraints ≤ most_constraints → HasFewConstraints (rest m h fresh)
     → is_within_limits m h fresh ≡ true
 fits_within m h fresh few room =
     and_from (has_few (lowered m)) (has_few (rest m h fresh).base && has_few (lowered (rest m h fresh))) (few_true (length (lowered m).constraints) few)

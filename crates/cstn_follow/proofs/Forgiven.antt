@@ -15,13 +15,14 @@ use Rattle.cstn_check.specs.Decisions.{verdict}
 use Rattle.cstn_check.specs.declared.verdicts.Verdict.{Verdict}
 use Rattle.cstn_history.specs.Histories.{History}
 use Rattle.cstn_history.specs.Rest.{rest}
-use Rattle.cstn_change.specs.Changes.{EditedNetwork, removes, after, without}
-use Rattle.cstn_change.specs.Read.{HasConstraints}
+use Rattle.cstn_change.specs.Changes.{EditedNetwork, removes, edited_by, constraints_without}
+use Rattle.cstn_change.specs.Read.{OnlyConstraintsDiffer}
 use Rattle.cstn_follow.specs.Blame.{network_alone}
 use Rattle.cstn_follow.specs.Following.{has_few, verdict_left}
 use Rattle.cstn_follow.specs.Forgiving.{after_removals}
 use Rattle.cstn_follow.proofs.Edited.{left_fits}
 use Rattle.cstn_follow.proofs.GoesOn.{left_says}
+use Rattle.cstn_follow.proofs.Roomy.{own_few}
 use Rattle.cstn_follow.proofs.Parts.{part_short, part_room}
 
 -- ---- the network without the constraints of some ids
@@ -37,7 +38,7 @@ kept_none : (cs : List Constraint) → kept [] cs ≡ cs
 kept_none [] = refl
 kept_none (c ∷ cs) = ap (λ l. c ∷ l) (kept_none cs)
 
-kept_both : (id : ℕ) (ids : List ℕ) (cs : List Constraint) → kept ids (without id cs) ≡ kept (id ∷ ids) cs
+kept_both : (id : ℕ) (ids : List ℕ) (cs : List Constraint) → kept ids (constraints_without id cs) ≡ kept (id ∷ ids) cs
 kept_both id ids [] = refl
 kept_both id ids (c ∷ cs) = elim (cases_Bool (c.id == id)) [
   | inl same ↦ rw same (kept_both id ids cs)
@@ -56,7 +57,7 @@ removed_is e [] =
     ap (λ cs. made e.net e.fresh cs e.edits) (sym (kept_none e.net.constraints))
     ∙ ap (made e.net e.fresh (kept [] e.net.constraints)) (let n : e.edits ≡ e.edits + 0 = omega arith in n)
 removed_is e (id ∷ ids) =
-    removed_is (after e (removes id)) ids
+    removed_is (edited_by e (removes id)) ids
     ∙ ap (λ cs. made e.net e.fresh cs ((e.edits + 1) + length ids)) (kept_both id ids e.net.constraints)
     ∙ ap (made e.net e.fresh (kept (id ∷ ids) e.net.constraints)) (let n : (e.edits + 1) + length ids ≡ e.edits + suc (length ids) = omega arith in n)
 
@@ -64,7 +65,7 @@ removed_is e (id ∷ ids) =
 abbrev seen : List TimePoint → ℕ → List Constraint → Network
 seen points deadline cs = record { deadline = deadline; observes = map observed points; reaction = reaction_of points; constraints = cs }
 
-pub taken_next : (old new : NetworkParts) (id : ℕ) (ids : List ℕ) → HasConstraints old new (without id (the_network old).constraints)
+pub taken_next : (old new : NetworkParts) (id : ℕ) (ids : List ℕ) → OnlyConstraintsDiffer old new (constraints_without id (the_network old).constraints)
     → with_some (the_network old) (isnt_of (id ∷ ids)) ≡ with_some (the_network new) (isnt_of ids)
 taken_next old new id ids taken =
     ap (seen old.points old.deadline) (sym (kept_both id ids (the_network old).constraints))
@@ -77,22 +78,10 @@ all_taken net = ap (seen net.points net.deadline) (kept_none (the_network net).c
 
 -- ---- what is left of it
 
-few_is : (n : ℕ) → nat_le n most_constraints ≡ true → n ≤ most_constraints
-few_is n is = grind arith
-
--- a labelled network of which there is a verdict has few constraints, lowered
-few_within : (m : Labelled) (h : History) (fresh cap : ℕ) (v : Verdict) → verdict_left m h fresh cap ≡ Some v → length (lowered m).constraints ≤ most_constraints
-few_within m h fresh cap v is = by (has_few (lowered m)) (has_few (rest m h fresh).base && has_few (lowered (rest m h fresh))) refl is
-  where
-    by : (a b : Bool) → has_few (lowered m) ≡ a → (if a && b then Some (verdict cap (lowered (rest m h fresh))) else None) ≡ Some v
-        → length (lowered m).constraints ≤ most_constraints
-    by true b few so = few_is (length (lowered m).constraints) few
-    by false b many so = absurd (cc)
-
 -- with fewer constraints there is a verdict, too
 pub part_verdict : (m : Labelled) (test : ℕ → Bool) (h : History) (fresh cap : ℕ) (v : Verdict) → IsLabelled m → verdict_left m h fresh cap ≡ Some v
     → verdict_left (network_alone m test) h fresh cap ≡ Some (verdict cap (lowered (rest (network_alone m test) h fresh)))
 part_verdict m test h fresh cap v good is =
-    let few = few_within m h fresh cap v is in
+    let few = own_few m h fresh cap v is in
     let short = part_short m test good in
     left_fits (network_alone m test) h fresh cap (omega arith) (part_room m test good h fresh (left_says m h fresh cap v is).0)

@@ -17,7 +17,7 @@ use Rattle.cstn_check.specs.declared.verdicts.Verdict.{Verdict}
 use Rattle.cstn_check.specs.declared.verdicts.Verdict.TheVariants.{Yes, No}
 use Rattle.cstn_history.specs.declared.errors.RestError.{RestError}
 use Rattle.cstn_history.specs.declared.errors.RestError.TheVariants.{TooManyConstraints}
-use Rattle.cstn_history.specs.Handed.{HasRoom, IsRestRefusal, rest_number}
+use Rattle.cstn_history.specs.Handed.{HasFewConstraints, IsRestRefusal, rest_number}
 use Rattle.cstn_history.specs.Histories.{History, IsTimelyHistory}
 use Rattle.cstn_history.specs.Continuations.{Can}
 use Rattle.cstn_history.specs.Read.{HistoryParts, the_history}
@@ -41,7 +41,7 @@ finding_verdict cap net Unknown is = is
 
 module _ (m : Labelled) (h : History) (fresh cap : ℕ) where
   -- where something is found, there is room
-  pub found_left : (f : Finding) → length (lowered m).constraints ≤ most_constraints → HasRoom (rest m h fresh) → IsFindingOn cap (lowered (rest m h fresh)) f
+  pub found_left : (f : Finding) → length (lowered m).constraints ≤ most_constraints → HasFewConstraints (rest m h fresh) → IsFindingOn cap (lowered (rest m h fresh)) f
       → verdict_left m h fresh cap ≡ Some (verdict_of f)
   found_left f few room is = left_fits m h fresh cap few room ∙ ap (λ v. Some v) (finding_verdict cap (lowered (rest m h fresh)) f is)
 
@@ -94,7 +94,7 @@ pub found_right : (e : ExecutionParts) (cap edits : ℕ) (f : Finding) (v : Verd
 found_right e cap edits f v good is = right_verdict (session_parts e cap edits f) v (followed_session e cap edits f good) (sym is)
 
 -- there is room for what is left
-pub room_left : (s : SessionParts) → IsSession s → HasRoom (rest (the_labelled s.network) (the_history s.history) s.fresh)
+pub room_left : (s : SessionParts) → IsSession s → HasFewConstraints (rest (the_labelled s.network) (the_history s.history) s.fresh)
 room_left s good = (left_says (the_labelled s.network) (the_history s.history) s.fresh s.cap s.verdict good.verdict).0
 
 -- what a plan, or a refutation, that was found says of what is left

@@ -17,7 +17,7 @@ use Rattle.cstn_follow.specs.LeastDeadline.{least_of}
 use Rattle.cstn_follow.specs.Pauses.{pause_of}
 use Rattle.cstn_text.specs.Numbers.{printed_value}
 use Rattle.cstn_change.specs.Changes.{NoSuch}
-use Rattle.cstn_change.specs.ChangeLines.{refused_text}
+use Rattle.cstn_change.specs.ChangeLines.{refused_change_text}
 use Rattle.cstn_follow.specs.Raises.{raise_of}
 use Rattle.cstn_follow.specs.Searches.{has_place_for_one}
 use Rattle.cstn_follow.specs.declared.answers.LeastDeadline.{LeastDeadline}
@@ -51,7 +51,7 @@ late_ends names cap p late_unknown = ends (codes "full " ++ decimal cap)
 raise_ends : (cap : ℕ) (v : Verdict) (id : ℕ) (r : Raise) → EndsLine (raise_text cap v id r)
 raise_ends cap v id (To w) = ends (codes "raise " ++ decimal id ++ 32 ∷ printed_value w)
 raise_ends cap v id IsVain = ends (codes "raise " ++ decimal id ++ codes " none")
-raise_ends cap v id IsNoId = ends (refused_text (NoSuch id))
+raise_ends cap v id IsNoId = ends (refused_change_text (NoSuch id))
 raise_ends cap v id IsPossible = verdict_ends cap v
 raise_ends cap v id IsUnfound = ends (codes "full " ++ decimal cap)
 

@@ -16,12 +16,12 @@ use Rattle.cstn_check.proofs.Deciding.{Tells, verdict_tells}
 use Rattle.cstn_history.specs.Histories.{History, IsTimelyHistory}
 use Rattle.cstn_history.specs.Continuations.{Can}
 use Rattle.cstn_history.specs.Rest.{rest}
-use Rattle.cstn_history.specs.Handed.{HasRoom}
+use Rattle.cstn_history.specs.Handed.{HasFewConstraints}
 use Rattle.cstn_history.proofs.Decides.{can_both}
 use Rattle.cstn_history.proofs.WellFormed.{rest_labelled}
 use Rattle.cstn_follow.specs.Following.{has_few, verdict_left, IsRightVerdict}
 
-few_is : (n : ℕ) → nat_le n most_constraints ≡ true → n ≤ most_constraints
+pub few_is : (n : ℕ) → nat_le n most_constraints ≡ true → n ≤ most_constraints
 few_is n is = grind arith
 
 module _ (m : Labelled) (h : History) (fresh cap : ℕ) (v : Verdict) (is : verdict_left m h fresh cap ≡ Some v) where
@@ -29,7 +29,7 @@ module _ (m : Labelled) (h : History) (fresh cap : ℕ) (v : Verdict) (is : verd
   Left = rest m h fresh
 
   by_few : (a b c : Bool) → has_few Left.base ≡ b → has_few (lowered Left) ≡ c
-      → (if a && (b && c) then Some (verdict cap (lowered Left)) else None) ≡ Some v → HasRoom Left × (verdict cap (lowered Left) ≡ v)
+      → (if a && (b && c) then Some (verdict cap (lowered Left)) else None) ≡ Some v → HasFewConstraints Left × (verdict cap (lowered Left) ≡ v)
   by_few true true true few few_lowered says = (
     record {
       base = few_is (length Left.base.constraints) few;
@@ -41,7 +41,7 @@ module _ (m : Labelled) (h : History) (fresh cap : ℕ) (v : Verdict) (is : verd
   by_few true false c few few_lowered says = absurd (cc)
   by_few false b c few few_lowered says = absurd (cc)
 
-  pub left_says : HasRoom Left × (verdict cap (lowered Left) ≡ v)
+  pub left_says : HasFewConstraints Left × (verdict cap (lowered Left) ≡ v)
   left_says = by_few (has_few (lowered m)) (has_few Left.base) (has_few (lowered Left)) refl refl is
 
   module _ (good : IsLabelled m) (timely : IsTimelyHistory m h) (above : All (λ c. c.id < fresh) m.base.constraints) where

@@ -16,9 +16,9 @@ use Rattle.cstn_lift.proofs.Equivalent.{equivalent, mixed, mixed_defaulted, to_l
 use Rattle.cstn_lift.proofs.Twins.{defaulted_least}
 use Rattle.cstn_lift.proofs.WellFormed.{lowered_well_formed}
 use Rattle.cstn_check.proofs.Decides.{least_exists}
-use Rattle.cstn_history.specs.Histories.{History, IsHistory, IsTimelyHistory, GoesOn, is_done}
+use Rattle.cstn_history.specs.Histories.{History, IsHistory, IsTimelyHistory, GoesOn, is_done, soonest}
 use Rattle.cstn_history.specs.Continuations.{Continues, Can, IsLeastNow, IsQuietBefore, IsAlwaysAt, IsNamed, IsLeastTable}
-use Rattle.cstn_history.specs.Rest.{number_of, rest}
+use Rattle.cstn_history.specs.Rest.{number_left, rest}
 use Rattle.cstn_history.specs.Facts.{FactRefusal, settles, is_beyond, observed_since, again_told, told_after, done_refusal, told_refusal, with_done}
 use Rattle.cstn_history.proofs.Settled.{as_told, told_agrees, told_itself, holds_allows}
 use Rattle.cstn_history.proofs.Places.{left_coming, new_inside}
@@ -83,10 +83,10 @@ module _ (m : Labelled) (h : History) (good : IsLabelled m) (timely : IsTimelyHi
           λ s x agrees here none e.
               let left = left_coming m h room.fresh good known x none (holds_allows h (completed_label m x) s agrees e) in
               let there = executed_left m h room.fresh good known s x here left (subst (λ r. IsExecuted m r x) (sym (told_itself h s agrees)) e) in
-              let least = defaulted_least R found.0 default twin labelled (mixed_defaulted R labelled default) found.2 s (number_of m h x)
+              let least = defaulted_least R found.0 default twin labelled (mixed_defaulted R labelled default) found.2 s (number_left m h x)
               (new_inside m h room.fresh good known x here left) there in
               subst (IsLeastNow m h s x) (sym (at_coming m h room.fresh good known (λ r. found.0 (twin r)) plays s x none))
-              ((least_both m h room.fresh good known s x agrees here none e (found.0 (twin s) (number_of m h x))).1 least),
+              ((least_both m h room.fresh good known s x agrees here none e (found.0 (twin s) (number_left m h x))).1 least),
         )
 
   -- ---- what is named can be done
@@ -175,10 +175,10 @@ module _ (m : Labelled) (h : History) (good : IsLabelled m) (timely : IsTimelyHi
     abbrev chosen : (table : Table) × Continues m h table × IsLeastTable m h table
     chosen = least_table room can
 
-    from_now : h.now ≤ t
-    from_now =
+    from_soonest : soonest h x.0 ≤ t
+    from_soonest =
         let l = named.least (as_told h (λ p. false)) (told_agrees h (λ p. false)) in
-        let from = l.reached.1.from_now (as_told h (λ p. false)) x.0 (told_agrees h (λ p. false)) named.here named.coming l.executed in
+        let from = l.reached.1.from_soonest (as_told h (λ p. false)) x.0 (told_agrees h (λ p. false)) named.here named.coming l.executed in
         let at = l.reached.2 in
         omega arith
 
@@ -187,11 +187,12 @@ module _ (m : Labelled) (h : History) (good : IsLabelled m) (timely : IsTimelyHi
       now = omega arith;
       kept = λ y u is. put_kept h.done x.0 t y u named.coming is;
       more = λ y u none is. elim (put_from h.done x.0 t y u is) [
-        | inl new ↦ let low = from_now in let same = new.1 in omega arith
+        | inl new ↦ subst (λ z. soonest h z ≤ u) (sym new.0) (let low = from_soonest in let same = new.1 in omega arith)
         | inr old ↦ absurd (cc)
       ];
       told = λ p. refl;
       expected = λ p. refl;
+      ready = λ y none. omega arith;
     }
 
     pub still_named : (y : ℕ) → IsNamed m h t y → (y ≡ x.0 → ⊥) → IsNamed m later t y

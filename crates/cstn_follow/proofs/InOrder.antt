@@ -18,7 +18,7 @@ use Rattle.cstn_net.specs.Limits.{most_constraints, most_edits}
 use Rattle.cstn_net.specs.Networks.{Network, Constraint, IsConstraint, IsValue, IsWellFormed}
 use Rattle.cstn_net.proofs.WellFormed.{well_formed_with}
 use Rattle.cstn_change.specs.Changes.{EditedNetwork, Change, adds, removes, revalues, refusal, is_value, has_constraint, least_unobserved, with_value}
-use Rattle.cstn_change.specs.Changes.{new_constraint, constraints_after, IsBetween, CanAdd, CanChange}
+use Rattle.cstn_change.specs.Changes.{new_constraint, constraints_after, HasTimePointEnds, CanAdd, CanChange}
 use Rattle.cstn_change.proofs.IdLemmas.{value_id}
 use Rattle.cstn_change.proofs.RefusalLemmas.{true_value, none_mapped, on_observed}
 
@@ -68,7 +68,7 @@ module _ (net : Network) (good : IsWellFormed net) where
   abbrev cs : List Constraint
   cs = net.constraints
 
-  added_in_order : (fresh from to : ℕ) (most : ℤ) (a : Label) → All (λ c. c.id < fresh) cs → IsBetween net (adds from to most a)
+  added_in_order : (fresh from to : ℕ) (most : ℤ) (a : Label) → All (λ c. c.id < fresh) cs → HasTimePointEnds net (adds from to most a)
       → CanAdd most_constraints net most a → IsWellFormed (record net { constraints = constraints_after cs fresh (adds from to most a) })
   added_in_order fresh from to most a above between can =
       let c = new_constraint fresh from to most a in
@@ -110,7 +110,7 @@ module _ (net : Network) (good : IsWellFormed net) where
       omega arith))
       (All-map (λ c. IsValue c.most) f cs (All-weaker _ _ (λ c. value_with id most c value) cs good.values))
 
-  pub changed_in_order : (fresh : ℕ) (change : Change) → All (λ c. c.id < fresh) cs → IsBetween net change → CanChange most_constraints net change
+  pub changed_in_order : (fresh : ℕ) (change : Change) → All (λ c. c.id < fresh) cs → HasTimePointEnds net change → CanChange most_constraints net change
       → IsWellFormed (record net { constraints = constraints_after cs fresh change })
   changed_in_order fresh (adds from to most a) above between can = added_in_order fresh from to most a above between can
   changed_in_order fresh (removes id) above between can = removed_in_order fresh id

@@ -25,7 +25,7 @@ use Rattle.cstn_follow.specs.Lateness.{late_of, IsLateFull, IsRightLate}
 use Rattle.cstn_follow.specs.Pauses.{said_of}
 use Rattle.cstn_follow.proofs.GoesOn.{verdict_right}
 use Rattle.cstn_follow.proofs.Halved.{none_within}
-use Rattle.cstn_follow.proofs.LastNow.{eased_continues, said_goes, said_stops}
+use Rattle.cstn_follow.proofs.LastNow.{max_over, eased_continues, said_goes, said_stops}
 use Rattle.cstn_follow.proofs.Roomy.{expected_fits}
 
 -- ---- an outcome that is expected earlier
@@ -42,9 +42,6 @@ known_there m h t p q u same = ap (λ o. or_at o (u + m.base.reaction q)) (expec
 known_other : (m : Labelled) (h : History) (t p q u : ℕ) → (q ≡ p → ⊥) → known_at m (with_expected h t p) q u ≡ known_at m h q u
 known_other m h t p q u other = ap (λ o. or_at o (u + m.base.reaction q)) (expected_other h t p q other)
 
-over : (a b : ℕ) → b ≤ max a b
-over a b = grind arith
-
 -- an outcome that is expected no later than it is known, or than now
 pub expected_eased : (m : Labelled) (h : History) (t p : ℕ) → ((u : ℕ) → IsObservedAt m h p u → t ≤ max h.now (known_at m h p u))
     → IsEased m h (with_expected h t p)
@@ -52,13 +49,14 @@ expected_eased m h t p soon = record {
   now = omega arith;
   done = λ x. refl;
   told = λ q. refl;
+  ready = λ x. omega arith;
   known = λ q u o. elim (cases_eq q p) [
     | inl same ↦
         let at = known_there m h t p q u same in
         let there : IsObservedAt m h p u = subst (λ r. IsObservedAt m h r u) same o in
         let upto = subst (λ r. t ≤ max h.now (known_at m h r u)) (sym same) (soon u there) in
         omega arith
-    | inr other ↦ let at = known_other m h t p q u other in let low = over h.now (known_at m h q u) in omega arith
+    | inr other ↦ let at = known_other m h t p q u other in let low = max_over h.now (known_at m h q u) in omega arith
   ];
 }
 
@@ -68,6 +66,7 @@ earlier_eased m h t u p upto = record {
   now = omega arith;
   done = λ x. refl;
   told = λ q. refl;
+  ready = λ x. omega arith;
   known = λ q since o. elim (cases_eq q p) [
     | inl same ↦
         let at = known_there m h t p q since same in
@@ -77,7 +76,7 @@ earlier_eased m h t u p upto = record {
     | inr other ↦
         let at = known_other m h t p q since other in
         let was = known_other m h u p q since other in
-        let low = over h.now (known_at m (with_expected h u p) q since) in
+        let low = max_over h.now (known_at m (with_expected h u p) q since) in
         omega arith
   ];
 }
@@ -93,6 +92,7 @@ same_eased m h t p soon = record {
   now = omega arith;
   done = λ x. refl;
   told = λ q. refl;
+  ready = λ x. omega arith;
   known = λ q u o. elim (cases_eq q p) [
     | inl same ↦
         let was = known_there m h t p q u same in
@@ -102,7 +102,7 @@ same_eased m h t p soon = record {
         goal
     | inr other ↦
         let was = known_other m h t p q u other in
-        let low = over h.now (known_at m (with_expected h t p) q u) in
+        let low = max_over h.now (known_at m (with_expected h t p) q u) in
         omega arith
   ];
 }
@@ -188,7 +188,7 @@ module _ (m : Labelled) (h : History) (fresh cap : ℕ) (good : IsLabelled m) (t
   from_low low t upto can e =
       let within = most_upto in
       let last = last_found (said_late m h fresh cap p) Goes most_deadline goes_by (λ u upto says goes. fails u says goes.1)
-      (λ a b before goes. ((let upto_b = goes.0 in omega arith), earlier_can m h a b p (let low = over h.now b in omega arith) goes.1)) 20
+      (λ a b before goes. ((let upto_b = goes.0 in omega arith), earlier_can m h a b p (let low = max_over h.now b in omega arith) goes.1)) 20
       (record { low = low; high = most }) t (record { low = (upto, can); high = λ u goes. goes.0; upto = most_upto }) (omega arith) e in
       record { upto = last.0.0; goes = last.0.1; last = λ u before goes. last.1 u (before, goes) }
 

@@ -3,7 +3,7 @@ use Rattle.std.proofs.Common.{ℕ, zero, suc, ◌≡◌, ◌<◌, ◌≤◌, inl
 use Rattle.std.specs.Prelude.{max, if◌then◌else◌}
 use Rattle.std.specs.Option.{is_some}
 use Rattle.std.specs.List.{All}
-use Rattle.std.proofs.lemmas.Bool.{cases_lt, both_ways, and_parts}
+use Rattle.std.proofs.lemmas.Bool.{cases_lt, cases_eq, both_ways, and_parts}
 use Rattle.cstn_label.specs.Labels.{Scenario}
 use Rattle.cstn_net.specs.Limits.{most_deadline}
 use Rattle.cstn_net.specs.Networks.{count, limit}
@@ -16,10 +16,10 @@ use Rattle.cstn_check.specs.Search.{halving}
 use Rattle.cstn_check.specs.declared.verdicts.Verdict.{Verdict}
 use Rattle.cstn_check.specs.declared.verdicts.Verdict.TheVariants.{Yes, No, Full}
 use Rattle.cstn_check.proofs.Halves.{last_found}
-use Rattle.cstn_history.specs.Histories.{History, IsTimelyHistory, AgreesWith, allows, is_done, known_at}
+use Rattle.cstn_history.specs.Histories.{History, IsTimelyHistory, AgreesWith, allows, is_done, known_at, soonest}
 use Rattle.cstn_history.specs.Continuations.{Continues, Can, IsKnownAfter}
-use Rattle.cstn_history.specs.Facts.{now_refusal, at_now}
-use Rattle.cstn_history.proofs.Recorded.{timely_now}
+use Rattle.cstn_history.specs.Facts.{now_refusal, at_now, with_ready}
+use Rattle.cstn_history.proofs.Recorded.{timely_now, ready_there, ready_other}
 use Rattle.cstn_history.proofs.Settled.{allows_true, holds_allows}
 use Rattle.cstn_follow.specs.Eased.{IsEased}
 use Rattle.cstn_follow.specs.Following.{any_below, verdict_left}
@@ -30,11 +30,15 @@ use Rattle.cstn_follow.proofs.AllDone.{any_false, somewhere, none_open}
 use Rattle.cstn_follow.proofs.GoesOn.{verdict_right}
 use Rattle.cstn_follow.proofs.Halved.{none_within}
 use Rattle.cstn_follow.proofs.Roomy.{now_fits}
+use Rattle.cstn_follow.proofs.Undone.{not_some}
 
 -- ---- earlier is no worse
 
 max_upto : (a b u : ℕ) → a ≤ u → b ≤ u → max a b ≤ u
 max_upto a b u = grind arith
+
+now_upto : (h : History) (x u : ℕ) → soonest h x ≤ u → h.now ≤ u
+now_upto h x u upto = omega arith
 
 module _ (m : Labelled) (h g : History) (table : Table) (eased : IsEased m h g) (goes : Continues m h table) where
   agrees_too : (s : Scenario) → AgreesWith g s → AgreesWith h s
@@ -67,22 +71,44 @@ module _ (m : Labelled) (h g : History) (table : Table) (eased : IsEased m h g) 
   eased_continues = record {
     done = λ s x t agrees e. goes.done s x t (agrees_too s agrees) (was x (Some t) e);
     in_time = λ s x t agrees e. goes.in_time s x t (agrees_too s agrees) (was x (Some t) e);
-    from_now = λ s x agrees here none e.
-        let from = goes.from_now s x (agrees_too s agrees) here (was x None none) e in let low = eased.now in omega arith;
+    from_soonest = λ s x agrees here none e.
+        let from = goes.from_soonest s x (agrees_too s agrees) here (was x None none) e in
+        let low = eased.now in
+        let ready = eased.ready x in
+        omega arith;
     within = λ s x agrees here none e. goes.within s x (agrees_too s agrees) here (was x None none) e;
     meets = λ s c agrees has force. goes.meets s c (agrees_too s agrees) has force;
     dynamic = λ s r x of_s of_r here none e agrees.
-        let from = goes.from_now s x (agrees_too s of_s) here (was x None none) e in
+        let from = now_upto h x (table s x) (goes.from_soonest s x (agrees_too s of_s) here (was x None none) e) in
         goes.dynamic s r x (agrees_too s of_s) (agrees_too r of_r) here (was x None none) e
         (λ p k. agrees p (known_still s (table s x) p from k));
   }
 
 -- what was to be known by a moment is so whatever time it is
-max_over : (a b : ℕ) → b ≤ max a b
+pub max_over : (a b : ℕ) → b ≤ max a b
 max_over a b = grind arith
 
 pub at_eased : (m : Labelled) (h : History) (t u : ℕ) → t ≤ u → IsEased m (at_now h u) (at_now h t)
-at_eased m h t u upto = record { now = upto; done = λ x. refl; told = λ p. refl; known = λ p since o. max_over u (known_at m h p since) }
+at_eased m h t u upto = record { now = upto; done = λ x. refl; told = λ p. refl; ready = λ x. omega arith; known = λ p since o. max_over u (known_at m h p since) }
+
+-- a time-point that is ready earlier
+pub ready_eased : (m : Labelled) (h : History) (t u x : ℕ) → t ≤ u → IsEased m (with_ready h u x) (with_ready h t x)
+ready_eased m h t u x upto = record {
+  now = omega arith;
+  done = λ y. refl;
+  told = λ p. refl;
+  ready = λ y. elim (cases_eq y x) [
+    | inl same ↦
+        let soon = ready_there h.ready x t y same in
+        let late = ready_there h.ready x u y same in
+        omega arith
+    | inr other ↦
+        let soon = ready_other h.ready x t y other in
+        let late = ready_other h.ready x u y other in
+        omega arith
+  ];
+  known = λ p since o. max_over h.now (known_at m h p since);
+}
 
 pub sooner : (m : Labelled) (h : History) (t u : ℕ) → t ≤ u → Can m (at_now h u) → Can m (at_now h t)
 sooner m h t u upto can = (can.0, eased_continues m (at_now h u) (at_now h t) can.0 (at_eased m h t u upto) can.1)
@@ -101,10 +127,6 @@ any_by test n false false below here some earlier = absurd (cc)
 any_true : (test : ℕ → Bool) (n : ℕ) → any_below test n ≡ true → IsSome test n
 any_true test zero none = absurd (cc)
 any_true test (suc n) some = any_by test n (any_below test n) (test n) refl refl some (any_true test n)
-
-none_done : (o : Option ℕ) → not (is_some o) ≡ true → o ≡ None
-none_done None e = refl
-none_done (Some t) e = absurd (cc)
 
 limit_upto : (m : Labelled) (y : ℕ) → limit m.base y ≤ m.base.deadline
 limit_upto m zero = omega arith
@@ -158,9 +180,9 @@ module _ (m : Labelled) (h : History) (fresh cap : ℕ) (good : IsLabelled m) (t
     bounded some u goes =
         let x = any_true (is_undone m h) (count m.base) some in
         let two = and_parts (not (is_done h x.0)) (allows h (completed_label m x.0)) x.2 in
-        let none = none_done (h.done x.0) two.0 in
+        let none = not_some (h.done x.0) two.0 in
         let w = somewhere m h x.0 good timely.history x.1 two.1 in
-        let from = goes.1.from_now w.0 x.0 w.1 x.1 none w.2 in
+        let from = goes.1.from_soonest w.0 x.0 w.1 x.1 none w.2 in
         let upto = goes.1.within w.0 x.0 w.1 x.1 none w.2 in
         let last = limit_upto m x.0 in
         omega arith
@@ -172,7 +194,7 @@ module _ (m : Labelled) (h : History) (fresh cap : ℕ) (good : IsLabelled m) (t
       record {
         done = can.1.done;
         in_time = can.1.in_time;
-        from_now = λ s x agrees here none e. absurd (gone s x agrees here none e);
+        from_soonest = λ s x agrees here none e. absurd (gone s x agrees here none e);
         within = can.1.within;
         meets = can.1.meets;
         dynamic = λ s r x of_s of_r here none e agrees. absurd (gone s x of_s here none e);

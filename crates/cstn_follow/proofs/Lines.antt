@@ -9,7 +9,7 @@ use Rattle.cstn_history.specs.declared.errors.RestError.TheVariants.{TooManyCons
 use Rattle.cstn_history.specs.Facts.{FactRefusal}
 use Rattle.cstn_history.specs.Histories.{History}
 use Rattle.cstn_history.specs.Read.{the_history}
-use Rattle.cstn_change.specs.Changes.{EditedNetwork, Change, after}
+use Rattle.cstn_change.specs.Changes.{EditedNetwork, Change, edited_by}
 use Rattle.cstn_change.specs.ChangeLines.{accepted_text}
 use Rattle.cstn_reply.specs.Texts.{line}
 use Rattle.cstn_follow.specs.declared.errors.FollowError.{FollowError}
@@ -114,14 +114,14 @@ module _ (names : List (List ℕ)) (lines : ℕ) where
       → IsSaidOfEdit (line (accepted_text old.fresh change)) r text → on_edit (lines_of old) (Ok change) ≡ says text (lines_of new)
   change_said change old new (Ok v) text made is =
       ap (on_refusal (lines_of old) change) made.0
-      ∙ replan_said (after (edited_now old) change) old new v (line (accepted_text old.fresh change)) text made.1 is
+      ∙ replan_said (edited_by (edited_now old) change) old new v (line (accepted_text old.fresh change)) text made.1 is
   change_said change old new (Err (IsRefusedEdit error)) text made is =
       ap (on_refusal (lines_of old) change) made.0
       ∙ ap (λ t. says t (lines_of old)) (sym is)
       ∙ ap (λ (s : SessionParts). says text (lines_of s)) (sym made.1)
   change_said change old new (Err HasTooMany) text made is =
       ap (on_refusal (lines_of old) change) made.0
-      ∙ many_said (after (edited_now old) change) old new (line (accepted_text old.fresh change)) text made.1 is
+      ∙ many_said (edited_by (edited_now old) change) old new (line (accepted_text old.fresh change)) text made.1 is
   change_said change old new (Err (RanOut error)) text made is = absurd is
 
   pub deadline_said : (deadline : ℕ) (old new : SessionParts) (r : Result Verdict RestError) (text : List ℕ) → Replans (with_due (edited_now old) deadline) old new r

@@ -20,6 +20,7 @@ use Rattle.cstn_lift.specs.WellFormed.{IsLabelled}
 use Rattle.cstn_lift.proofs.Equivalent.{full_from, full_to}
 use Rattle.cstn_change.specs.Changes.{with_value}
 use Rattle.cstn_change.proofs.IdLemmas.{value_id}
+use Rattle.cstn_change.proofs.Values.{one_with, value_with}
 use Rattle.cstn_history.specs.Histories.{History, AgreesWith, edited}
 use Rattle.cstn_history.specs.Continuations.{Continues, Can, IsKnownAfter}
 use Rattle.cstn_history.proofs.Edited.{completed_new}
@@ -68,7 +69,7 @@ module _ (m : Labelled) (cs ds : List Constraint) where
   continues_over h table goes meets = record {
     done = goes.done;
     in_time = λ s x t agrees is. subst (λ n. t ≤ n) (limit_over x) (goes.in_time s x t agrees is);
-    from_now = λ s x agrees here none e. goes.from_now s x agrees here none (executed_back s x e);
+    from_soonest = λ s x agrees here none e. goes.from_soonest s x agrees here none (executed_back s x e);
     within = λ s x agrees here none e. subst (λ n. table s x ≤ n) (limit_over x) (goes.within s x agrees here none (executed_back s x e));
     meets = λ s c agrees has force. meets s c agrees has (subst (Holds s) (sym (same_label _)) force);
     dynamic = λ s r x of_s of_r here none e agrees.
@@ -130,15 +131,6 @@ own_same id own (d ∷ ds) has =
     by_test false test = refl
 
 -- ---- with a value in range it is a labelled network
-
-one_with : (net : Network) (id : ℕ) (most : ℤ) (c : Constraint) → IsConstraint net c → IsConstraint net (with_value id most c)
-one_with net id most c h = elim (cases_Bool (c.id == id)) [
-  | inl t ↦ rw t (record { from = h.from; to = h.to; plain = h.plain; observed = h.observed })
-  | inr f ↦ rw f h
-]
-
-value_with : (id : ℕ) (most : ℤ) (c : Constraint) → IsValue most → IsValue c.most → IsValue (with_value id most c).most
-value_with id most c new old = elim (cases_Bool (c.id == id)) [ inl t ↦ rw t new | inr f ↦ rw f old ]
 
 pub limit_labelled : (m : Labelled) (id : ℕ) (most : ℤ) → IsLabelled m → IsValue most → IsLabelled (with_limit m id most)
 limit_labelled m id most good value =

@@ -1,12 +1,13 @@
 -- What holds in each state of a session without marks holds in each of one with marks, and at each of its marks.
 use Rattle.std.proofs.Common.{ℕ, suc, ◌≡◌, ◌+◌, ◌≤◌, Bool, true, false, List, [], ◌∷◌, length, Option, Some, None, refl, sym, subst, ◌∙◌}
-use Rattle.std.specs.Prelude.{◌++◌, nat_lt, if◌then◌else◌, codes, decimal, bytes_eq}
+use Rattle.std.specs.Prelude.{◌++◌, nat_lt, slice_get, if◌then◌else◌, codes, decimal, bytes_eq}
 use Rattle.std.specs.List.{All}
 use Rattle.std.specs.Option.{option_map, option_and_then}
 use Rattle.std.proofs.lemmas.List.Elements.{All-nil, All-cons, All-head, All-tail}
 use Rattle.std.proofs.lemmas.Option.{same_Some}
 use Rattle.cstn_net.specs.Limits.{most_constraints, most_load}
-use Rattle.cstn_net.specs.Networks.{count}
+use Rattle.cstn_net.specs.Networks.{Observes, count}
+use Rattle.cstn_text.specs.Names.{AreNames}
 use Rattle.cstn_text.specs.Numbers.{number_within}
 use Rattle.cstn_text.proofs.ReadingLemmas.{within_said}
 use Rattle.cstn_lift.specs.Labelled.{Labelled}
@@ -16,14 +17,15 @@ use Rattle.cstn_reply.specs.Texts.{line}
 use Rattle.cstn_reply.specs.Sessions.{Turn, more, last, wrong}
 use Rattle.cstn_reply.specs.Reached.{state_after}
 use Rattle.cstn_reply.proofs.Sessions.{first_leads}
-use Rattle.cstn_follow.specs.Asking.{Spoken, behind_word, spoken_read}
+use Rattle.cstn_follow.specs.Asking.{Spoken, spoken_read}
+use Rattle.cstn_follow.specs.Words.{behind_word}
 use Rattle.cstn_follow.specs.Following.{Following, Heard, says, saves, begun_following, verdict_now, is_within_limits}
 use Rattle.cstn_follow.specs.Hearing.{counted, hear}
 use Rattle.cstn_follow.specs.Marks.{tries, sets_mark, goes_back, Marked, MarkedHeard, most_marks, begun_marked, try_read, saying_by, saying_read, on_mark, on_back, on_saying, hear_marked, marked_by, marked_turn_by}
 use Rattle.cstn_follow.specs.Trials.{Triable, sets_cap, cap_read, triable_by, is_replanning, on_triable, trial_said, on_try}
 use Rattle.cstn_follow.specs.Turns.{Writing}
 use Rattle.cstn_follow.proofs.FurtherLines.{next_of}
-use Rattle.cstn_follow.proofs.Points.{hear_keeps}
+use Rattle.cstn_follow.proofs.Points.{hear_grows}
 use Rattle.cstn_follow.proofs.States.{IsSound, begun_sound, hear_sound}
 
 -- it holds of the session as it is, and as it was at each mark
@@ -38,7 +40,7 @@ next_marked h = record { now = next_of h.heard; marks = h.marks }
 -- a trial changes nothing
 pub trial_stays : (s : Following) (replans : Bool) (heard : Heard) → next_of (trial_said s replans heard) ≡ s
 trial_stays s replans (says text next) = refl
-trial_stays s replans (saves m names next) = refl
+trial_stays s replans (saves how m names next) = refl
 
 -- a cap that a line says is in range
 cap_within : (bytes : List ℕ) (n : ℕ) → cap_read bytes ≡ Some n → n ≤ most_load
@@ -116,7 +118,7 @@ module _ (Holds : Following → Type 0) (hear_holds : (s : Following) (bytes : L
   module _ (write : Writing) where
     heard_holds : (heard : Heard) (marks : List Following) → HoldsThen (record { heard = heard; marks = marks }) → HoldsAfter (marked_by write heard marks)
     heard_holds (says text next) marks good = good
-    heard_holds (saves m names next) marks good = good
+    heard_holds (saves how m names next) marks good = good
 
     pub marked_next_holds : (t next : Marked) (bytes text : List ℕ) → HoldsOf Holds t → marked_turn_by write t bytes ≡ more text next → HoldsOf Holds next
     marked_next_holds t next bytes text good answered =
@@ -158,29 +160,31 @@ marked_sound write cap names m t lines good few named =
 
 -- ---- time-points, their names, and caps
 
--- a sound session with the time-points of another one, and their names
+-- a sound session with the time-points of another one, and their names, and those that were put behind them
 pub record IsOnPoints (first s : Following) : Type 0 where
   pub sound : IsSound s
-  pub names : s.names ≡ first.names
-  pub observes : s.network.base.observes ≡ first.network.base.observes
+  pub names : AreNames first.names → AreNames s.names
+  pub origin : slice_get s.names 0 ≡ slice_get first.names 0
+  pub observed : (x p : ℕ) → Observes first.network.base x p → Observes s.network.base x p
   pub reaction : s.network.base.reaction ≡ first.network.base.reaction
 
 module _ (first : Following) where
   hear_on_points : (s : Following) (bytes : List ℕ) → IsOnPoints first s → IsOnPoints first (next_of (hear s (spoken_read bytes)))
   hear_on_points s bytes on =
-      let keeps = hear_keeps s bytes on.sound in
+      let grows = hear_grows s bytes on.sound in
       record {
         sound = hear_sound s bytes on.sound;
-        names = keeps.names ∙ on.names;
-        observes = keeps.observes ∙ on.observes;
-        reaction = keeps.reaction ∙ on.reaction;
+        names = λ are. grows.names (on.names are);
+        origin = grows.first ∙ on.origin;
+        observed = λ x p o. grows.observed x p (on.observed x p o);
+        reaction = grows.reaction ∙ on.reaction;
       }
 
   count_on_points : (s : Following) (n : ℕ) → IsOnPoints first s → IsOnPoints first (record s { lines = n })
-  count_on_points s n on = record { sound = recounted_sound s n on.sound; names = on.names; observes = on.observes; reaction = on.reaction }
+  count_on_points s n on = record { sound = recounted_sound s n on.sound; names = on.names; origin = on.origin; observed = on.observed; reaction = on.reaction }
 
   cap_on_points : (s : Following) (n : ℕ) → n ≤ most_load → IsOnPoints first s → IsOnPoints first (record s { cap = n })
-  cap_on_points s n fits on = record { sound = recapped_sound s n on.sound; names = on.names; observes = on.observes; reaction = on.reaction }
+  cap_on_points s n fits on = record { sound = recapped_sound s n on.sound; names = on.names; origin = on.origin; observed = on.observed; reaction = on.reaction }
 
 pub marked_points : (write : Writing) (cap : ℕ) (names : List (List ℕ)) (m : Labelled) (t : Marked) (lines : List (List ℕ)) → IsLabelled m
     → length (lowered m).constraints ≤ most_constraints → length names ≡ count m.base
@@ -188,7 +192,10 @@ pub marked_points : (write : Writing) (cap : ℕ) (names : List (List ℕ)) (m :
 marked_points write cap names m t lines good few named =
     let s = begun_following cap names m in
     marked_lines_hold (IsOnPoints s) (hear_on_points s) (count_on_points s) (cap_on_points s) write (begun_marked cap names m) t 0 lines
-    (record { now = record { sound = begun_sound cap names m good few named; names = refl; observes = refl; reaction = refl }; marks = All-nil (IsOnPoints s) })
+    (record {
+      now = record { sound = begun_sound cap names m good few named; names = λ are. are; origin = refl; observed = λ x p o. o; reaction = refl };
+      marks = All-nil (IsOnPoints s);
+    })
 
 -- a sound session with a cap in range
 pub record IsCapped (s : Following) : Type 0 where
@@ -198,7 +205,7 @@ pub record IsCapped (s : Following) : Type 0 where
 hear_capped : (s : Following) (bytes : List ℕ) → IsCapped s → IsCapped (next_of (hear s (spoken_read bytes)))
 hear_capped s bytes on = record {
   sound = hear_sound s bytes on.sound;
-  capped = subst (λ (n : ℕ). n ≤ most_load) (sym (hear_keeps s bytes on.sound).cap) on.capped;
+  capped = subst (λ (n : ℕ). n ≤ most_load) (sym (hear_grows s bytes on.sound).cap) on.capped;
 }
 
 count_capped : (s : Following) (n : ℕ) → IsCapped s → IsCapped (record s { lines = n })

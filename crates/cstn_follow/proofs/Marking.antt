@@ -2,6 +2,7 @@
 use Rattle.std.proofs.Common.{ℕ, suc, ◌≡◌, ◌+◌, ◌<◌, ◌≤◌, Bool, true, false, List, [], ◌∷◌, ◌++◌, length, map, arith, sym, subst, ap, ◌∙◌}
 use Rattle.std.specs.Prelude.{Result, Some, option_to_list, IfOk, nat_lt, slice_get, reverse, if◌then◌else◌, codes, decimal}
 use Rattle.std.specs.List.{All}
+use Rattle.std.proofs.lemmas.Bool.{lt-ltb, le-ltb}
 use Rattle.std.proofs.lemmas.List.{length-map, length-reverse, length_push, reverse-append}
 use Rattle.std.proofs.lemmas.List.Elements.{All-pop, All-push, All-weaker}
 use Rattle.std.proofs.lemmas.Result.{IfOk-weaker}
@@ -25,12 +26,6 @@ marks_length marks = length-map (reverse marks) the_following ∙ length-reverse
 push_marks : (marks : List FollowingParts) (mark : FollowingParts) → at_marks (marks ++ mark ∷ []) ≡ the_following mark ∷ at_marks marks
 push_marks marks mark = ap (map the_following) (reverse-append marks (mark ∷ []))
 
-lt_true : (n i : ℕ) → n < i → nat_lt n i ≡ true
-lt_true n i below = grind arith
-
-lt_false : (n i : ℕ) → i ≤ n → nat_lt n i ≡ false
-lt_false n i upto = grind arith
-
 -- ---- `mark`
 
 abbrev mark_text : Following → ℕ → List Following → List Following → Bool → MarkedHeard
@@ -46,7 +41,7 @@ mark_said now copy marks after n text same room count words are =
     let count_is : suc (length there) ≡ n = ap suc (marks_length marks) ∙ (let next = count in omega (arith, next)) in
     let with_copy : s ∷ there ≡ at_marks after =
     ap (λ x. x ∷ there) (sym same) ∙ sym (push_marks marks copy) ∙ ap at_marks (sym are) in
-    ap (λ (b : Bool). mark_text s (suc (length there)) there (s ∷ there) b) (ap (λ k. nat_lt k most_marks) (marks_length marks) ∙ lt_true (length marks) most_marks room)
+    ap (λ (b : Bool). mark_text s (suc (length there)) there (s ∷ there) b) (ap (λ k. nat_lt k most_marks) (marks_length marks) ∙ lt-ltb (length marks) most_marks room)
     ∙ ap (λ k. record { heard = says (line (codes "mark " ++ decimal k)) s; marks = s ∷ there }) count_is
     ∙ ap (λ w. record { heard = says w s; marks = s ∷ there }) (sym words)
     ∙ ap (λ all. record { heard = says text s; marks = all }) with_copy
@@ -56,7 +51,7 @@ pub mark_refused : (now : FollowingParts) (marks : List FollowingParts) (text : 
 mark_refused now marks text full words =
     let s = the_following now in
     let there = at_marks marks in
-    ap (λ (b : Bool). mark_text s (suc (length there)) there (s ∷ there) b) (ap (λ k. nat_lt k most_marks) (marks_length marks) ∙ lt_false (length marks) most_marks full)
+    ap (λ (b : Bool). mark_text s (suc (length there)) there (s ∷ there) b) (ap (λ k. nat_lt k most_marks) (marks_length marks) ∙ le-ltb (length marks) most_marks full)
     ∙ ap (λ w. record { heard = says w s; marks = there }) (sym words)
 
 pub marks_pushed : (now copy : FollowingParts) (marks after : List FollowingParts) → the_following copy ≡ the_following now → length marks < most_marks

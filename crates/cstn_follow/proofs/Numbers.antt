@@ -10,20 +10,20 @@ use Rattle.cstn_net.specs.Networks.{count}
 use Rattle.cstn_lift.specs.Labelled.{Labelled}
 use Rattle.cstn_lift.specs.Lowered.{lowered}
 use Rattle.cstn_history.specs.Histories.{History}
-use Rattle.cstn_history.specs.Rest.{number_of, rest}
+use Rattle.cstn_history.specs.Rest.{number_left, rest}
 use Rattle.cstn_history.specs.Handed.{AreNumbers}
 use Rattle.cstn_check.specs.Search.{halving}
 use Rattle.cstn_follow.specs.Waiting.{said_until, tried_until, waits_until}
 
 module _ (m : Labelled) (h : History) (numbers : List ℕ) (are : AreNumbers m h numbers) where
   pub numbers_long : length numbers ≡ count m.base
-  numbers_long = ap length are ∙ length-map (range_with_len 0 (count m.base)) (number_of m h) ∙ length-range_with_len 0 (count m.base)
+  numbers_long = ap length are ∙ length-map (range_with_len 0 (count m.base)) (number_left m h) ∙ length-range_with_len 0 (count m.base)
 
-  pub number_at : (x d : ℕ) → x < count m.base → slice_index_or numbers x d ≡ number_of m h x
+  pub number_at : (x d : ℕ) → x < count m.base → slice_index_or numbers x d ≡ number_left m h x
   number_at x d here =
       let size = length-range_with_len 0 (count m.base) in
-      ap (λ l. slice_index_or l x d) are ∙ get_or-map (number_of m h) (range_with_len 0 (count m.base)) x 0 d (omega arith)
-      ∙ ap (number_of m h) (get_or-range_with_len 0 (count m.base) x 0 here ∙ (let same : 0 + x ≡ x = omega arith in same))
+      ap (λ l. slice_index_or l x d) are ∙ get_or-map (number_left m h) (range_with_len 0 (count m.base)) x 0 d (omega arith)
+      ∙ ap (number_left m h) (get_or-range_with_len 0 (count m.base) x 0 here ∙ (let same : 0 + x ≡ x = omega arith in same))
 
 -- a labelled network has room for one constraint more
 pub room_said : (n : Labelled) (b : Bool) → b ≡ (nat_lt (length n.base.constraints) most_constraints && nat_lt (length (lowered n).constraints) most_constraints) → b ≡ true →
@@ -35,7 +35,7 @@ pub no_room_said : (n : Labelled) (b : Bool) → b ≡ (nat_lt (length n.base.co
 no_room_said n b is f base low = false≢true (sym f ∙ is ∙ and_from _ _ (lt-ltb _ _ base) (lt-ltb _ _ low))
 
 -- the search from now up to the deadline
-pub search_is : (m : Labelled) (h : History) (fresh x cap k low high : ℕ) (n : Labelled) → n ≡ rest m h fresh → k ≡ number_of m h x → low ≡ h.now →
+pub search_is : (m : Labelled) (h : History) (fresh x cap k low high : ℕ) (n : Labelled) → n ≡ rest m h fresh → k ≡ number_left m h x → low ≡ h.now →
     high ≡ m.base.deadline → halving (said_until n fresh k cap) 20 (record { low = low; high = high }) ≡ waits_until m h fresh x cap
 search_is m h fresh x cap k low high n is number now last =
     ap (λ (l : Labelled). halving (said_until l fresh k cap) 20 (record { low = low; high = high })) is

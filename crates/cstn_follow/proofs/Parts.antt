@@ -14,7 +14,7 @@ use Rattle.cstn_lift.specs.WellFormed.{IsLabelled}
 use Rattle.cstn_history.specs.Histories.{History}
 use Rattle.cstn_history.specs.Continuations.{Can}
 use Rattle.cstn_history.specs.Rest.{constraint_left, added, constraints_left, rest}
-use Rattle.cstn_history.specs.Handed.{HasRoom, IsRestRefusal, rest_number}
+use Rattle.cstn_history.specs.Handed.{HasFewConstraints, IsRestRefusal, rest_number}
 use Rattle.cstn_history.specs.declared.errors.RestError.{RestError}
 use Rattle.cstn_history.specs.declared.errors.RestError.TheVariants.{TooManyConstraints}
 use Rattle.cstn_history.proofs.Edited.{can_new}
@@ -93,7 +93,7 @@ module _ (m : Labelled) (test : ℕ → Bool) (good : IsLabelled m) where
       let old = these_long m cs in
       omega arith
 
-  pub part_room : (h : History) (fresh : ℕ) → HasRoom (rest m h fresh) → HasRoom (rest (network_alone m test) h fresh)
+  pub part_room : (h : History) (fresh : ℕ) → HasFewConstraints (rest m h fresh) → HasFewConstraints (rest (network_alone m test) h fresh)
   part_room h fresh room =
       let R = rest m h fresh in
       let behind = numbered fresh (added m h) in
@@ -107,13 +107,13 @@ module _ (m : Labelled) (test : ℕ → Bool) (good : IsLabelled m) where
       let old_lowered = these_long R R.base.constraints in
       let base = room.base in
       let low = room.lowered in
-      subst HasRoom (sym same) (record { base = omega arith; lowered = omega arith })
+      subst HasFewConstraints (sym same) (record { base = omega arith; lowered = omega arith })
 
 pub part_above : (m : Labelled) (test : ℕ → Bool) (fresh : ℕ) → All (λ c. c.id < fresh) m.base.constraints → All (λ c. c.id < fresh) (network_alone m test).base.constraints
 part_above m test fresh above = All-filter (λ c. test c.id) (λ c. c.id < fresh) m.base.constraints above
 
 -- where there is room, what is left isn't refused for want of it
-pub not_too_many : (m : Labelled) (e : RestError) → HasRoom m → IsRestRefusal m e → e ≡ TooManyConstraints → ⊥
+pub not_too_many : (m : Labelled) (e : RestError) → HasFewConstraints m → IsRestRefusal m e → e ≡ TooManyConstraints → ⊥
 not_too_many m e room refusal is = elim refusal [
   | inl none ↦ let number = ap rest_number is in omega arith
   | inr long ↦ elim long.1 [

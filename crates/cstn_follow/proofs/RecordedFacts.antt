@@ -15,14 +15,14 @@ use Rattle.cstn_lift.specs.Labelled.{Labelled}
 use Rattle.cstn_history.specs.Histories.{History}
 use Rattle.cstn_history.specs.Facts.{FactRefusal, Past, OutOfRange, NoSuch, Done, Undecided, NotObserved, Told}
 use Rattle.cstn_history.specs.Facts.{is_beyond, again_refusal, done_refusal, now_refusal, told_refusal, told_after, again_told, expected_refusal}
-use Rattle.cstn_history.specs.Facts.{expected_after, again_expected, observed_since, at_now, with_done, with_told, with_expected}
-use Rattle.cstn_history.proofs.Recorded.{put_there, put_other, put_kept}
+use Rattle.cstn_history.specs.Facts.{expected_after, again_expected, observed_since, at_now, with_done, with_told, with_expected, ruled_out, ready_refusal, with_ready}
+use Rattle.cstn_history.proofs.Recorded.{put_there, put_other, put_kept, ready_there, ready_other}
 use Rattle.cstn_lines.specs.LiveLines.{printed_truth}
 use Rattle.cstn_reply.specs.Texts.{line}
 use Rattle.cstn_follow.specs.Following.{name_of_point}
 use Rattle.cstn_follow.specs.FactLines.{refused_fact, unless_fact_refused, all_done, unknown_of, node_numbered, node_named, nodes_of}
 use Rattle.cstn_follow.proofs.InOrder.{none_refused}
-use Rattle.cstn_follow.specs.Recorded.{AreDone, HasCome, HasPassed, IsExpectedAt}
+use Rattle.cstn_follow.specs.Recorded.{AreDone, HasCome, HasPassed, IsExpectedAt, IsReadyFrom}
 
 -- ---- refusals
 
@@ -97,9 +97,9 @@ module _ (m : Labelled) (t : ℕ) where
       done_others (with_done h t y.0) g ys x f.1 (λ z has. other z (suc has.0, (let inside = has.1 in omega arith), has.2))
       ∙ put_other h.done y.0 t x (λ same. other y (0, omega arith, refl) (sym same))
 
-  done_else : (h g : History) (xs : List NodeId) → all_done m t h xs ≡ Ok g → (g.told ≡ h.told) × (g.expected ≡ h.expected)
+  done_else : (h g : History) (xs : List NodeId) → all_done m t h xs ≡ Ok g → (g.told ≡ h.told) × (g.expected ≡ h.expected) × (g.ready ≡ h.ready)
   done_else h g [] is =
-      let same = sym (same_history h g is) in (ap (λ (k : History). k.told) same, ap (λ (k : History). k.expected) same)
+      let same = sym (same_history h g is) in (ap (λ (k : History). k.told) same, ap (λ (k : History). k.expected) same, ap (λ (k : History). k.ready) same)
   done_else h g (x ∷ xs) is = done_else (with_done h t x.0) g xs (first_done h g x xs is).1
 
   done_now : (h g : History) (xs : List NodeId) → t ≤ h.now → all_done m t h xs ≡ Ok g → g.now ≡ h.now
@@ -155,6 +155,7 @@ module _ (names : List (List ℕ)) where
             other from.0 from.1 (number_back (number_of names from.0) z from.2 ∙ ap (λ (k : ℕ). Some k) same));
         told = rest_is.0;
         expected = rest_is.1;
+        ready = rest_is.2;
       }
 
 -- ---- the other facts
@@ -162,7 +163,7 @@ module _ (names : List (List ℕ)) where
 module _ (m : Labelled) (h : History) (t : ℕ) where
   pub has_passed : now_refusal h t ≡ None → HasPassed h t (at_now h t)
   has_passed none =
-      record { from = not_before (none_refused (nat_lt t h.now) _ _ none).0; now = refl; done = refl; told = refl; expected = refl }
+      record { from = not_before (none_refused (nat_lt t h.now) _ _ none).0; now = refl; done = refl; told = refl; expected = refl; ready = refl }
     where
       not_before : nat_lt t h.now ≡ false → h.now ≤ t
       not_before e = grind arith
@@ -187,6 +188,7 @@ module _ (m : Labelled) (h : History) (t : ℕ) where
       others = put_other h.told p v;
       done = refl;
       expected = refl;
+      ready = refl;
     }
 
     untold_expected : expected_refusal m h t p ≡ None → h.told p ≡ None
@@ -208,4 +210,24 @@ module _ (m : Labelled) (h : History) (t : ℕ) where
       others = put_other h.expected p t;
       done = refl;
       told = refl;
+      ready = refl;
     }
+
+-- a time-point that is accepted as not ready isn't done
+pub is_ready_from : (names : List (List ℕ)) (m : Labelled) (h : History) (t : ℕ) (name : List ℕ) (x : ℕ) → number_of names name ≡ Some x
+    → ready_refusal m h t x ≡ None → IsReadyFrom names h t name (with_ready h t x)
+is_ready_from names m h t name x named none = record {
+  point = x;
+  named = named;
+  coming = free (h.done x) (none_refused (nat_le (count m.base) x) _ _ (none_refused (is_beyond t) _ _ none).1).1;
+  from = ready_there h.ready x t x refl;
+  others = ready_other h.ready x t;
+  now = refl;
+  done = refl;
+  told = refl;
+  expected = refl;
+}
+  where
+    free : (o : Option ℕ) → ruled_out m h x o ≡ None → o ≡ None
+    free None f = refl
+    free (Some u) f = absurd (cc)

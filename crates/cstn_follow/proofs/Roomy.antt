@@ -1,10 +1,10 @@
 -- What is left has no more constraints where the deadline is later, or something else is expected.
-use Rattle.std.proofs.Common.{ℕ, zero, suc, ◌≡◌, ◌+◌, ◌≤◌, Bool, true, false, not, List, [], ◌∷◌, ◌++◌, Option, Some, None, length, arith, refl, sym, subst, ap, ◌∙◌}
+use Rattle.std.proofs.Common.{ℕ, zero, suc, ◌≡◌, inl, inr, ◌+◌, ◌≤◌, Bool, true, false, not, List, [], ◌∷◌, ◌++◌, Option, Some, None, length, arith, refl, sym, subst, ap, ◌∙◌}
 use Rattle.std.specs.Prelude.{map, max, nat_lt, nat_le, ◌&&◌, ℤ, pos, ◌-ℤ◌, if◌then◌else◌}
 use Rattle.std.specs.Option.{is_some, option_map}
 use Rattle.std.specs.List.{filter, filter_map, cons_option, flat_map, range_with_len}
 use Rattle.std.proofs.Math.Path.{fun_ext}
-use Rattle.std.proofs.lemmas.Bool.{and_parts, ltb-true, lt-ltb}
+use Rattle.std.proofs.lemmas.Bool.{cases_lt, and_parts, ltb-true, lt-ltb}
 use Rattle.std.proofs.lemmas.List.{length-append}
 use Rattle.std.proofs.lemmas.List.Elements.{filter_map-append}
 use Rattle.cstn_label.specs.Labels.{Label, joined}
@@ -16,9 +16,9 @@ use Rattle.cstn_lift.specs.Completion.{completed, full_label}
 use Rattle.cstn_lift.specs.Lowered.{is_plain, with_full_label, full_constraints, guard, guards_of, all_guards, guards, lowered, observer_of, numbered}
 use Rattle.cstn_lift.proofs.CompletionLemmas.{completed_contains, completed_complete, completed_least}
 use Rattle.cstn_lift.proofs.ListLemmas.{numbered_length}
-use Rattle.cstn_history.specs.Handed.{HasRoom}
-use Rattle.cstn_history.specs.Histories.{History, is_done, allows, label_left, edited}
-use Rattle.cstn_history.specs.Rest.{is_left, sight_left, number_of, value_left, cut, moved, is_over, constraint_left, bare, late_one, watched_one}
+use Rattle.cstn_history.specs.Handed.{HasFewConstraints}
+use Rattle.cstn_history.specs.Histories.{History, is_done, soonest, allows, label_left, edited}
+use Rattle.cstn_history.specs.Rest.{is_left, sight_left, number_left, value_left, value_cut, moved, is_over, constraint_left, bare, late_one, watched_one}
 use Rattle.cstn_history.specs.Rest.{stands_at, moment_watched, coming_one, late, watched, coming, added, constraints_left, rest}
 use Rattle.cstn_history.proofs.Edited.{completed_new}
 use Rattle.cstn_net.specs.Limits.{most_constraints}
@@ -28,7 +28,7 @@ use Rattle.cstn_history.specs.Facts.{at_now, with_expected}
 use Rattle.cstn_follow.specs.Following.{has_few, is_within_limits, verdict_left}
 use Rattle.cstn_follow.specs.LeastDeadline.{by_deadline}
 use Rattle.cstn_follow.proofs.Edited.{left_fits}
-use Rattle.cstn_follow.proofs.GoesOn.{left_says}
+use Rattle.cstn_follow.proofs.GoesOn.{few_is, left_says}
 
 -- ---- how many constraints a map keeps
 
@@ -116,7 +116,7 @@ module _ (m : Labelled) (deadline : ℕ) (cs : List Constraint) (h : History) (e
   is_left_same : is_left N g ≡ is_left m h
   is_left_same = fun_ext left_same
 
-  number_same : (x : ℕ) → number_of N g x ≡ number_of m h x
+  number_same : (x : ℕ) → number_left N g x ≡ number_left m h x
   number_same x = ap (λ (k : ℕ → Bool). length (filter k (range_with_len 0 x))) is_left_same
 
   allowed_same : (c : Constraint) → allows g (full_label N c) ≡ allows h (full_label m c)
@@ -127,7 +127,7 @@ module _ (m : Labelled) (deadline : ℕ) (cs : List Constraint) (h : History) (e
     id = c.id;
     from = if is_done h c.from then 0 else n c.from;
     to = if is_done h c.to then 0 else n c.to;
-    most = cut (value_left h c);
+    most = value_cut (value_left h c);
     label = label_left h c.label;
   }) (fun_ext number_same)
 
@@ -138,10 +138,12 @@ module _ (m : Labelled) (deadline : ℕ) (cs : List Constraint) (h : History) (e
   pub constraints_same : constraints_left N g ≡ filter_map (constraint_left m h) cs
   constraints_same = ap (λ (k : Constraint → Option Constraint). filter_map k cs) (fun_ext left_of_same)
 
-  coming_same : (x : ℕ) → coming_one N g x ≡ (if nat_lt 0 n && is_left m h x && not (is_done h x) then bare (number_of m h x) 0 (pos 0 -ℤ pos n) ∷ [] else [])
+  coming_same : (x : ℕ) → coming_one N g x
+      ≡ (if nat_lt 0 (soonest g x) && is_left m h x && not (is_done h x) then bare (number_left m h x) 0 (pos 0 -ℤ pos (soonest g x)) ∷ [] else [])
   coming_same x =
-      ap (λ b. if nat_lt 0 n && b && not (is_done h x) then bare (number_of N g x) 0 (pos 0 -ℤ pos n) ∷ [] else []) (left_same x)
-      ∙ ap (λ (k : ℕ). if nat_lt 0 n && is_left m h x && not (is_done h x) then bare k 0 (pos 0 -ℤ pos n) ∷ [] else []) (number_same x)
+      ap (λ b. if nat_lt 0 (soonest g x) && b && not (is_done h x) then bare (number_left N g x) 0 (pos 0 -ℤ pos (soonest g x)) ∷ [] else []) (left_same x)
+      ∙ ap (λ (k : ℕ). if nat_lt 0 (soonest g x) && is_left m h x && not (is_done h x) then bare k 0 (pos 0 -ℤ pos (soonest g x)) ∷ [] else [])
+      (number_same x)
 
   both_and : (a b c d : Bool) → (a ≡ true → b ≡ true) → (a && c && d) ≡ true → (b && c && d) ≡ true
   both_and true true c d more is = is
@@ -149,6 +151,12 @@ module _ (m : Labelled) (deadline : ℕ) (cs : List Constraint) (h : History) (e
   both_and false b c d more is = absurd (cc)
 
   module _ (later : m.base.deadline ≤ deadline) (soon : nat_lt 0 n ≡ true → nat_lt 0 h.now ≡ true) where
+    soon_at : (r : ℕ) → nat_lt 0 (max n r) ≡ true → nat_lt 0 (max h.now r) ≡ true
+    soon_at r is = elim (cases_lt 0 n) [
+      | inl some ↦ let now = ltb-true 0 h.now (soon (lt-ltb 0 n some)) in lt-ltb 0 (max h.now r) (omega arith)
+      | inr none ↦ let more = ltb-true 0 (max n r) is in lt-ltb 0 (max h.now r) (omega arith)
+    ]
+
     limit_later : (x : ℕ) → limit m.base x ≤ limit N.base x
     limit_later zero = omega arith
     limit_later (suc x) = later
@@ -165,13 +173,13 @@ module _ (m : Labelled) (deadline : ℕ) (cs : List Constraint) (h : History) (e
       watched_upto (suc x) (Some t) None = omega arith
       watched_upto (suc x) (Some t) (Some p) = same_upto _ _
           (ap (λ (n : ℕ). kept f form (stands_at n (moment_watched N g p t))) (number_same (suc x))
-          ∙ stands_same f form (number_of m h (suc x)) (moment_watched N g p t) (moment_watched m h p t))
+          ∙ stands_same f form (number_left m h (suc x)) (moment_watched N g p t) (moment_watched m h p t))
 
       coming_upto : (x : ℕ) → kept f form (coming_one N g x) ≤ kept f form (coming_one m h x)
       coming_upto x =
           subst (λ l. kept f form l ≤ kept f form (coming_one m h x)) (sym (coming_same x))
-          (one_by f form (nat_lt 0 n && is_left m h x && not (is_done h x)) (nat_lt 0 h.now && is_left m h x && not (is_done h x)) (number_of m h x) _ _
-          (both_and (nat_lt 0 n) (nat_lt 0 h.now) (is_left m h x) (not (is_done h x)) soon))
+          (one_by f form (nat_lt 0 (soonest g x) && is_left m h x && not (is_done h x)) (nat_lt 0 (soonest h x) && is_left m h x && not (is_done h x))
+          (number_left m h x) _ _ (both_and (nat_lt 0 (soonest g x)) (nat_lt 0 (soonest h x)) (is_left m h x) (not (is_done h x)) (soon_at (h.ready x))))
 
       added_upto : kept f form (added N g) ≤ kept f form (added m h)
       added_upto =
@@ -290,7 +298,7 @@ module _ (m : Labelled) (deadline : ℕ) (cs : List Constraint) (h : History) (e
   shaped : New ≡ left_by (is_left m h)
   shaped = ap left_by (is_left_same m deadline cs h e n)
 
-  pub room_stays : HasRoom Old → HasRoom New
+  pub room_stays : HasFewConstraints Old → HasFewConstraints New
   room_stays room =
       let base = all_upto m deadline cs h e n later soon (λ c. Some c) (λ c d from to label. refl) fresh (fewer (λ c. Some c) (λ c d from to label. refl)) in
       let new_base = ap length (all_kept New.base.constraints) in
@@ -303,9 +311,6 @@ module _ (m : Labelled) (deadline : ℕ) (cs : List Constraint) (h : History) (e
       record { base = omega arith; lowered = omega arith }
 
 -- there is a verdict where there are few enough constraints
-few_is : (n : ℕ) → nat_le n most_constraints ≡ true → n ≤ most_constraints
-few_is n is = grind arith
-
 pub own_few : (m : Labelled) (h : History) (fresh cap : ℕ) (v : Verdict) → verdict_left m h fresh cap ≡ Some v → length (lowered m).constraints ≤ most_constraints
 own_few m h fresh cap v is =
     few_is (length (lowered m).constraints) (by (has_few (lowered m)) (has_few (rest m h fresh).base && has_few (lowered (rest m h fresh))) is)
@@ -335,7 +340,7 @@ expected_fits m h fresh cap t p v is none =
     cc
 
 -- where there are few enough constraints later than now, there is a verdict at each moment from now on
-within_room : (m : Labelled) (h : History) (fresh : ℕ) → is_within_limits m h fresh ≡ true → HasRoom (rest m h fresh)
+within_room : (m : Labelled) (h : History) (fresh : ℕ) → is_within_limits m h fresh ≡ true → HasFewConstraints (rest m h fresh)
 within_room m h fresh within =
     let two = and_parts (has_few (lowered m)) (has_few (rest m h fresh).base && has_few (lowered (rest m h fresh))) within in
     let both = and_parts (has_few (rest m h fresh).base) (has_few (lowered (rest m h fresh))) two.1 in

@@ -2,8 +2,11 @@
 use Rattle.std.proofs.Common.{ℕ, ℤ, ◌≡◌, ◌+◌, ◌<◌, ◌≤◌, Bool, true, false, List, [], ◌∷◌, ◌++◌, length, Option, Some, None, arith, refl, sym, subst, ap, ◌∙◌}
 use Rattle.std.specs.Prelude.{Result, Ok, Err, nat_lt, if◌then◌else◌, codes, decimal, bytes_eq}
 use Rattle.std.specs.List.{All, filter}
+use Rattle.std.specs.Option.{option_map}
 use Rattle.std.proofs.lemmas.List.Quantifiers.{position-Some}
+use Rattle.std.proofs.lemmas.List.{length-append}
 use Rattle.std.proofs.lemmas.Option.{same_Some}
+use Rattle.std.specs.Option.{option_map}
 use Rattle.cstn_label.specs.declared.nodes.NodeId.{NodeId}
 use Rattle.cstn_label.specs.declared.marks.Mark.TheVariants.{Absent}
 use Rattle.cstn_label.specs.Labels.{Label}
@@ -19,16 +22,16 @@ use Rattle.cstn_check.specs.declared.verdicts.Verdict.{Verdict}
 use Rattle.cstn_check.specs.declared.verdicts.Verdict.TheVariants.{Yes, No, Full}
 use Rattle.cstn_history.specs.Histories.{History, IsTimelyHistory, nothing_yet, edited}
 use Rattle.cstn_history.specs.Facts.{FactRefusal, OutOfRange, is_beyond, now_refusal, done_refusal, told_refusal, expected_refusal, at_now, with_done}
-use Rattle.cstn_history.specs.Facts.{with_told, with_expected}
-use Rattle.cstn_history.specs.Handed.{HasRoom}
+use Rattle.cstn_history.specs.Facts.{with_told, with_expected, ready_refusal, with_ready}
+use Rattle.cstn_history.specs.Handed.{HasFewConstraints}
 use Rattle.cstn_history.proofs.Edited.{timely_edited}
 use Rattle.cstn_history.proofs.Nothing.{nothing_history, rest_whole}
-use Rattle.cstn_history.proofs.Recorded.{timely_now, timely_done, timely_told, timely_expected}
+use Rattle.cstn_history.proofs.Recorded.{timely_now, timely_done, timely_told, timely_expected, timely_ready}
 use Rattle.cstn_lines.specs.EditLines.{Edit, added, removed, changed, asked, IsEdit}
-use Rattle.cstn_lines.specs.FollowLines.{Follow, IsFollow, done_at, came_at, now_at, awaited_at, edits, ends_by, asks_next, asks_by, asks_blame}
+use Rattle.cstn_lines.specs.FollowLines.{Follow, IsFollow, done_at, came_at, now_at, awaited_at, ready_at, edits, ends_by, asks_next, asks_by, asks_blame}
 use Rattle.cstn_lines.specs.FollowLines.{asks_rest}
-use Rattle.cstn_change.specs.Changes.{EditedNetwork, Change, adds, removes, revalues, Refusal, EditLimit, id_above, refusal, constraints_after, fresh_after, IsBetween}
-use Rattle.cstn_change.specs.ChangeLines.{accepted_text, refused_text, addition_between}
+use Rattle.cstn_change.specs.Changes.{EditedNetwork, Change, adds, removes, revalues, ChangeRefusal, EditLimit, id_above, refusal, constraints_after, fresh_after, HasTimePointEnds}
+use Rattle.cstn_change.specs.ChangeLines.{accepted_text, refused_change_text, addition_between}
 use Rattle.cstn_change.proofs.IdLemmas.{above_each, ids_below}
 use Rattle.cstn_change.proofs.PlanLemmas.{edited_labelled}
 use Rattle.cstn_reply.specs.Texts.{line}
@@ -37,14 +40,19 @@ use Rattle.cstn_reply.specs.Reached.{state_after}
 use Rattle.cstn_reply.proofs.Sessions.{first_leads}
 use Rattle.cstn_follow.specs.Following.{Following, Heard, says, saves, begun_following, verdict_now, verdict_within, on_left_verdict, follows, verdict_line}
 use Rattle.cstn_follow.specs.FactLines.{on_result, records, refuses, refused_fact, unknown_name, unless_fact_refused, all_done, on_known, on_did, nodes_of}
-use Rattle.cstn_follow.specs.FactLines.{unknown_of, on_fact, on_now, on_saw, on_await}
+use Rattle.cstn_follow.specs.FactLines.{unknown_of, on_fact, on_now, on_saw, on_await, on_ready, on_expect, node_numbered}
 use Rattle.cstn_follow.specs.PlanLines.{edited_network, replanned, on_refusal, on_edit, on_add, on_deadline}
 use Rattle.cstn_follow.specs.Questions.{next_after, check_after}
 use Rattle.cstn_follow.specs.Searches.{by_number, by_unless, by_after, by_refusal, blame_after}
-use Rattle.cstn_follow.specs.Amending.{Amendment, forgives}
-use Rattle.cstn_follow.specs.Asking.{Spoken, of_line, of_question, of_amendment, IfLine, spoken_read}
+use Rattle.cstn_follow.specs.Amending.{Amendment, forgives, steps}
+use Rattle.cstn_follow.specs.Asking.{Spoken, of_line, of_question, of_amendment, asks_digest, IfLine, spoken_read}
 use Rattle.cstn_follow.specs.Forgiving.{broken_ids, after_removals}
 use Rattle.cstn_follow.specs.ForgivingLines.{forgiven_line}
+use Rattle.cstn_follow.specs.StepLines.{with_step, step_error_text, step_refusal, step_unless}
+use Rattle.cstn_follow.specs.Stepping.{no_room}
+use Rattle.cstn_follow.specs.declared.errors.StepError.{StepError}
+use Rattle.cstn_history.proofs.FurtherPoint.{stepped_labelled, stepped_timely}
+use Rattle.cstn_follow.proofs.SteppedSession.{roomy}
 use Rattle.cstn_follow.specs.Hearing.{on_plan, on_other, on_follow, on_amendment, on_line, counted, hear}
 use Rattle.cstn_follow.proofs.Forgiven.{isnt_of, removed_is, part_verdict}
 use Rattle.cstn_follow.proofs.Parts.{part_labelled, part_above}
@@ -54,7 +62,7 @@ use Rattle.cstn_follow.proofs.Edited.{left_fits, within_is}
 use Rattle.cstn_follow.proofs.GoesOn.{verdict_right}
 use Rattle.cstn_follow.specs.Recorded.{IsFact, IsRecorded}
 use Rattle.cstn_follow.specs.Turns.{Writing, IsTrueOfSession, heard_by, turn_by}
-use Rattle.cstn_follow.proofs.RecordedFacts.{IsRefusal, fact_refusal, same_history, are_done, has_passed, has_come, is_expected}
+use Rattle.cstn_follow.proofs.RecordedFacts.{IsRefusal, fact_refusal, same_history, are_done, has_passed, has_come, is_expected, is_ready_from}
 
 -- the network is labelled and each of its time-points has a name, what has happened is a history of it, its ids are below the
 -- next one, and there is a verdict on what is left
@@ -128,11 +136,22 @@ module _ (s : Following) (sound : IsSound s) (Is : Follow → Heard → Type 0) 
   await_is t p = unless_is (awaited_at t p) (expected_refusal s.network s.history t p) (with_expected s.history t p)
       (timely_expected s.network s.history sound.labelled sound.timely.history sound.timely.in_time t p) (is_expected s.network s.history t p)
 
+  expect_is : (t : ℕ) (name : List ℕ) → Is (ready_at t name) (on_expect s t name)
+  expect_is t name = by_moment (is_beyond t) (number_of s.names name) refl
+    where
+      by_moment : (late : Bool) (o : Option ℕ) → number_of s.names name ≡ o
+          → Is (ready_at t name) (if late then refuses s (OutOfRange t) else on_ready s t name (option_map node_numbered o))
+      by_moment true o is = refuses_is (ready_at t name) (OutOfRange t)
+      by_moment false None is = refused (ready_at t name) (line (unknown_name name)) (codes "F3 " ++ printed_name name, refl)
+      by_moment false (Some x) is = unless_is (ready_at t name) (ready_refusal s.network s.history t x) (with_ready s.history t x)
+          (timely_ready s.network s.history sound.labelled sound.timely.history sound.timely.in_time t x) (is_ready_from s.names s.network s.history t name x is)
+
   pub fact_is : (fact : Follow) → IsFact fact → IsFollow fact → Is fact (on_follow s fact)
   fact_is (done_at t given) is fits = did_is t given fits.1
   fact_is (came_at t p v) is fits = saw_is t p v
   fact_is (now_at t) is fits = now_is t
   fact_is (awaited_at t p) is fits = await_is t p
+  fact_is (ready_at t name) is fits = expect_is t name
   fact_is (edits edit) is fits = absurd is
   fact_is (ends_by deadline) is fits = absurd is
   fact_is asks_next is fits = absurd is
@@ -150,10 +169,10 @@ replan_sound s deadline cs count' fresh text sound good above =
     (edited_labelled s.network deadline cs sound.labelled good) sound.named (timely_edited s.network s.history deadline cs sound.timely.history sound.timely.in_time) above
 
 -- a change is refused, or it is made
-change_sound : (s : Following) (change : Change) → IsSound s → IsBetween s.network.base change → IsOfLetters change → IsSound (next_of (on_edit s (Ok change)))
+change_sound : (s : Following) (change : Change) → IsSound s → HasTimePointEnds s.network.base change → IsOfLetters change → IsSound (next_of (on_edit s (Ok change)))
 change_sound s change sound between letters = by_refusal (refusal most_constraints (edited_network s) change) refl
   where
-    by_refusal : (o : Option Refusal) → refusal most_constraints (edited_network s) change ≡ o → IsSound (next_of (on_refusal s change o))
+    by_refusal : (o : Option ChangeRefusal) → refusal most_constraints (edited_network s) change ≡ o → IsSound (next_of (on_refusal s change o))
     by_refusal (Some why) is = sound
     by_refusal None is =
         let net = s.network.base in
@@ -183,7 +202,7 @@ deadline_sound s deadline sound within =
 
 -- what is broken is removed, unless there would be too many edits
 forgive_sound : (s : Following) (ids : List ℕ) (b : Bool) → IsSound s
-    → IsSound (next_of (if b then says (line (refused_text EditLimit)) s else says (forgiven_line ids) (replanned s (after_removals (edited_network s) ids))))
+    → IsSound (next_of (if b then says (line (refused_change_text EditLimit)) s else says (forgiven_line ids) (replanned s (after_removals (edited_network s) ids))))
 forgive_sound s ids true sound = sound
 forgive_sound s ids false sound =
     subst (λ (e : EditedNetwork). IsSound (replanned s e)) (sym (removed_is (edited_network s) ids)) (record {
@@ -195,10 +214,25 @@ forgive_sound s ids false sound =
       verdict = part_verdict s.network (isnt_of ids) s.history s.fresh s.cap (verdict_now s) sound.labelled sound.verdict;
     })
 
+-- a further time-point is put in, unless it is refused
+step_sound : (s : Following) (name : List ℕ) (o : Option ℕ) → IsSound s → IsSound (next_of (step_unless s name (step_refusal s name o)))
+step_sound s name (Some x) sound = sound
+step_sound s name None sound = by_room (no_room s.edits (count s.network.base)) refl
+  where
+    by_room : (o : Option StepError) → no_room s.edits (count s.network.base) ≡ o → IsSound (next_of (step_unless s name (option_map step_error_text o)))
+    by_room (Some error) is = sound
+    by_room None is =
+        let room = roomy s.edits (count s.network.base) is in
+        follows_sound s (with_step s name) (λ v. line (codes "step " ++ printed_name name)) sound
+        (stepped_labelled s.network sound.labelled room)
+        (length-append s.names (name ∷ []) ∙ ap (λ n. n + 1) sound.named ∙ sym (length-append s.network.base.observes (None ∷ [])))
+        (stepped_timely s.network sound.labelled s.history sound.timely.history sound.timely.in_time) sound.above
+
 amendment_sound : (s : Following) (amendment : Amendment) → IsSound s → IsSound (next_of (on_amendment s amendment))
 amendment_sound s forgives sound =
     let ids = broken_ids s.network s.history in
     forgive_sound s ids (nat_lt most_edits (s.edits + length ids)) sound
+amendment_sound s (steps name) sound = step_sound s name (number_of s.names name) sound
 
 -- ---- lines
 
@@ -249,6 +283,7 @@ follow_sound s (done_at t names) sound is = fact_sound s (done_at t names) sound
 follow_sound s (came_at t p v) sound is = fact_sound s (came_at t p v) sound tt is
 follow_sound s (now_at t) sound is = fact_sound s (now_at t) sound tt is
 follow_sound s (awaited_at t p) sound is = fact_sound s (awaited_at t p) sound tt is
+follow_sound s (ready_at t name) sound is = fact_sound s (ready_at t name) sound tt is
 follow_sound s (edits edit) sound is = plan_sound s edit sound is
 follow_sound s (ends_by deadline) sound is = deadline_line_sound s deadline (nat_lt most_deadline deadline) sound is
 follow_sound s asks_next sound is = subst IsSound (sym (next_keeps s (verdict_now s))) sound
@@ -261,6 +296,7 @@ line_sound s None sound is = sound
 line_sound s (Some (of_line line)) sound is = follow_sound s line sound is
 line_sound s (Some (of_question question)) sound is = sound
 line_sound s (Some (of_amendment amendment)) sound is = amendment_sound s amendment sound
+line_sound s (Some asks_digest) sound is = sound
 
 pub counted_sound : (s : Following) → IsSound s → IsSound (counted s)
 counted_sound s sound = record { labelled = sound.labelled; named = sound.named; timely = sound.timely; above = sound.above; verdict = sound.verdict }
@@ -277,7 +313,7 @@ SoundAfter wrong = Unit {0}
 module _ (write : Writing) where
   heard_sound : (heard : Heard) → IsSound (next_of heard) → SoundAfter (heard_by write heard)
   heard_sound (says text next) sound = sound
-  heard_sound (saves m names next) sound = sound
+  heard_sound (saves how m names next) sound = sound
 
   pub next_sound : (s next : Following) (bytes text : List ℕ) → IsSound s → turn_by write s bytes ≡ more text next → IsSound next
   next_sound s next bytes text sound answered = subst SoundAfter answered (heard_sound (hear s (spoken_read bytes)) (hear_sound s bytes sound))
@@ -294,19 +330,19 @@ module _ (write : Writing) where
 nothing_timely : (m : Labelled) → IsLabelled m → IsTimelyHistory m nothing_yet
 nothing_timely m good = record {
   history = nothing_history m good;
-  in_time = record { now = omega arith; expected = λ p e is. absurd (cc); origin = λ p e is. absurd (cc) };
+  in_time = record { now = omega arith; expected = λ p e is. absurd (cc); origin = λ p e is. absurd (cc); ready = λ x. omega arith };
 }
 
 pub begun_sound : (cap : ℕ) (names : List (List ℕ)) (m : Labelled) → IsLabelled m → length (lowered m).constraints ≤ most_constraints → length names ≡ count m.base → IsSound (begun_following cap names m)
 begun_sound cap names m good few named =
     let fresh = id_above m.base.constraints in
-    let room : HasRoom m = record { base = good.base.few_constraints; lowered = few } in
+    let room : HasFewConstraints m = record { base = good.base.few_constraints; lowered = few } in
     record {
       labelled = good;
       named = named;
       timely = nothing_timely m good;
       above = above_each m.base.constraints;
-      verdict = left_fits m nothing_yet fresh cap few (subst HasRoom (sym (rest_whole m fresh good)) room);
+      verdict = left_fits m nothing_yet fresh cap few (subst HasFewConstraints (sym (rest_whole m fresh good)) room);
     }
 
 -- the verdict of a sound session is true of what has happened

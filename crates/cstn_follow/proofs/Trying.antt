@@ -1,4 +1,4 @@
--- What is said to a line that can be tried, and to one that is tried, ends a line, and the names stay.
+-- What is said to a line that can be tried, and to one that is tried, ends a line, and the first name stays.
 use Rattle.std.proofs.Common.{ℕ, ◌≡◌, inl, inr, ◌<◌, Bool, true, false, List, Some, length, refl, sym, subst, ap, ◌∙◌}
 use Rattle.std.specs.Prelude.{◌⊎◌, ◌&&◌, not, Result, Ok, Err, IfOk, OnErr, slice_get, if◌then◌else◌}
 use Rattle.std.proofs.lemmas.Result.{IfOk-weaker}
@@ -7,10 +7,10 @@ use Rattle.cstn_reply.specs.Written.{EndsLine}
 use Rattle.cstn_follow.specs.Following.{Following, Heard, says, saves, verdict_now, verdict_line}
 use Rattle.cstn_follow.specs.Read.{FollowingParts, IsFollowing, the_following, the_heard, IsSaidFor}
 use Rattle.cstn_follow.specs.declared.following.Heard.{Heard as HeardText}
-use Rattle.cstn_follow.specs.declared.following.Heard.TheVariants.{Text, Rest}
+use Rattle.cstn_follow.specs.declared.following.Heard.TheVariants.{Text, Rest, Digest}
 use Rattle.cstn_follow.specs.Trials.{Triable, of_spoken, sets_cap, on_cap, on_triable, is_replanning, is_refusal, trial_said, on_try}
 use Rattle.cstn_follow.proofs.Further.{verdict_ends}
-use Rattle.cstn_follow.proofs.Answering.{Keeps, line_keeps, names_kept, said_kept}
+use Rattle.cstn_follow.proofs.Answering.{Keeps, line_keeps, ok_or_err, first_kept, said_kept}
 
 module _ (s : Following) where
   pub triable_keeps : 0 < count s.network.base → length s.names ≡ count s.network.base → (line : Triable) → Keeps s.names (on_triable s line)
@@ -25,7 +25,7 @@ module _ (s : Following) where
 
   trial_keeps : (replans : Bool) (heard : Heard) → Keeps s.names heard → Keeps s.names (trial_said s replans heard)
   trial_keeps replans (says text next) keeps = (refl, trial_ends replans (is_refusal text) next text keeps.1)
-  trial_keeps replans (saves m kept next) keeps = (refl, keeps.1, keeps.2)
+  trial_keeps replans (saves how m kept next) keeps = (refl, keeps.1, keeps.2)
 
   pub try_keeps : 0 < count s.network.base → length s.names ≡ count s.network.base → (line : Triable) → Keeps s.names (on_try s line)
   try_keeps some long line = trial_keeps (is_replanning line) (on_triable s line) (triable_keeps some long line)
@@ -44,16 +44,12 @@ cap_ends s t cap text is =
     let whole : Keeps s.names (on_cap s cap) = (refl, verdict_ends cap (verdict_now capped)) in
     (subst (Keeps s.names) is whole).1
 
-ok_or_not : {A E : Type 0} (r : Result A E) → ((x : A) × (r ≡ Ok x)) ⊎ ((e : E) × (r ≡ Err e))
-ok_or_not (Ok x) = inl (x, refl)
-ok_or_not (Err e) = inr (e, refl)
-
 module _ {E : Type 0} (old new : FollowingParts) (heard : Heard) (r : Result HeardText E) (keeps : Keeps old.names heard) where
   pub kept_first : OnErr r (new ≡ old) → IfOk r (λ h. heard ≡ the_heard new h) → slice_get new.names 0 ≡ slice_get old.names 0
-  kept_first refused told = elim (ok_or_not r) [
+  kept_first refused told = elim (ok_or_err r) [
     | inl (h, ok) ↦
         let here = subst (λ p. IfOk p (λ k. heard ≡ the_heard new k)) ok told in
-        ap (λ names. slice_get names 0) (names_kept old.names new h (subst (Keeps old.names) here keeps))
+        first_kept old.names new h (subst (Keeps old.names) here keeps)
     | inr (e, err) ↦ ap (λ (f : FollowingParts). slice_get f.names 0) (subst (λ p. OnErr p (new ≡ old)) err refused)
   ]
 
@@ -72,6 +68,7 @@ try_said self copy new line b heard same told is =
 pub said_as_is : (self new : FollowingParts) (heard : HeardText) → trial_said (the_following self) false (the_heard new heard) ≡ the_heard self heard
 said_as_is self new (Text text) = refl
 said_as_is self new (Rest network names) = refl
+said_as_is self new (Digest network names) = refl
 
 -- a question is answered as it is
 pub question_as_is : (self : FollowingParts) (line : Triable) (heard : HeardText) → is_replanning line ≡ false

@@ -9,7 +9,7 @@ use Rattle.cstn_history.specs.Histories.{History, is_done, allows}
 use Rattle.cstn_history.specs.Rest.{is_left, sight_left}
 use Rattle.cstn_follow.specs.Pauses.{is_undone}
 
-not_some : (o : Option ℕ) → not (is_some o) ≡ true → o ≡ None
+pub not_some : (o : Option ℕ) → not (is_some o) ≡ true → o ≡ None
 not_some None e = refl
 not_some (Some t) e = absurd (cc)
 

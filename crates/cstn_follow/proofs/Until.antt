@@ -26,7 +26,7 @@ use Rattle.cstn_check.specs.Verdicts.{is_consistent}
 use Rattle.cstn_check.proofs.Decides.{decided}
 use Rattle.cstn_history.specs.Histories.{History, IsHistory, IsTimelyHistory, AgreesWith}
 use Rattle.cstn_history.specs.Continuations.{Can, CanWait}
-use Rattle.cstn_history.specs.Rest.{is_left, number_of, bare, rest, with_constraint, rest_waiting, moved, constraint_left, constraints_left, added}
+use Rattle.cstn_history.specs.Rest.{is_left, number_left, bare, rest, with_constraint, rest_waiting, moved, constraint_left, constraints_left, added}
 use Rattle.cstn_history.proofs.Settled.{as_told, told_agrees, told_same, some_or_none}
 use Rattle.cstn_history.proofs.Places.{left_allows, new_inside}
 use Rattle.cstn_history.proofs.WellFormed.{rest_labelled}
@@ -117,13 +117,13 @@ module _ (m : Labelled) (h : History) (fresh x : ℕ) (good : IsLabelled m) (tim
       (numbered_below fresh (added m h)))
 
   module _ (here : x < count m.base) (none : h.done x ≡ None) (left : is_left m h x ≡ true) where
-    k_inside : number_of m h x < count Rest.base
+    k_inside : number_left m h x < count Rest.base
     k_inside = new_inside m h fresh good known x here left
 
     until_base : (t : ℕ) → t ≤ most_deadline → IsWellFormed (rest_until m h fresh x t).base
     until_base t upto =
         let base = rest_good.base in
-        let d : Constraint = waiting_one fresh (number_of m h x) t in
+        let d : Constraint = waiting_one fresh (number_left m h x) t in
         let new : Network = (rest_until m h fresh x t).base in
         let cs = Rest.base.constraints in
         record {
@@ -138,7 +138,7 @@ module _ (m : Labelled) (h : History) (fresh x : ℕ) (good : IsLabelled m) (tim
                   plain = is.plain;
                   observed = λ p marked. let o = is.observed p marked in (o.0, record { what = o.1.what });
                 }) cs base.network.constraints)
-                (all_one (IsConstraint new) d (waiting_constraint new fresh (number_of m h x) t base.network.origin k_inside));
+                (all_one (IsConstraint new) d (waiting_constraint new fresh (number_left m h x) t base.network.origin k_inside));
           };
           few_points = base.few_points;
           letters = λ y p o. base.letters y p (record { what = o.what });
@@ -151,11 +151,11 @@ module _ (m : Labelled) (h : History) (fresh x : ℕ) (good : IsLabelled m) (tim
         }
 
     until_labelled : (t : ℕ) → t ≤ most_deadline → IsLabelled (rest_until m h fresh x t)
-    until_labelled t upto = waiting_labelled Rest rest_good fresh (number_of m h x) t (until_base t upto)
+    until_labelled t upto = waiting_labelled Rest rest_good fresh (number_left m h x) t (until_base t upto)
 
     until_well_formed : (t : ℕ) → t ≤ most_deadline → IsWellFormed (lowered (rest_until m h fresh x t))
     until_well_formed t upto = lowered_well_formed (rest_until m h fresh x t) (until_labelled t upto)
-        (let long = waiting_long Rest rest_good fresh (number_of m h x) t k_inside in let few = room.lowered in omega arith)
+        (let long = waiting_long Rest rest_good fresh (number_left m h x) t k_inside in let few = room.lowered in omega arith)
 
     -- an id makes no difference
     other_id : (t : ℕ) → IsLabelledConsistent (rest_waiting m h fresh x t) ↔ IsLabelledConsistent (rest_until m h fresh x t)
@@ -165,10 +165,10 @@ module _ (m : Labelled) (h : History) (fresh x : ℕ) (good : IsLabelled m) (tim
     )
       where
         old : Constraint
-        old = bare (number_of m h x) 0 (pos 0 -ℤ pos t)
+        old = bare (number_left m h x) 0 (pos 0 -ℤ pos t)
 
         new : Constraint
-        new = waiting_one fresh (number_of m h x) t
+        new = waiting_one fresh (number_left m h x) t
 
     wait_decided : (t : ℕ) → t ≤ most_deadline → (is_consistent (lowered (rest_until m h fresh x t)) ≡ true) ↔ CanWait m h x t
     wait_decided t upto =
@@ -211,7 +211,7 @@ module _ (m : Labelled) (h : History) (fresh x : ℕ) (good : IsLabelled m) (tim
       pub last_found : Can m h → (t : ℕ) → waits_until m h fresh x cap ≡ Some t → CanWait m h x t × ((u : ℕ) → CanWait m h x u → u ≤ t)
       last_found can t e =
           let in_time = good.base.in_time in
-          let first : CanWait m h x h.now = (can.0, can.1, (λ s agrees seen. can.1.from_now s x agrees here none seen)) in
+          let first : CanWait m h x h.now = (can.0, can.1, (λ s agrees seen. let from = can.1.from_soonest s x agrees here none seen in omega arith)) in
           let bounded : (u : ℕ) → CanWait m h x u → u ≤ m.base.deadline = λ u waits.
           let w = where_executed in
           let late = waits.2 w.0 w.1 w.2 in

@@ -11,21 +11,12 @@ use Rattle.cstn_net.specs.Limits.{most_value, least_value}
 use Rattle.cstn_net.specs.declared.constraints.Constraint.{Constraint as Declared}
 use Rattle.cstn_net.specs.Networks.{Constraint, IsValue}
 use Rattle.cstn_net.specs.Read.{the_constraint}
+use Rattle.cstn_net.proofs.Values.{value_fits}
 use Rattle.cstn_lift.specs.Labelled.{Labelled}
 use Rattle.cstn_history.specs.Histories.{edited}
 use Rattle.cstn_history.specs.Read.{HistoryParts, the_history, IsKeptFor}
 use Rattle.cstn_history.proofs.Edited.{timely_edited}
 use Rattle.cstn_follow.specs.Raises.{value_among}
-
-below_top : (n : ℕ) → pos n ≤ℤ pos most_value → n < 2 ^ 31
-below_top n h = omega (arith, ints)
-
-above_bottom : (n : ℕ) → least_value ≤ℤ negsuc n → n < 2 ^ 31
-above_bottom n h = omega (arith, ints)
-
-pub value_fits : (v : ℤ) → IsValue v → FitsSigned w32 v
-value_fits (pos n) h = record { sfits = below_top n h.1 }
-value_fits (negsuc n) h = record { sfits = above_bottom n h.0 }
 
 -- no constraint has the id
 pub nowhere : (id : ℕ) (cs : List Declared) → All (λ c. c.id ≢ id) cs → value_among id (map the_constraint cs) ≡ None
@@ -60,4 +51,4 @@ pub kept_edited : (l m : Labelled) (h : HistoryParts) (deadline : ℕ) (cs : Lis
 kept_edited l m h deadline cs kept is =
     let timely = timely_edited l (the_history h) deadline cs kept.history kept.in_time in
     subst (λ (n : Labelled). IsKeptFor n h) (sym is)
-    (record { one_each = kept.one_each; wide = kept.wide; history = timely.history; in_time = timely.in_time })
+    (record { one_each = kept.one_each; wide = kept.wide; ready_each = kept.ready_each; history = timely.history; in_time = timely.in_time })

@@ -22,6 +22,7 @@ module _ (m : Labelled) (h later : History) (good : IsLabelled m) (on : GoesOn h
     now = on.now;
     kept = on.kept;
     more = on.more;
+    ready = on.ready;
     told = on.told;
     expected = λ q. ap (λ (o : Option ℕ). cond (q == p) (Some t) o) (on.expected q);
   }

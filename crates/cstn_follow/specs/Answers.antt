@@ -7,12 +7,12 @@ use Rattle.cstn_lift.specs.Labelled.{Labelled}
 use Rattle.cstn_lift.specs.Completion.{completed_label}
 use Rattle.cstn_lift.specs.Lowered.{lowered}
 use Rattle.cstn_lift.specs.Read.{the_labelled}
-use Rattle.cstn_log.specs.Cuts.{part}
+use Rattle.cstn_log.specs.Cuts.{last_with_ancestors}
 use Rattle.cstn_refute.specs.Refutations.{RefutationParts, the_steps}
 use Rattle.cstn_check.specs.Growth.{log_of, live_bounds}
 use Rattle.cstn_check.specs.declared.verdicts.Verdict.TheVariants.{Yes as IsYes, No as IsNo, Full as IsFull}
 use Rattle.cstn_history.specs.Continuations.{Can, CanWait, IsNext, IsNamed, IsAwaited}
-use Rattle.cstn_history.specs.Facts.{FactRefusal, NoSuch, Done, Undecided}
+use Rattle.cstn_history.specs.Facts.{wait_refusal}
 use Rattle.cstn_history.specs.Histories.{History, allows}
 use Rattle.cstn_history.specs.Read.{the_history, the_fact_refusal}
 use Rattle.cstn_next.specs.declared.moments.NextMoment.{NextMoment}
@@ -67,7 +67,7 @@ TellsOutlook s IsNotKnown = s.verdict ≡ IsFull
 -- this is the refutation that ends the log of what is left, lowered
 abbrev pub IsLeftRefuted : SessionParts → RefutationParts → Type 0
 IsLeftRefuted s r =
-    (s.verdict ≡ IsNo r.load) × (the_steps r ≡ part (log_of (lowered (execution_left (execution_of s)))))
+    (s.verdict ≡ IsNo r.load) × (the_steps r ≡ last_with_ancestors (log_of (lowered (execution_left (execution_of s)))))
     × All (λ e. e.bound.node.0 < count (execution_left (execution_of s)).base) r.steps
 
 -- ---- until when
@@ -76,15 +76,6 @@ IsLeftRefuted s r =
 pub record IsLatest (m : Labelled) (h : History) (x t : ℕ) : Type 0 where
   pub waits : CanWait m h x t
   pub last : (u : ℕ) → CanWait m h x u → u ≤ t
-
--- why it isn't told until when x can wait, which was done at the moment given: F4, or F5, where it is ruled out
-abbrev pub ruled_out : Labelled → History → ℕ → Option ℕ → Option FactRefusal
-ruled_out m h x (Some t) = Some (Done x t)
-ruled_out m h x None = if not (allows h (completed_label m x)) then Some (Undecided x) else None
-
--- F3 to F5
-abbrev pub wait_refusal : Labelled → History → ℕ → Option FactRefusal
-wait_refusal m h x = if nat_le (count m.base) x then Some (NoSuch x) else ruled_out m h x (h.done x)
 
 -- the answer is right: x can wait until this moment and no longer; or this is why it isn't told; or no table continues the history
 abbrev pub IsRightLatest : Labelled → History → NodeId → Latest → Type 0

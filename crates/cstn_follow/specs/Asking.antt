@@ -1,15 +1,16 @@
 -- Questions to a session beside those of the lines that tell and edit, and the lines of both.
-use Rattle.std.specs.Prelude.{ℕ, ◌<◌, ◌^◌, Option, None, Some, if◌then◌else◌, List, [], ◌∷◌, ◌++◌, length, take, drop, codes, bytes_eq}
+use Rattle.std.specs.Prelude.{ℕ, ◌<◌, ◌^◌, ◌⊎◌, Option, None, Some, if◌then◌else◌, List, [], ◌∷◌, ◌++◌, codes, bytes_eq}
 use Rattle.std.specs.Option.{option_map, option_and_then}
 use Rattle.cstn_label.specs.Letters.{letter_of}
 use Rattle.cstn_text.specs.Numbers.{number_within, printed_number}
 use Rattle.cstn_lines.specs.LiveLines.{prop_read}
-use Rattle.cstn_lines.specs.FollowLines.{Follow, the_follow, follow_read}
+use Rattle.cstn_lines.specs.FollowLines.{Follow, the_follow, follow_read, IsNaming}
 use Rattle.cstn_follow.specs.declared.asking.Question.{Question}
 use Rattle.cstn_follow.specs.declared.asking.Question.TheVariants.{Verdict, Until, Each, Late, Raise, Least}
 use Rattle.cstn_follow.specs.declared.asking.Spoken.{Spoken as SpokenLine}
-use Rattle.cstn_follow.specs.declared.asking.Spoken.TheVariants.{Line, Ask, Amend}
-use Rattle.cstn_follow.specs.Amending.{Amendment, the_amendment, amendment_read}
+use Rattle.cstn_follow.specs.declared.asking.Spoken.TheVariants.{Line, Ask, Amend, Digest}
+use Rattle.cstn_follow.specs.Amending.{Amendment, the_amendment, amendment_read, IsAmendment, IsStepping}
+use Rattle.cstn_follow.specs.Words.{behind_word}
 
 -- What is asked: how it is, until when nothing at all may happen, until when each time-point that is left to be done can wait, until
 -- when the outcome of a proposition may be late, by how much the constraint of an id has to give way, or which deadline is enough.
@@ -28,10 +29,6 @@ the_further_question Each = asks_each
 the_further_question (Late prop) = asks_late prop.index
 the_further_question (Raise id) = asks_raise id
 the_further_question Least = asks_least
-
--- what follows these bytes, where a line begins with them
-abbrev pub behind_word : List ℕ → List ℕ → Option (List ℕ)
-behind_word word bytes = if bytes_eq (take (length word) bytes) word then Some (drop (length word) bytes) else None
 
 -- `late ` and a letter
 abbrev pub late_read : List ℕ → Option FurtherQuestion
@@ -74,21 +71,27 @@ IsFurtherQuestion (asks_raise id) = id < 2 ^ 32
 IsFurtherQuestion asks_least = Unit {0}
 
 -- what a line of a session says: it tells, edits or asks as a line of a session that follows a plan, or it asks further, or amends the
--- plan
+-- plan, or asks which plan it is
 pub data Spoken : Type 0 where
   of_line : Follow → Spoken
   of_question : FurtherQuestion → Spoken
   of_amendment : Amendment → Spoken
+  asks_digest : Spoken
 
 abbrev pub the_spoken : SpokenLine → Spoken
 the_spoken (Line line) = of_line (the_follow line)
 the_spoken (Ask question) = of_question (the_further_question question)
 the_spoken (Amend amendment) = of_amendment (the_amendment amendment)
+the_spoken Digest = asks_digest
+
+-- what a line asks: which plan it is, or something further
+abbrev pub question_read : List ℕ → Option Spoken
+question_read bytes = if bytes_eq bytes (codes "digest") then Some asks_digest else option_map of_question (asked_read bytes)
 
 -- what a line says that amends this, or else asks what the bytes ask
 abbrev pub amended_by : Option Amendment → List ℕ → Option Spoken
 amended_by (Some amendment) bytes = Some (of_amendment amendment)
-amended_by None bytes = option_map of_question (asked_read bytes)
+amended_by None bytes = question_read bytes
 
 -- what a line says that says this, or else amends or asks what the bytes do
 abbrev pub spoken_by : Option Follow → List ℕ → Option Spoken
@@ -98,9 +101,14 @@ spoken_by None bytes = amended_by (amendment_read bytes) bytes
 abbrev pub spoken_read : List ℕ → Option Spoken
 spoken_read bytes = spoken_by (follow_read bytes) bytes
 
--- it is so with the line that tells, edits or asks, if this is one
+-- the line's word is one that names time-points
+abbrev pub NamesPoints : List ℕ → Type 0
+NamesPoints bytes = IsNaming bytes ⊎ IsStepping bytes
+
+-- it is so with the line that tells, edits or asks, if this is one, and what amends the plan is within its ranges
 abbrev pub IfLine : Option Spoken → (Follow → Type 0) → Type 0
 IfLine None P = Unit {0}
 IfLine (Some (of_line line)) P = P line
 IfLine (Some (of_question question)) P = Unit {0}
-IfLine (Some (of_amendment amendment)) P = Unit {0}
+IfLine (Some (of_amendment amendment)) P = IsAmendment amendment
+IfLine (Some asks_digest) P = Unit {0}

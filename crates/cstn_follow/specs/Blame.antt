@@ -9,7 +9,7 @@ use Rattle.cstn_lift.specs.Labelled.{Labelled}
 use Rattle.cstn_lift.specs.Lowered.{lowered}
 use Rattle.cstn_history.specs.Histories.{History}
 use Rattle.cstn_history.specs.Rest.{rest}
-use Rattle.cstn_history.specs.Handed.{HasRoom}
+use Rattle.cstn_history.specs.Handed.{HasFewConstraints}
 use Rattle.cstn_history.specs.Read.{HistoryParts, the_history, IsKeptFor}
 use Rattle.cstn_follow.specs.Tries.{with_base}
 
@@ -23,7 +23,7 @@ pub record TakesTries (m : Labelled) (h : HistoryParts) (fresh : ℕ) : Type 0 w
   pub kept : IsKeptFor m h
   pub above : All (λ c. c.id < fresh) m.base.constraints
   pub low : fresh ≤ 4294000000
-  pub room : HasRoom (rest m (the_history h) fresh)
+  pub room : HasFewConstraints (rest m (the_history h) fresh)
 
 -- what is said of what is left by the constraints of this network
 abbrev pub said_by_network : Labelled → History → ℕ → ℕ → Network → Option Bool

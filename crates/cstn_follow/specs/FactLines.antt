@@ -10,7 +10,7 @@ use Rattle.cstn_lines.specs.LiveLines.{printed_truth}
 use Rattle.cstn_lift.specs.Labelled.{Labelled}
 use Rattle.cstn_history.specs.Histories.{History}
 use Rattle.cstn_history.specs.Facts.{FactRefusal, Past, OutOfRange, NoSuch, Done, Undecided, NotObserved, Told}
-use Rattle.cstn_history.specs.Facts.{is_beyond, now_refusal, done_refusal, told_refusal, expected_refusal, at_now, with_done, with_told, with_expected}
+use Rattle.cstn_history.specs.Facts.{is_beyond, now_refusal, done_refusal, told_refusal, expected_refusal, ready_refusal, at_now, with_done, with_told, with_expected, with_ready}
 use Rattle.cstn_reply.specs.Texts.{line}
 use Rattle.cstn_follow.specs.Following.{Following, Heard, says, name_of_point, verdict_line, follows}
 
@@ -85,3 +85,11 @@ on_saw s t p v = on_fact s (told_refusal s.network s.history t p) (with_told s.h
 -- `await`: the outcome of p is expected at t
 abbrev pub on_await : Following → ℕ → ℕ → Heard
 on_await s t p = on_fact s (expected_refusal s.network s.history t p) (with_expected s.history t p)
+
+-- `expect`: the time-point of this name can't be done before t
+abbrev pub on_ready : Following → ℕ → List ℕ → Option NodeId → Heard
+on_ready s t name None = says (line (unknown_name name)) s
+on_ready s t name (Some x) = on_fact s (ready_refusal s.network s.history t x.0) (with_ready s.history t x.0)
+
+abbrev pub on_expect : Following → ℕ → List ℕ → Heard
+on_expect s t name = if is_beyond t then refuses s (OutOfRange t) else on_ready s t name (node_named s.names name)

@@ -3,7 +3,7 @@ use Rattle.std.specs.Prelude.{ℕ, ◌≡◌, ◌<◌}
 use Rattle.std.specs.List.{All}
 use Rattle.cstn_net.specs.Networks.{Network, count}
 use Rattle.cstn_net.specs.Read.{the_network}
-use Rattle.cstn_log.specs.Cuts.{part}
+use Rattle.cstn_log.specs.Cuts.{last_with_ancestors}
 use Rattle.cstn_plan.specs.Plans.{the_bounds}
 use Rattle.cstn_refute.specs.Refutations.{the_steps}
 use Rattle.cstn_check.specs.Growth.{log_of, live_bounds}
@@ -24,5 +24,5 @@ abbrev pub IsFindingOn : ℕ → Network → Finding → Type 0
 IsFindingOn cap net (Planned load plan) =
     (verdict cap net ≡ Yes load) × (the_network plan.net ≡ net) × (the_bounds plan.bounds ≡ live_bounds (log_of net))
 IsFindingOn cap net (Refuted refutation) =
-    (verdict cap net ≡ No refutation.load) × (the_steps refutation ≡ part (log_of net)) × All (λ e. e.bound.node.0 < count net) refutation.steps
+    (verdict cap net ≡ No refutation.load) × (the_steps refutation ≡ last_with_ancestors (log_of net)) × All (λ e. e.bound.node.0 < count net) refutation.steps
 IsFindingOn cap net Unknown = verdict cap net ≡ Full

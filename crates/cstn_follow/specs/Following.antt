@@ -77,11 +77,16 @@ IsRightVerdict m h fresh cap IsFull = cap < load_of (lowered (rest m h fresh))
 abbrev pub verdict_within : Following → Option Verdict
 verdict_within s = verdict_left s.network s.history s.fresh s.cap
 
--- what is said to a line: a text, or the document of a labelled network, whose time-points have these names; and the session that
--- follows
+-- how a document is shown: as it is, or by its digest alone
+pub data Showing : Type 0 where
+  in_full : Showing
+  by_digest : Showing
+
+-- what is said to a line: a text, or the document of a labelled network, whose time-points have these names, shown so; and the session
+-- that follows
 pub data Heard : Type 0 where
   says : List ℕ → Following → Heard
-  saves : Labelled → List (List ℕ) → Following → Heard
+  saves : Showing → Labelled → List (List ℕ) → Following → Heard
 
 -- the line of a verdict
 abbrev pub verdict_line : ℕ → Verdict → List ℕ

@@ -10,7 +10,7 @@ use Rattle.cstn_lift.specs.Read.{the_labelled}
 use Rattle.cstn_lift.specs.Strategies.{IsInForce}
 use Rattle.cstn_history.specs.Histories.{History, AgreesWith, allows}
 use Rattle.cstn_history.specs.Read.{the_history}
-use Rattle.cstn_change.specs.Changes.{EditedNetwork, removes, after}
+use Rattle.cstn_change.specs.Changes.{EditedNetwork, removes, edited_by}
 use Rattle.cstn_follow.specs.Replans.{edited_now}
 use Rattle.cstn_follow.specs.Sessions.{SessionParts}
 
@@ -46,7 +46,7 @@ broken_ids m h = map (λ c. c.id) (filter (is_broken_by m h) m.base.constraints)
 -- the network as edited once the constraints of these ids are removed, one after the other
 abbrev pub after_removals : EditedNetwork → List ℕ → EditedNetwork
 after_removals e [] = e
-after_removals e (id ∷ ids) = after_removals (after e (removes id)) ids
+after_removals e (id ∷ ids) = after_removals (edited_by e (removes id)) ids
 
 -- the ids of what is broken in a session, and the network as edited without it
 abbrev pub broken_now : SessionParts → List ℕ

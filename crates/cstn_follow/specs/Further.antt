@@ -10,7 +10,7 @@ use Rattle.cstn_check.specs.declared.verdicts.Verdict.TheVariants.{Yes, No, Full
 use Rattle.cstn_history.specs.Histories.{History}
 use Rattle.cstn_text.specs.Numbers.{printed_value}
 use Rattle.cstn_change.specs.Changes.{NoSuch}
-use Rattle.cstn_change.specs.ChangeLines.{refused_text}
+use Rattle.cstn_change.specs.ChangeLines.{refused_change_text}
 use Rattle.cstn_reply.specs.Texts.{line, full_line}
 use Rattle.cstn_follow.specs.Asking.{FurtherQuestion, asks_verdict, asks_until, asks_each, asks_late, asks_raise, asks_least}
 use Rattle.cstn_follow.specs.Following.{Following, Heard, says, left_now, verdict_now, verdict_line, too_many}
@@ -90,7 +90,7 @@ late_answer s p = late_text s.names s.cap p (late_of s.network s.history s.fresh
 abbrev pub raise_text : ℕ → Verdict → ℕ → Raise → List ℕ
 raise_text cap v id (To w) = line (codes "raise " ++ decimal id ++ 32 ∷ printed_value w)
 raise_text cap v id IsVain = line (codes "raise " ++ decimal id ++ codes " none")
-raise_text cap v id IsNoId = line (refused_text (NoSuch id))
+raise_text cap v id IsNoId = line (refused_change_text (NoSuch id))
 raise_text cap v id IsPossible = verdict_line cap v
 raise_text cap v id IsUnfound = full_line cap
 

@@ -2,16 +2,17 @@
 use Rattle.std.specs.Prelude.{ℕ, suc, min, ◌++◌, Option, None, Some, codes, decimal, if◌then◌else◌, nat_lt}
 use Rattle.cstn_net.specs.Limits.{most_deadline}
 use Rattle.cstn_lines.specs.EditLines.{Edit, added, removed, changed, asked}
-use Rattle.cstn_lines.specs.FollowLines.{Follow, done_at, came_at, now_at, awaited_at, edits, ends_by, asks_next, asks_by, asks_blame, asks_rest}
+use Rattle.cstn_lines.specs.FollowLines.{Follow, done_at, came_at, now_at, awaited_at, ready_at, edits, ends_by, asks_next, asks_by, asks_blame, asks_rest}
 use Rattle.cstn_reply.specs.Texts.{line}
-use Rattle.cstn_follow.specs.Amending.{Amendment, forgives}
-use Rattle.cstn_follow.specs.Asking.{Spoken, of_line, of_question, of_amendment}
+use Rattle.cstn_follow.specs.Amending.{Amendment, forgives, steps}
+use Rattle.cstn_follow.specs.Asking.{Spoken, of_line, of_question, of_amendment, asks_digest}
 use Rattle.cstn_follow.specs.Following.{Following, Heard, says}
 use Rattle.cstn_follow.specs.Further.{on_asked}
-use Rattle.cstn_follow.specs.FactLines.{on_did, on_saw, on_now, on_await}
+use Rattle.cstn_follow.specs.FactLines.{on_did, on_saw, on_now, on_await, on_expect}
 use Rattle.cstn_follow.specs.ForgivingLines.{on_forgive}
+use Rattle.cstn_follow.specs.StepLines.{on_step}
 use Rattle.cstn_follow.specs.PlanLines.{on_add, on_remove, on_change, on_deadline}
-use Rattle.cstn_follow.specs.Questions.{on_next, on_check, on_rest}
+use Rattle.cstn_follow.specs.Questions.{on_next, on_check, on_rest, on_digest}
 use Rattle.cstn_follow.specs.Searches.{on_by, on_blame}
 
 -- what is said to an edit or a check
@@ -35,6 +36,7 @@ on_follow s (done_at t names) = on_did s t names
 on_follow s (came_at t p v) = on_saw s t p v
 on_follow s (now_at t) = on_now s t
 on_follow s (awaited_at t p) = on_await s t p
+on_follow s (ready_at t name) = on_expect s t name
 on_follow s (edits edit) = on_plan s edit
 on_follow s (ends_by deadline) = on_ends_by s deadline
 on_follow s asks_next = on_next s
@@ -45,6 +47,7 @@ on_follow s asks_rest = on_rest s
 -- what is said to an amendment
 abbrev pub on_amendment : Following → Amendment → Heard
 on_amendment s forgives = on_forgive s
+on_amendment s (steps name) = on_step s name
 
 -- what is said to a line, where it is one of the session
 abbrev pub on_line : Following → Option Spoken → Heard
@@ -52,6 +55,7 @@ on_line s None = on_other s
 on_line s (Some (of_line line)) = on_follow s line
 on_line s (Some (of_question question)) = on_asked s question
 on_line s (Some (of_amendment amendment)) = on_amendment s amendment
+on_line s (Some asks_digest) = on_digest s
 
 -- the session that has heard one line more; there are never more than 16,777,217
 abbrev pub counted : Following → Following

@@ -16,6 +16,7 @@ pub mod Sessions
 pub mod Copied
 pub mod Replans
 pub mod Forgiving
+pub mod Stepping
 pub mod Answers
 -- Sessions that follow what happens in lines.
 pub mod Following
@@ -23,10 +24,13 @@ pub mod Progress
 -- What is said to each kind of line.
 pub mod FactLines
 pub mod PlanLines
+pub mod Words
 pub mod Amending
 pub mod Questions
 pub mod Searches
 pub mod ForgivingLines
+pub mod StepLines
+pub mod Digests
 pub mod Asking
 pub mod Further
 pub mod Hearing

@@ -4,7 +4,8 @@ use Rattle.std.specs.Option.{option_map, option_and_then}
 use Rattle.cstn_lift.specs.Labelled.{Labelled}
 use Rattle.cstn_reply.specs.Texts.{Said, line}
 use Rattle.cstn_reply.specs.Sessions.{Turn, more}
-use Rattle.cstn_follow.specs.Asking.{behind_word}
+use Rattle.cstn_follow.specs.Words.{behind_word}
+use Rattle.cstn_follow.specs.Digests.{shown}
 use Rattle.cstn_follow.specs.Following.{Following, Heard, says, saves, begun_following, following_ending}
 use Rattle.cstn_follow.specs.Hearing.{counted, on_other}
 use Rattle.cstn_follow.specs.Trials.{Triable, the_triable, triable_read, on_triable, on_try}
@@ -84,10 +85,10 @@ hear_marked t said = on_saying (counted t.now) t.marks said
 
 -- ---- turns
 
--- what is said to a line is a text, or the document of what is left
+-- what is said to a line is a text, or what is shown of a document
 abbrev pub marked_by : Writing → Heard → List Following → Turn Marked
 marked_by write (says text next) marks = more text (record { now = next; marks = marks })
-marked_by write (saves m names next) marks = more (write m names) (record { now = next; marks = marks })
+marked_by write (saves how m names next) marks = more (shown how (write m names)) (record { now = next; marks = marks })
 
 -- the answer to a line, which may be none of the session
 abbrev pub marked_turn_by : Writing → Marked → List ℕ → Turn Marked

@@ -2,8 +2,8 @@
 use Rattle.std.specs.Prelude.{ℕ, ℤ, List, ◌++◌, Option, None, Some, Result, Ok, Err, codes, decimal}
 use Rattle.cstn_label.specs.Labels.{Label}
 use Rattle.cstn_net.specs.Limits.{most_constraints}
-use Rattle.cstn_change.specs.Changes.{EditedNetwork, Change, removes, revalues, Refusal, edited_base, refusal, after}
-use Rattle.cstn_change.specs.ChangeLines.{accepted_text, refused_text, addition}
+use Rattle.cstn_change.specs.Changes.{EditedNetwork, Change, removes, revalues, ChangeRefusal, edited_base, refusal, edited_by}
+use Rattle.cstn_change.specs.ChangeLines.{accepted_text, refused_change_text, addition}
 use Rattle.cstn_reply.specs.Texts.{line}
 use Rattle.cstn_follow.specs.Following.{Following, Heard, says, follows}
 use Rattle.cstn_follow.specs.Replans.{with_due}
@@ -17,14 +17,14 @@ abbrev pub replanned : Following → EditedNetwork → Following
 replanned s e = record s { network = record s.network { base = e.net }; edits = e.edits; fresh = e.fresh }
 
 -- what is said to a change that is refused for this, if it is refused, or else accepted
-abbrev pub on_refusal : Following → Change → Option Refusal → Heard
-on_refusal s change (Some why) = says (line (refused_text why)) s
-on_refusal s change None = follows s (replanned s (after (edited_network s) change)) (λ v. line (accepted_text s.fresh change))
+abbrev pub on_refusal : Following → Change → Option ChangeRefusal → Heard
+on_refusal s change (Some why) = says (line (refused_change_text why)) s
+on_refusal s change None = follows s (replanned s (edited_by (edited_network s) change)) (λ v. line (accepted_text s.fresh change))
 
 -- what is said to a change, or to none, for which there is this reason
-abbrev pub on_edit : Following → Result Change Refusal → Heard
+abbrev pub on_edit : Following → Result Change ChangeRefusal → Heard
 on_edit s (Ok change) = on_refusal s change (refusal most_constraints (edited_network s) change)
-on_edit s (Err why) = says (line (refused_text why)) s
+on_edit s (Err why) = says (line (refused_change_text why)) s
 
 -- `add`, by the names of its ends
 abbrev pub on_add : Following → List ℕ → List ℕ → ℤ → Label → Heard

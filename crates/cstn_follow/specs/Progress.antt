@@ -8,13 +8,13 @@ use Rattle.cstn_history.specs.Histories.{History}
 use Rattle.cstn_history.specs.Continuations.{IsNamed, IsEventful}
 use Rattle.cstn_history.specs.Rest.{rest}
 use Rattle.cstn_history.specs.Facts.{now_refusal, told_refusal, at_now, with_done, with_told}
-use Rattle.cstn_history.specs.Handed.{HasRoom}
+use Rattle.cstn_history.specs.Handed.{HasFewConstraints}
 
 -- what is left has no more constraints than a network may have, under ids above those of the network
 pub record HasRoomLeft (m : Labelled) (h : History) : Type 0 where
   pub fresh : ℕ
   pub above : All (λ c. c.id < fresh) m.base.constraints
-  pub room : HasRoom (rest m h fresh)
+  pub room : HasFewConstraints (rest m h fresh)
 
 -- no outcome is awaited and no time-point is named from now on before t: the next moment, if there is one, is t or later
 abbrev pub IsQuietUpto : Labelled → History → ℕ → Type 0

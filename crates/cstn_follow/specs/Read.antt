@@ -6,8 +6,8 @@ use Rattle.cstn_check.specs.declared.verdicts.Verdict.{Verdict}
 use Rattle.cstn_history.specs.Read.{HistoryParts, the_history}
 use Rattle.cstn_reply.specs.Written.{EndsLine}
 use Rattle.cstn_follow.specs.declared.following.Heard.{Heard as HeardText}
-use Rattle.cstn_follow.specs.declared.following.Heard.TheVariants.{Text, Rest}
-use Rattle.cstn_follow.specs.Following.{Following, Heard, says, saves}
+use Rattle.cstn_follow.specs.declared.following.Heard.TheVariants.{Text, Rest, Digest}
+use Rattle.cstn_follow.specs.Following.{Following, in_full, by_digest, Heard, says, saves}
 use Rattle.cstn_follow.specs.Sessions.{SessionParts, IsSession}
 
 -- what contracts see of a session: its parts as the program keeps them, and the verdict on what is left
@@ -69,9 +69,11 @@ pub record IsFollowing (f : FollowingParts) : Type 0 where
 -- what the program says to a line, and the session that follows
 abbrev pub the_heard : FollowingParts → HeardText → Heard
 the_heard f (Text text) = says text.items (the_following f)
-the_heard f (Rest network names) = saves (the_labelled network) names (the_following f)
+the_heard f (Rest network names) = saves in_full (the_labelled network) names (the_following f)
+the_heard f (Digest network names) = saves by_digest (the_labelled network) names (the_following f)
 
 -- what is said ends a line, or is a document with a name for each time-point, of which the first is the first of these
 abbrev pub IsSaidFor : List (List ℕ) → HeardText → Type 0
 IsSaidFor names (Text text) = EndsLine text.items
 IsSaidFor names (Rest network kept) = (length kept ≡ count (the_labelled network).base) × (slice_get kept 0 ≡ slice_get names 0)
+IsSaidFor names (Digest network kept) = (length kept ≡ count (the_labelled network).base) × (slice_get kept 0 ≡ slice_get names 0)

@@ -7,8 +7,8 @@ use Rattle.cstn_check.specs.declared.verdicts.Verdict.{Verdict}
 use Rattle.cstn_history.specs.declared.errors.RestError.{RestError}
 use Rattle.cstn_history.specs.declared.errors.RestError.TheVariants.{TooManyConstraints as AreTooMany, Memory as OutOfMemory}
 use Rattle.cstn_history.specs.Read.{the_history}
-use Rattle.cstn_change.specs.Changes.{EditedNetwork, Change, Refusal, edited_base, refusal, after}
-use Rattle.cstn_change.specs.Read.{the_refusal}
+use Rattle.cstn_change.specs.Changes.{EditedNetwork, Change, ChangeRefusal, edited_base, refusal, edited_by}
+use Rattle.cstn_change.specs.Read.{the_change_refusal}
 use Rattle.cstn_follow.specs.Following.{verdict_left}
 use Rattle.cstn_follow.specs.declared.errors.ReplanError.{ReplanError}
 use Rattle.cstn_follow.specs.declared.errors.ReplanError.TheVariants.{Refused, TooManyConstraints, Memory}
@@ -41,16 +41,16 @@ Replans e old new (Err AreTooMany) = (verdict_replanned old e ≡ None) × (new 
 Replans e old new (Err (OutOfMemory error)) = new ≡ old
 
 -- the first of S1 to S6 for which a change of the network is refused, if one applies
-abbrev pub change_refused : SessionParts → Change → Option Refusal
+abbrev pub change_refused : SessionParts → Change → Option ChangeRefusal
 change_refused s change = refusal most_constraints (edited_now s) change
 
 -- What a call that makes a change makes of a session: the change is made; or nothing has changed, since it is refused, or there
 -- would be too many constraints, or memory is refused.
 abbrev pub MakesChange : Change → SessionParts → SessionParts → Result Verdict ReplanError → Type 0
-MakesChange change old new (Ok v) = (change_refused old change ≡ None) × Replans (after (edited_now old) change) old new (Ok v)
-MakesChange change old new (Err (Refused error)) = (change_refused old change ≡ Some (the_refusal error)) × (new ≡ old)
+MakesChange change old new (Ok v) = (change_refused old change ≡ None) × Replans (edited_by (edited_now old) change) old new (Ok v)
+MakesChange change old new (Err (Refused error)) = (change_refused old change ≡ Some (the_change_refusal error)) × (new ≡ old)
 MakesChange change old new (Err TooManyConstraints) =
-    (change_refused old change ≡ None) × Replans (after (edited_now old) change) old new (Err AreTooMany)
+    (change_refused old change ≡ None) × Replans (edited_by (edited_now old) change) old new (Err AreTooMany)
 MakesChange change old new (Err (Memory error)) = new ≡ old
 
 -- why a change isn't made, by why there is no network of what would be left

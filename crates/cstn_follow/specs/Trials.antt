@@ -4,8 +4,9 @@ use Rattle.std.specs.Option.{option_map, option_and_then}
 use Rattle.cstn_net.specs.Limits.{most_load}
 use Rattle.cstn_text.specs.Numbers.{number_within}
 use Rattle.cstn_lines.specs.EditLines.{added, removed, changed, asked}
-use Rattle.cstn_lines.specs.FollowLines.{Follow, done_at, came_at, now_at, awaited_at, edits, ends_by, asks_next, asks_by, asks_blame, asks_rest}
-use Rattle.cstn_follow.specs.Asking.{Spoken, of_line, of_question, of_amendment, the_spoken, behind_word, spoken_read}
+use Rattle.cstn_lines.specs.FollowLines.{Follow, done_at, came_at, now_at, awaited_at, ready_at, edits, ends_by, asks_next, asks_by, asks_blame, asks_rest}
+use Rattle.cstn_follow.specs.Asking.{Spoken, of_line, of_question, of_amendment, asks_digest, the_spoken, spoken_read}
+use Rattle.cstn_follow.specs.Words.{behind_word}
 use Rattle.cstn_follow.specs.Following.{Following, Heard, says, saves, verdict_now, verdict_line}
 use Rattle.cstn_follow.specs.Hearing.{on_line}
 use Rattle.cstn_follow.specs.Questions.{tells_verdict}
@@ -53,6 +54,7 @@ is_plan_line (done_at t names) = false
 is_plan_line (came_at t p v) = false
 is_plan_line (now_at t) = false
 is_plan_line (awaited_at t p) = false
+is_plan_line (ready_at t name) = false
 is_plan_line asks_next = false
 is_plan_line (asks_by name) = false
 is_plan_line asks_blame = false
@@ -62,20 +64,21 @@ abbrev pub is_replanning : Triable → Bool
 is_replanning (of_spoken (of_line line)) = is_plan_line line
 is_replanning (of_spoken (of_question question)) = false
 is_replanning (of_spoken (of_amendment amendment)) = true
+is_replanning (of_spoken asks_digest) = false
 is_replanning (sets_cap cap) = false
 
 -- the text refuses a line
 abbrev pub is_refusal : List ℕ → Bool
 is_refusal text = bytes_eq (take 8 text) (codes "refused ")
 
--- this text, but where it accepts an edit the line of the verdict after it
+-- this text, but where it accepts an edit, an amendment or a deadline the line of the verdict after it
 abbrev pub trial_text : Bool → List ℕ → Following → List ℕ
 trial_text replans text next = if replans && not (is_refusal text) then verdict_line next.cap (verdict_now next) else text
 
 -- this is said, and the session stays as it is
 abbrev pub trial_said : Following → Bool → Heard → Heard
 trial_said s replans (says text next) = says (trial_text replans text next) s
-trial_said s replans (saves m names next) = saves m names s
+trial_said s replans (saves how m names next) = saves how m names s
 
 -- `try`: what the line would be answered
 abbrev pub on_try : Following → Triable → Heard

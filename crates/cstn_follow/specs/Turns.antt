@@ -4,6 +4,7 @@ use Rattle.cstn_lift.specs.Labelled.{Labelled}
 use Rattle.cstn_check.specs.declared.verdicts.Verdict.{Verdict}
 use Rattle.cstn_reply.specs.Sessions.{Turn, more}
 use Rattle.cstn_follow.specs.Asking.{spoken_read}
+use Rattle.cstn_follow.specs.Digests.{shown}
 use Rattle.cstn_follow.specs.Following.{Following, Heard, says, saves, IsRightVerdict}
 use Rattle.cstn_follow.specs.Hearing.{hear}
 
@@ -11,10 +12,10 @@ use Rattle.cstn_follow.specs.Hearing.{hear}
 abbrev pub Writing : Type 0
 Writing = Labelled → List (List ℕ) → List ℕ
 
--- what is said to a line is a text, or the document of what is left
+-- what is said to a line is a text, or what is shown of a document
 abbrev pub heard_by : Writing → Heard → Turn Following
 heard_by write (says text next) = more text next
-heard_by write (saves m names next) = more (write m names) next
+heard_by write (saves how m names next) = more (shown how (write m names)) next
 
 -- the answer to a line, which may be none of the session
 abbrev pub turn_by : Writing → Following → List ℕ → Turn Following

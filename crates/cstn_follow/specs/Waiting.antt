@@ -9,7 +9,7 @@ use Rattle.cstn_lift.specs.Labelled.{Labelled}
 use Rattle.cstn_lift.specs.Lowered.{lowered}
 use Rattle.cstn_lift.specs.WellFormed.{IsLabelled}
 use Rattle.cstn_history.specs.Histories.{History}
-use Rattle.cstn_history.specs.Rest.{number_of, bare, rest, with_constraint}
+use Rattle.cstn_history.specs.Rest.{number_left, bare, rest, with_constraint}
 use Rattle.cstn_follow.specs.declared.errors.WaitError.{WaitError}
 use Rattle.cstn_follow.specs.declared.errors.WaitError.TheVariants.{TooManyConstraints, Full, Memory}
 
@@ -20,7 +20,7 @@ waiting_one fresh k t = record (bare k 0 (pos 0 -ℤ pos t)) { id = fresh + most
 
 -- what is left, in which x is at t or later
 abbrev pub rest_until : Labelled → History → ℕ → ℕ → ℕ → Labelled
-rest_until m h fresh x t = with_constraint (rest m h fresh) (waiting_one fresh (number_of m h x) t)
+rest_until m h fresh x t = with_constraint (rest m h fresh) (waiting_one fresh (number_left m h x) t)
 
 -- what is left, and its lowered network, has room for one constraint more
 pub record HasRoomToWait (m : Labelled) (h : History) (fresh : ℕ) : Type 0 where
@@ -41,7 +41,7 @@ said_until m fresh k cap t = said cap (lowered (with_constraint m (waiting_one f
 
 -- what is said of what is left with x at t or later
 abbrev pub tried_until : Labelled → History → ℕ → ℕ → ℕ → ℕ → Option Bool
-tried_until m h fresh x cap t = said_until (rest m h fresh) fresh (number_of m h x) cap t
+tried_until m h fresh x cap t = said_until (rest m h fresh) fresh (number_left m h x) cap t
 
 -- until when x can wait, from now up to the deadline, by at most 20 tries; none where a log that was tried is full
 abbrev pub waits_until : Labelled → History → ℕ → ℕ → ℕ → Option ℕ

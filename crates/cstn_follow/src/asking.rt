@@ -1,13 +1,13 @@
 // Lines of a session that follows a plan.
 ghost use Rattle.std.specs.Prelude.{◌≡◌, IfOk, OnErr};
 ghost use Rattle.std.specs.Option.{option_map};
-ghost use Rattle.cstn_lines.specs.FollowLines.{IsNaming};
 ghost use Rattle.cstn_lines.specs.LiveLines.{prop_read};
-ghost use Rattle.cstn_follow.specs.Amending.{amendment_read};
-ghost use Rattle.cstn_follow.specs.Asking.{the_further_question, behind_word, late_read, raise_read, asked_read, of_question, the_spoken};
-ghost use Rattle.cstn_follow.specs.Asking.{amended_by, spoken_read};
+ghost use Rattle.cstn_follow.specs.Amending.{amendment_read, IsStepping};
+ghost use Rattle.cstn_follow.specs.Asking.{the_further_question, late_read, raise_read, asked_read, of_question, question_read, the_spoken};
+ghost use Rattle.cstn_follow.specs.Asking.{amended_by, spoken_read, NamesPoints};
+ghost use Rattle.cstn_follow.specs.Words.{behind_word};
 
-use crate::amending::{Amendment, amendment_of};
+use crate::amending::{Amendment, read_amendment};
 use cstn_label::Prop;
 use cstn_lines::{FollowLine, read_follow};
 use cstn_text::read_number_within;
@@ -39,32 +39,45 @@ pub enum Spoken {
     Ask(Question),
     /// An amendment of the plan.
     Amend(Amendment),
+    /// `digest`.
+    Digest,
 }
 
 /// What the line of these bytes, without its LF, says: exactly a form of `FollowLine`, of `Amendment` or of `Question`, with one space
-/// between the parts and no other. None where they are no such line. Fails for want of memory alone, and only at a line that names time-points.
+/// between the parts and no other, or `digest`. None where they are no such line. Fails for want of memory alone, and only at a line that names time-points.
 pub fn read_spoken(alloc: Global, bytes: &[u8]) -> Result<Option<Spoken>, AllocError>
     ensures read { IfOk result (λ line. option_map the_spoken line ≡ spoken_read bytes.now) }
-    ensures memory { OnErr result (IsNaming bytes.now) }
+    ensures memory { OnErr result (NamesPoints bytes.now) }
 {
     match read_follow(alloc, bytes)? {
         Some(line) => Ok(Some(Spoken::Line(line))),
-        None => Ok(read_further(bytes)),
+        None => read_further(alloc, bytes),
     }
 }
 
 // What the bytes amend, or the further question that they ask.
-fn read_further(bytes: &[u8]) -> Option<Spoken>
-    ensures { option_map the_spoken result ≡ amended_by (amendment_read bytes.now) bytes.now }
+fn read_further(alloc: Global, bytes: &[u8]) -> Result<Option<Spoken>, AllocError>
+    ensures read { IfOk result (λ o. option_map the_spoken o ≡ amended_by (amendment_read bytes.now) bytes.now) }
+    ensures memory { OnErr result (IsStepping bytes.now) }
 {
-    match amendment_of(bytes) {
-        Some(amendment) => Some(Spoken::Amend(amendment)),
-        None => read_question(bytes),
+    match read_amendment(alloc, bytes)? {
+        Some(amendment) => Ok(Some(Spoken::Amend(amendment))),
+        None => Ok(read_question(bytes)),
     }
 }
 
-// The further question that the bytes ask.
+// What the bytes ask.
 fn read_question(bytes: &[u8]) -> Option<Spoken>
+    ensures { option_map the_spoken result ≡ question_read bytes.now }
+{
+    if bytes == b"digest".as_slice() {
+        return Some(Spoken::Digest);
+    }
+    read_asked(bytes)
+}
+
+// The further question that the bytes ask.
+fn read_asked(bytes: &[u8]) -> Option<Spoken>
     ensures { option_map the_spoken result ≡ option_map of_question (asked_read bytes.now) }
 {
     let question = question_of(bytes)?;

@@ -8,7 +8,7 @@ ghost use Rattle.cstn_lift.specs.Read.{the_labelled};
 ghost use Rattle.cstn_history.specs.Continuations.{Can};
 ghost use Rattle.cstn_history.specs.Rest.{rest};
 ghost use Rattle.cstn_history.specs.Read.{the_history, IsKeptFor};
-ghost use Rattle.cstn_history.specs.Handed.{HasRoom};
+ghost use Rattle.cstn_history.specs.Handed.{HasFewConstraints};
 ghost use Rattle.cstn_follow.specs.Blame.{TakesTries, network_alone, said_by_network, ids_to_blame};
 
 use crate::errors::BlameError;
@@ -37,7 +37,7 @@ pub fn blame(
     requires kept { IsKeptFor (the_labelled network.now) history.now }
     requires above { All (λ c. c.id < fresh) (the_labelled network.now).base.constraints }
     requires low { fresh ≤ 4294000000 }
-    requires room { HasRoom (rest (the_labelled network.now) (the_history history.now) fresh) }
+    requires room { HasFewConstraints (rest (the_labelled network.now) (the_history history.now) fresh) }
     requires cannot { Can (the_labelled network.now) (the_history history.now) → ⊥ }
 
     // By these constraints alone the history can't go on, and without any one of them it can.

@@ -64,6 +64,23 @@ impl From<AllocError> for ForgiveError {
     }
 }
 
+/// Why no further time-point is put in.
+#[derive(Clone, Copy, Debug, PartialEq, Eq, Error)]
+pub enum StepError {
+    /// S6: 1,000,000 edits were accepted.
+    #[error("no more than 1000000 edits")]
+    EditLimit,
+    /// S9: there are 1,024 time-points.
+    #[error("no more than 1024 time-points")]
+    NoPlace,
+    /// F8: the network, lowered, or what is left of it then, or that lowered, has more than 16,384 constraints.
+    #[error("more than 16384 constraints would be left")]
+    TooManyConstraints,
+    /// Memory was refused.
+    #[error("out of memory")]
+    Memory(AllocError),
+}
+
 /// Why it isn't told until when a time-point can wait.
 #[derive(Clone, Copy, Debug, PartialEq, Eq, Error)]
 pub enum WaitError {

@@ -1,16 +1,17 @@
 // Labelled networks that are carried out.
-ghost use Rattle.std.specs.Prelude.{ℕ, ◌≡◌, ◌<◌, ◌≤◌, ◌^◌, None, Some, IsTrue, IfOk, IfErr, IsOk, IsErrOf, max};
+ghost use Rattle.std.specs.Prelude.{ℕ, ◌≡◌, ◌<◌, ◌≤◌, ◌^◌, None, Some, IsTrue, IfOk, IfErr, IsOk, IsErrOf, length, max};
 ghost use Rattle.std.specs.List.{All, AllPairs, Contains};
-ghost use Rattle.cstn_net.specs.Limits.{most_deadline};
+ghost use Rattle.cstn_net.specs.Limits.{most_constraints, most_deadline, most_time_points};
 ghost use Rattle.cstn_net.specs.Networks.{IsValue, count};
 ghost use Rattle.cstn_lift.specs.Lowered.{lowered};
 ghost use Rattle.cstn_lift.specs.Read.{the_labelled};
 ghost use Rattle.cstn_history.specs.Continuations.{Can, CanWait};
 ghost use Rattle.cstn_history.specs.Facts.{at_now};
-ghost use Rattle.cstn_history.specs.Handed.{HasRoom, IsRestRefusal};
+ghost use Rattle.cstn_history.specs.Handed.{HasFewConstraints, IsRestRefusal};
 ghost use Rattle.cstn_history.specs.Histories.{nothing_yet};
 ghost use Rattle.cstn_history.specs.Read.{the_history, IsKeptFor};
 ghost use Rattle.cstn_history.specs.Rest.{is_left, rest};
+ghost use Rattle.cstn_history.specs.Steps.{stepped, with_place};
 ghost use Rattle.cstn_change.specs.Changes.{id_above};
 ghost use Rattle.cstn_check.specs.Givers.{but, is_of};
 ghost use Rattle.cstn_follow.specs.Blame.{network_alone, ids_to_blame};
@@ -29,7 +30,7 @@ use crate::findings::{Finding, finding_left, labelled_network_is_in_order};
 use crate::waits::by;
 use cstn_change::{Change, changed, id_above, with_deadline};
 use cstn_check::Verdict;
-use cstn_history::{History, RestError, rest};
+use cstn_history::{History, RestError, rest, stepped, steps_keep_histories};
 use cstn_label::{NodeId, Prop};
 use cstn_lift::Labelled;
 use cstn_log::Cap;
@@ -98,6 +99,13 @@ impl Execution {
         ensures network { result.now ≡ self.now.network }
     {
         &self.network
+    }
+
+    /// The network, as a value of its own.
+    pub fn into_network(self) -> Labelled
+        ensures network { result ≡ self.network }
+    {
+        self.network
     }
 
     /// What has happened.
@@ -283,6 +291,36 @@ impl Execution {
         self.history = later;
     }
 
+    /// The same with a further time-point behind the last one, which observes nothing, has no label and isn't done. Refused where there
+    /// would be too many constraints.
+    pub fn stepped(&self, alloc: Global) -> Result<Execution, RestError>
+        requires place { count (the_labelled self.now.network).base < most_time_points }
+        ensures network { IfOk result (λ e. the_labelled e.network ≡ stepped (the_labelled self.now.network)) }
+        ensures history { IfOk result (λ e. e.history ≡ with_place self.now.history) }
+        ensures fresh { IfOk result (λ e. e.fresh ≡ self.now.fresh) }
+        ensures execution { IfOk result IsExecution }
+        ensures many { IsErrOf result RestError.TooManyConstraints
+            → most_constraints < length (lowered (stepped (the_labelled self.now.network))).constraints }
+    {
+        steps_keep_histories();
+        labelled_network_is_in_order(&self.network);
+        let network = match stepped(alloc, &self.network) {
+            Ok(network) => network,
+            Err(e) => return Err(e),
+        };
+        let history = match self.history.with_place(alloc) {
+            Ok(history) => history,
+            Err(e) => return Err(RestError::Memory(e)),
+        };
+        labelled_network_is_in_order(&network);
+        let fresh = self.fresh;
+        Ok(Execution {
+            network,
+            history,
+            fresh,
+        })
+    }
+
     /// Puts another network, whose ids are below `fresh`, in the place of the network.
     pub fn replan(&mut self, network: Labelled, fresh: u32)
         requires kept { IsKeptFor (the_labelled network) self.old.history }
@@ -316,7 +354,7 @@ impl Execution {
 
     /// The ids of the constraints that are to blame where what has happened can't go on.
     pub fn blame(&self, alloc: Global, cap: Cap) -> Result<Vec<u32>, BlameError>
-        requires room { HasRoom (execution_left self.now) }
+        requires room { HasFewConstraints (execution_left self.now) }
         requires cannot { Can (the_labelled self.now.network) (the_history self.now.history) → ⊥ }
         ensures cannot { IfOk result (λ ids. Can (network_alone (the_labelled self.now.network) (is_of ids.items)) (the_history self.now.history) → ⊥) }
         ensures needed { IfOk result (λ ids. (id : ℕ) → Contains ids.items id

@@ -15,6 +15,7 @@ mod facts;
 mod forgiving;
 mod hearing;
 mod questions;
+mod stepping;
 mod trials;
 
 use crate::session::Session;
@@ -35,6 +36,8 @@ pub enum Heard {
     Text(Vec<u8>),
     /// The document of what is left, whose time-points have these names.
     Rest { network: Labelled, names: Names },
+    /// The digest of the document of the plan, whose time-points have these names: `digest_line` makes its line of it.
+    Digest { network: Labelled, names: Names },
 }
 
 /// A session that follows what happens, with the names of its time-points.

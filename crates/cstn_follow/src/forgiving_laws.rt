@@ -8,7 +8,7 @@ ghost use Rattle.cstn_lift.specs.WellFormed.{IsLabelled};
 ghost use Rattle.cstn_history.specs.Histories.{History, IsHistory};
 ghost use Rattle.cstn_history.specs.Continuations.{Can};
 ghost use Rattle.cstn_change.specs.Changes.{EditedNetwork};
-ghost use Rattle.cstn_follow.specs.Amending.{Amendment, printed_amendment};
+ghost use Rattle.cstn_follow.specs.Amending.{Amendment, printed_amendment, IsAmendment};
 ghost use Rattle.cstn_follow.specs.Asking.{of_amendment, spoken_read};
 ghost use Rattle.cstn_follow.specs.Blame.{network_alone};
 ghost use Rattle.cstn_follow.specs.Forgiving.{IsBrokenBy, is_broken_by, broken_ids, after_removals};
@@ -28,6 +28,7 @@ pub fn what_is_broken_is_forgiven()
 
 /// A line amends the plan exactly where it is the text of an amendment.
 pub fn amendments_have_one_text()
-    ensures back { (amendment : Amendment) → spoken_read (printed_amendment amendment) ≡ Some (of_amendment amendment) }
-    ensures only { (text : List ℕ) (amendment : Amendment) → spoken_read text ≡ Some (of_amendment amendment) → printed_amendment amendment ≡ text }
+    ensures back { (amendment : Amendment) → IsAmendment amendment → spoken_read (printed_amendment amendment) ≡ Some (of_amendment amendment) }
+    ensures only { (text : List ℕ) (amendment : Amendment) → spoken_read text ≡ Some (of_amendment amendment)
+        → (printed_amendment amendment ≡ text) × IsAmendment amendment }
 {}

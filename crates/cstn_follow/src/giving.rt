@@ -3,7 +3,7 @@ ghost use Rattle.std.specs.Prelude.{◌≡◌, ◌++◌, ◌∷◌, IfOk, codes,
 ghost use Rattle.cstn_text.specs.Numbers.{printed_value};
 ghost use Rattle.cstn_reply.specs.Texts.{line};
 ghost use Rattle.cstn_change.specs.Changes.{NoSuch};
-ghost use Rattle.cstn_change.specs.ChangeLines.{refused_text};
+ghost use Rattle.cstn_change.specs.ChangeLines.{refused_change_text};
 
 use crate::texts::{ROOM, number_line};
 use itoa::Buffer;
@@ -43,7 +43,7 @@ fn raise_word(alloc: Global, id: u32) -> Result<Vec<u8>, AllocError>
 
 /// The line that refuses an id that no constraint has, by S2.
 pub fn refused_id(alloc: Global, id: u32) -> Result<Vec<u8>, AllocError>
-    ensures line { IfOk result (λ text. text.items ≡ line (refused_text (NoSuch id))) }
+    ensures line { IfOk result (λ text. text.items ≡ line (refused_change_text (NoSuch id))) }
 {
     number_line(alloc, b"refused S2 ", id)
 }

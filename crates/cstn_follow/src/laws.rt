@@ -1,5 +1,5 @@
 // Laws of progress, of waiting and of blame.
-ghost use Rattle.std.specs.Prelude.{ℕ, ℤ, pos, ◌≤ℤ◌, ◌≡◌, ◌+◌, ◌<◌, ◌≤◌, Bool, None, Some, List, IsTrue, length};
+ghost use Rattle.std.specs.Prelude.{ℕ, ℤ, pos, ◌≤ℤ◌, ◌≡◌, ◌+◌, ◌<◌, ◌≤◌, ◌↔◌, Bool, None, Some, List, IsTrue, length, codes};
 ghost use Rattle.std.specs.List.{All, AllPairs, Contains};
 ghost use Rattle.cstn_label.specs.declared.nodes.NodeId.{NodeId};
 ghost use Rattle.cstn_net.specs.Limits.{most_constraints};
@@ -10,13 +10,14 @@ ghost use Rattle.cstn_lift.specs.Lowered.{lowered};
 ghost use Rattle.cstn_lift.specs.WellFormed.{IsLabelled};
 ghost use Rattle.cstn_history.specs.Histories.{History, IsHistory, IsTimelyHistory, GoesOn};
 ghost use Rattle.cstn_history.specs.Continuations.{Continues, Can, CanWait, IsNamed, IsLeastTable};
-ghost use Rattle.cstn_history.specs.Rest.{is_left, number_of, rest, with_constraint};
+ghost use Rattle.cstn_history.specs.Rest.{is_left, number_left, rest, with_constraint};
 ghost use Rattle.cstn_lines.specs.FollowLines.{Follow, follow_read};
-ghost use Rattle.cstn_history.specs.Facts.{done_refusal, with_done, at_now, with_expected};
-ghost use Rattle.cstn_history.specs.Handed.{HasRoom};
+ghost use Rattle.cstn_history.specs.Facts.{done_refusal, with_done, at_now, with_expected, with_ready};
+ghost use Rattle.cstn_history.specs.Handed.{HasFewConstraints};
+ghost use Rattle.cstn_follow.specs.Answers.{IsLatest};
 ghost use Rattle.cstn_check.specs.Givers.{is_of, but};
 ghost use Rattle.cstn_check.specs.declared.verdicts.Verdict.{Verdict};
-ghost use Rattle.cstn_follow.specs.Asking.{FurtherQuestion, IsFurtherQuestion, printed_asked, of_line, of_question, spoken_read};
+ghost use Rattle.cstn_follow.specs.Asking.{FurtherQuestion, IsFurtherQuestion, printed_asked, of_line, of_question, asks_digest, spoken_read};
 ghost use Rattle.cstn_follow.specs.Blame.{network_alone, ids_to_blame};
 ghost use Rattle.cstn_follow.specs.Eased.{IsEased};
 ghost use Rattle.cstn_follow.specs.Following.{verdict_left};
@@ -55,7 +56,7 @@ pub fn waiting_is_found()
     ensures ids { (m : Labelled) (h : History) (fresh : ℕ) → IsLabelled m → IsTimelyHistory m h → All (λ c. c.id < fresh) m.base.constraints
         → HasRoomToWait m h fresh → All (λ c. c.id < fresh + most_constraints) (rest m h fresh).base.constraints }
     ensures numbers { (m : Labelled) (h : History) (fresh x : ℕ) → IsLabelled m → IsHistory m h → x < count m.base → IsTrue (is_left m h x)
-        → number_of m h x < count (rest m h fresh).base }
+        → number_left m h x < count (rest m h fresh).base }
     ensures labelled { (n : Labelled) (fresh k t : ℕ) → IsLabelled n → IsWellFormed (with_constraint n (waiting_one fresh k t)).base
         → IsLabelled (with_constraint n (waiting_one fresh k t)) }
     ensures long { (n : Labelled) (fresh k t : ℕ) → IsLabelled n → k < count n.base
@@ -70,38 +71,45 @@ pub fn parts_are_labelled()
         → length (lowered (network_alone m test)).constraints ≤ length (lowered m).constraints }
     ensures above { (m : Labelled) (test : ℕ → Bool) (fresh : ℕ) → All (λ c. c.id < fresh) m.base.constraints
         → All (λ c. c.id < fresh) (network_alone m test).base.constraints }
-    ensures room { (m : Labelled) (test : ℕ → Bool) (h : History) (fresh : ℕ) → IsLabelled m → HasRoom (rest m h fresh)
-        → HasRoom (rest (network_alone m test) h fresh) }
+    ensures room { (m : Labelled) (test : ℕ → Bool) (h : History) (fresh : ℕ) → IsLabelled m → HasFewConstraints (rest m h fresh)
+        → HasFewConstraints (rest (network_alone m test) h fresh) }
 {}
 
 /// Which constraints are to blame, where a history can't go on, is found by leaving out each in ascending order of their ids without
 /// which it can't go on either: by those that are found it can't go on, and without any one of them it can.
 pub fn blame_is_found()
     ensures cannot { (m : Labelled) (h : History) (fresh cap : ℕ) (ids : List ℕ) → IsLabelled m → IsTimelyHistory m h
-        → All (λ c. c.id < fresh) m.base.constraints → HasRoom (rest m h fresh) → (Can m h → ⊥) → ids_to_blame m h fresh cap ≡ Some ids
+        → All (λ c. c.id < fresh) m.base.constraints → HasFewConstraints (rest m h fresh) → (Can m h → ⊥) → ids_to_blame m h fresh cap ≡ Some ids
         → Can (network_alone m (is_of ids)) h → ⊥ }
     ensures needed { (m : Labelled) (h : History) (fresh cap id : ℕ) (ids : List ℕ) → IsLabelled m → IsTimelyHistory m h
-        → All (λ c. c.id < fresh) m.base.constraints → HasRoom (rest m h fresh) → ids_to_blame m h fresh cap ≡ Some ids
+        → All (λ c. c.id < fresh) m.base.constraints → HasFewConstraints (rest m h fresh) → ids_to_blame m h fresh cap ≡ Some ids
         → Contains ids id → Can (network_alone m (but id (is_of ids))) h }
     ensures ascending { (m : Labelled) (h : History) (fresh cap : ℕ) (ids : List ℕ) → IsLabelled m → ids_to_blame m h fresh cap ≡ Some ids
         → AllPairs (λ a b. a < b) ids }
 {}
 
-/// Where it is no later, or outcomes are known no later, what has happened can go on as before. So where it can go on at some moment
-/// it can at each earlier one.
+/// Where it is no later, outcomes are known no later and time-points are ready no later, what has happened can go on as before. So where
+/// it can go on at some moment it can at each earlier one.
 pub fn earlier_is_no_worse()
     ensures table { (m : Labelled) (h easier : History) (table : Table) → IsEased m h easier → Continues m h table → Continues m easier table }
     ensures can { (m : Labelled) (h easier : History) → IsEased m h easier → Can m h → Can m easier }
     ensures now { (m : Labelled) (h : History) (t u : ℕ) → t ≤ u → IsEased m (at_now h u) (at_now h t) }
+    ensures ready { (m : Labelled) (h : History) (t u x : ℕ) → t ≤ u → IsEased m (with_ready h u x) (with_ready h t x) }
 {}
 
-/// Waiting falls: when time has passed, or more is done from now on, no time-point can wait longer than before, and no outcome may be
-/// later.
+/// Waiting falls: when time has passed, when time-points are ready later, or when more is done from the moments on from which it could
+/// be, no time-point can wait longer than before, and no outcome may be later.
 pub fn waiting_falls()
     ensures waits { (m : Labelled) (h later : History) (x t : ℕ) → IsLabelled m → IsHistory m h → IsHistory m later → GoesOn h later
         → CanWait m later x t → CanWait m h x t }
     ensures late { (m : Labelled) (h later : History) (p t : ℕ) → IsLabelled m → IsHistory m (with_expected h t p)
         → IsHistory m (with_expected later t p) → GoesOn h later → Can m (with_expected later t p) → Can m (with_expected h t p) }
+{}
+
+/// What has happened can go on when a time-point isn't ready before a moment exactly up to the moment until which it can wait.
+pub fn what_waits_may_be_ready_as_late()
+    ensures { (m : Labelled) (h : History) (x t u : ℕ) → x < count m.base → h.done x ≡ None → Can m h → IsLatest m h x t
+        → (Can m (with_ready h u x) ↔ (u ≤ t)) }
 {}
 
 /// Until when nothing at all may happen is found by halving: where there is a verdict on what is left, the answer is right.
@@ -143,5 +151,6 @@ pub fn questions_have_one_text()
     ensures back { (question : FurtherQuestion) → IsFurtherQuestion question → spoken_read (printed_asked question) ≡ Some (of_question question) }
     ensures only { (text : List ℕ) (question : FurtherQuestion) → spoken_read text ≡ Some (of_question question)
         → (printed_asked question ≡ text) × IsFurtherQuestion question }
+    ensures digest { (text : List ℕ) → (spoken_read text ≡ Some asks_digest ↔ (text ≡ codes "digest")) }
     ensures others { (text : List ℕ) (line : Follow) → follow_read text ≡ Some line → spoken_read text ≡ Some (of_line line) }
 {}

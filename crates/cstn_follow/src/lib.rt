@@ -9,6 +9,7 @@ mod answers;
 mod asking;
 mod blames;
 mod deadlines;
+mod digests;
 mod errors;
 mod executions;
 mod findings;
@@ -34,7 +35,8 @@ pub use amending::Amendment;
 pub use answers::{Lateness, Latest, LeastDeadline, Outlook, Pause, Raise, ToBlame};
 pub use asking::{Question, Spoken, read_spoken};
 pub use blames::blame;
-pub use errors::{BlameError, FollowError, ForgiveError, ReplanError, WaitError};
+pub use digests::digest_line;
+pub use errors::{BlameError, FollowError, ForgiveError, ReplanError, StepError, WaitError};
 pub use following::{Following, Heard};
 pub use forgiving_laws::{amendments_have_one_text, what_is_broken_is_forgiven};
 pub use laws::{

@@ -164,7 +164,8 @@ struct Raising<'a> {
 impl<'a> MomentTrial for Raising<'a> {
     ghost may = { λ r. ((pos 0 -ℤ pos most_deadline) ≤ℤ r.high) × (r.high ≤ℤ pos most_deadline) };
 
-    ghost says = { λ r u. said_raised (the_labelled r.execution.now.network) (the_history r.execution.now.history) r.execution.now.fresh r.cap.entries r.id (r.high -ℤ pos u) };
+    ghost says = { λ r u. said_raised (the_labelled r.execution.now.network) (the_history r.execution.now.history) r.execution.now.fresh r.cap.entries r.id
+        (r.high -ℤ pos u) };
 
     fn says(&self, alloc: Global, moment: u32) -> Result<Option<bool>, AllocError> {
         let most = value_below(self.high, moment);

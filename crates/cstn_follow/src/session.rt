@@ -21,6 +21,7 @@ mod least;
 mod pauses;
 mod questions;
 mod raise;
+mod stepping;
 mod trials;
 
 use crate::executions::Execution;

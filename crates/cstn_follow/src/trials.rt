@@ -1,7 +1,7 @@
 // Lines of a session that can be tried.
 ghost use Rattle.std.specs.Prelude.{◌≡◌, IfOk, OnErr};
 ghost use Rattle.std.specs.Option.{option_map};
-ghost use Rattle.cstn_lines.specs.FollowLines.{IsNaming};
+ghost use Rattle.cstn_follow.specs.Asking.{NamesPoints};
 ghost use Rattle.cstn_follow.specs.Trials.{sets_cap, the_triable, cap_read, triable_read, is_replanning, is_plan_line, is_refusal};
 ghost use Rattle.cstn_lines.specs.FollowLines.{the_follow};
 
@@ -25,7 +25,7 @@ pub enum Triable {
 /// parts and no other. None where they are no such line. Fails for want of memory alone, and only at a line that names time-points.
 pub fn read_triable(alloc: Global, bytes: &[u8]) -> Result<Option<Triable>, AllocError>
     ensures read { IfOk result (λ line. option_map the_triable line ≡ triable_read bytes.now) }
-    ensures memory { OnErr result (IsNaming bytes.now) }
+    ensures memory { OnErr result (NamesPoints bytes.now) }
 {
     match read_spoken(alloc, bytes)? {
         Some(line) => Ok(Some(Triable::Line(line))),
@@ -59,6 +59,7 @@ impl Triable {
             Triable::Line(Spoken::Line(line)) => is_plan_line(line),
             Triable::Line(Spoken::Ask(_)) => false,
             Triable::Line(Spoken::Amend(_)) => true,
+            Triable::Line(Spoken::Digest) => false,
             Triable::Cap(_) => false,
         }
     }

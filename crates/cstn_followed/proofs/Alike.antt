@@ -4,7 +4,7 @@ use Rattle.std.proofs.Common.{inl, inr}
 use Rattle.std.specs.Prelude.{◌⊎◌, nat_lt, if◌then◌else◌, option_and_then}
 use Rattle.std.specs.Option.{option_map}
 use Rattle.cstn_net.specs.Networks.{Network}
-use Rattle.cstn_check.specs.Givers.{without}
+use Rattle.cstn_check.specs.Givers.{network_without}
 use Rattle.cstn_check.specs.Growth.{load_of, is_refuted, log_of}
 use Rattle.cstn_check.specs.Decisions.{verdict}
 use Rattle.cstn_check.specs.Needs.{said}
@@ -87,20 +87,20 @@ halving_alike test other alike (suc n) low high = by_more (nat_lt low high) (ali
 pub left_alike : (test other : Network → Option Bool) → ((net : Network) → SameIfSome (test net) (other net)) → (ids : List ℕ) (net : Network)
     → SameIfSome (left_by test ids net) (left_by other ids net)
 left_alike test other alike [] net = inr refl
-left_alike test other alike (id ∷ ids) net = by_same (alike (without id net)) (left_alike test other alike ids)
+left_alike test other alike (id ∷ ids) net = by_same (alike (network_without id net)) (left_alike test other alike ids)
   where
     by_test : (o : Option Bool) → ((r : Network) → SameIfSome (left_by test ids r) (left_by other ids r))
         → SameIfSome (and_then (narrowed o id net) (left_by test ids)) (and_then (narrowed o id net) (left_by other ids))
     by_test None later = inl refl
     by_test (Some true) later = later net
-    by_test (Some false) later = later (without id net)
+    by_test (Some false) later = later (network_without id net)
 
-    by_same : SameIfSome (test (without id net)) (other (without id net)) → ((r : Network) → SameIfSome (left_by test ids r) (left_by other ids r))
-        → SameIfSome (and_then (narrowed (test (without id net)) id net) (left_by test ids)) (and_then (narrowed (other (without id net)) id net) (left_by other ids))
+    by_same : SameIfSome (test (network_without id net)) (other (network_without id net)) → ((r : Network) → SameIfSome (left_by test ids r) (left_by other ids r))
+        → SameIfSome (and_then (narrowed (test (network_without id net)) id net) (left_by test ids)) (and_then (narrowed (other (network_without id net)) id net) (left_by other ids))
     by_same (inl none) later = inl (ap (λ o. and_then (narrowed o id net) (left_by test ids)) none)
     by_same (inr same) later =
-        subst (λ o. SameIfSome (and_then (narrowed (test (without id net)) id net) (left_by test ids)) (and_then (narrowed o id net) (left_by other ids)))
-        (sym same) (by_test (test (without id net)) later)
+        subst (λ o. SameIfSome (and_then (narrowed (test (network_without id net)) id net) (left_by test ids)) (and_then (narrowed o id net) (left_by other ids)))
+        (sym same) (by_test (test (network_without id net)) later)
 
 pub mapped_alike : {X Y : Type 0} (f : X → Y) (one other : Option X) → SameIfSome one other → SameIfSome (option_map f one) (option_map f other)
 mapped_alike f one other (inl none) = inl (ap (option_map f) none)

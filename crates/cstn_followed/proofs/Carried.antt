@@ -77,7 +77,7 @@ module _ (m : Labelled) (h : History) (good : IsLabelled m) (known : IsHistory m
       record {
         done = λ s x t agrees done. done_at x t done;
         in_time = λ s x t agrees done. upto_limit out x t done;
-        from_now = λ s x agrees here none executed. absurd (over.steps s x agrees here none executed);
+        from_soonest = λ s x agrees here none executed. absurd (over.steps s x agrees here none executed);
         within = λ s x agrees here none executed. absurd (over.steps s x agrees here none executed);
         meets = λ s c agrees has force.
             let met = out.limits s c agrees has force in

@@ -16,12 +16,13 @@ use Rattle.cstn_reply.proofs.Sessions.{first_leads, state_more, state_split, zer
 use Rattle.cstn_save.specs.Canonical.{canonical}
 use Rattle.cstn_follow.specs.Asking.{Spoken, spoken_read}
 use Rattle.cstn_follow.specs.Following.{Following, Heard, says, saves, begun_following}
+use Rattle.cstn_follow.specs.Digests.{shown}
 use Rattle.cstn_follow.specs.Hearing.{counted, hear, on_line}
 use Rattle.cstn_follow.specs.Marks.{Saying, sets_mark, goes_back, tries, Marked, MarkedHeard, most_marks, begun_marked, try_read, saying_by, saying_read, on_mark, on_back, on_saying, marked_by}
 use Rattle.cstn_follow.specs.Trials.{Triable, sets_cap, cap_read, triable_by, is_refusal, is_replanning, on_triable, trial_said, on_try}
 use Rattle.cstn_follow.specs.Turns.{heard_by}
 use Rattle.cstn_follow.proofs.MarkedStates.{recapped_sound}
-use Rattle.cstn_follow.proofs.Points.{turn_keeps}
+use Rattle.cstn_follow.proofs.Points.{turn_grows}
 use Rattle.cstn_follow.proofs.States.{IsSound, begun_sound, lines_sound, next_sound}
 use Rattle.cstn_followed.specs.Journal.{with_count, with_cap}
 use Rattle.cstn_followed.specs.Marked.{marked_turn, CountedLines, with_line, with_empty, counting, counting_at_mark, counting_back, counting_after, counting_by, lines_that_count}
@@ -40,7 +41,7 @@ pub record TurnSays (turn : Turn Following) : Type 0 where
 
 heard_says : (heard : Heard) → TurnSays (heard_by canonical heard)
 heard_says (says text next) = record { text = text; next = next; answer = refl }
-heard_says (saves m names next) = record { text = canonical m names; next = next; answer = refl }
+heard_says (saves how m names next) = record { text = shown how (canonical m names); next = next; answer = refl }
 
 pub same_next : {S : Type 0} (one two : List ℕ) (s t : S) → more one s ≡ more two t → s ≡ t
 same_next one two s t is = cc
@@ -53,22 +54,22 @@ marked_parts (says words later) marks text next is =
     let same : g ≡ next = same_next words text g next is in
     let same_words : words ≡ text = cc in
     (ap (λ w. more w later) same_words ∙ ap (λ (t : Marked). more text t.now) same, sym (ap (λ (t : Marked). t.marks) same))
-marked_parts (saves m names later) marks text next is =
+marked_parts (saves how m names later) marks text next is =
     let g : Marked = record { now = later; marks = marks } in
-    let same : g ≡ next = same_next (canonical m names) text g next is in
-    let same_words : canonical m names ≡ text = cc in
+    let same : g ≡ next = same_next (shown how (canonical m names)) text g next is in
+    let same_words : shown how (canonical m names) ≡ text = cc in
     (ap (λ w. more w later) same_words ∙ ap (λ (t : Marked). more text t.now) same, sym (ap (λ (t : Marked). t.marks) same))
 
 -- ---- one line more is counted
 
 recounted_next : (n : ℕ) (heard : Heard) (text : List ℕ) (next : Following) → heard_by canonical (recounted n heard) ≡ more text next → next.lines ≡ n
 recounted_next n (says words later) text next is = ap (λ (s : Following). s.lines) (sym (same_next words text (with_count later n) next is))
-recounted_next n (saves m names later) text next is =
-    ap (λ (s : Following). s.lines) (sym (same_next (canonical m names) text (with_count later n) next is))
+recounted_next n (saves how m names later) text next is =
+    ap (λ (s : Following). s.lines) (sym (same_next (shown how (canonical m names)) text (with_count later n) next is))
 
 refused_text : (heard : Heard) (text : List ℕ) (next : Following) → heard_by canonical heard ≡ more text next → Refuses heard → is_refusal text ≡ true
 refused_text (says words later) text next is refused = let same : words ≡ text = cc in ap is_refusal (sym same) ∙ refused
-refused_text (saves m names later) text next is refused = absurd refused
+refused_text (saves how m names later) text next is refused = absurd refused
 
 pub counted_lines : (s next : Following) (bytes text : List ℕ) → IsSound s → follow_turn s bytes ≡ more text next → next.lines ≡ (counted s).lines
 counted_lines s next bytes text sound answered = by_same (line_same (counted s) (counted s).lines (spoken_read bytes))
@@ -101,7 +102,7 @@ recap_turn s next c bytes text sound answered = elim (cases_lt s.cap c) [
       let two = heard_says (hear capped (spoken_read bytes)) in
       let one = turn_alike c s.cap two.text two.next (hear capped (spoken_read bytes)) (hear (with_cap capped s.cap) (spoken_read bytes))
       (line_alike (counted capped) s.cap upto (spoken_read bytes)) two.answer in
-      let cap_is = (turn_keeps canonical capped two.next bytes two.text (recapped_sound s c sound) two.answer).cap in
+      let cap_is = (turn_grows canonical capped two.next bytes two.text (recapped_sound s c sound) two.answer).cap in
       (two.text, two.answer ∙ ap (λ x. more two.text x) (capped_back c s two.next text one.said next (sym answered ∙ one.turn) cap_is))
 ]
 
@@ -192,7 +193,7 @@ module _ (names : List (List ℕ)) (m : Labelled) (good : IsLabelled m) (few : l
   leads_line : (k : ℕ) (s next : Following) (lines : List (List ℕ)) (bytes text : List ℕ) → is_past (k + 1) bytes ≡ false → Leads s.lines k s lines
       → follow_turn s bytes ≡ more text next → Leads next.lines (k + 1) next (with_line lines bytes)
   leads_line k s next lines bytes text short l answered =
-      let cap_is = (turn_keeps canonical s next bytes text (leads_sound s.lines k s lines l) answered).cap in
+      let cap_is = (turn_grows canonical s next bytes text (leads_sound s.lines k s lines l) answered).cap in
       record {
         long = line_long k lines bytes l.long;
         leads = ap (λ c. state_after follow_turn (begun_following c names m) 0 (with_line lines bytes)) cap_is
@@ -279,7 +280,7 @@ module _ (names : List (List ℕ)) (m : Labelled) (good : IsLabelled m) (few : l
       where
         by_heard : (heard : Heard) → marked_by canonical (trial_said s (is_replanning line) heard) t.marks ≡ more text next → IsLed (k + 1) next (counting c [])
         by_heard (says words later) is = after _ (record { now = s; marks = t.marks }) (counting c []) text next is still
-        by_heard (saves l names later) is = after _ (record { now = s; marks = t.marks }) (counting c []) text next is still
+        by_heard (saves how l names later) is = after _ (record { now = s; marks = t.marks }) (counting c []) text next is still
 
     pub line_counted : (text : List ℕ) (next : Marked) → marked_turn t bytes ≡ more text next
         → IsLed (k + 1) next (counting_after c (saying_read bytes) bytes)

@@ -1,6 +1,6 @@
 -- What lines make of the plan and of what has happened.
 use Rattle.std.proofs.Common.{ℕ, ℤ, ◌≡◌, ◌+◌, ◌<◌, ◌≤◌, Bool, true, false, List, [], ◌∷◌, ◌++◌, length, Option, Some, None, arith, refl, sym, subst, ap, ◌∙◌, inl, inr}
-use Rattle.std.specs.Prelude.{◌⊎◌, Result, Ok, Err, nat_lt, if◌then◌else◌, codes, decimal}
+use Rattle.std.specs.Prelude.{◌⊎◌, Result, Ok, Err, nat_lt, if◌then◌else◌, bytes_eq, codes, decimal}
 use Rattle.std.specs.Option.{option_map}
 use Rattle.std.proofs.lemmas.Bool.{false≢true}
 use Rattle.std.proofs.lemmas.List.Elements.{All-weaker}
@@ -12,13 +12,13 @@ use Rattle.cstn_net.specs.Networks.{Constraint}
 use Rattle.cstn_text.specs.Names.{number_of}
 use Rattle.cstn_text.specs.Numbers.{printed_value}
 use Rattle.cstn_text.specs.PrintedNames.{printed_name}
-use Rattle.cstn_change.specs.Changes.{EditedNetwork, Change, adds, removes, revalues, refusal, after}
-use Rattle.cstn_change.specs.Changes.{Refusal, NoRoom, NoSuch, ValueRange, NotPlain, NotObserved, EditLimit, UnknownEnd}
-use Rattle.cstn_change.specs.ChangeLines.{addition, refused_text, accepted_text}
+use Rattle.cstn_change.specs.Changes.{EditedNetwork, Change, adds, removes, revalues, refusal, edited_by}
+use Rattle.cstn_change.specs.Changes.{ChangeRefusal, NoRoom, NoSuch, ValueRange, NotPlain, NotObserved, EditLimit, UnknownEnd}
+use Rattle.cstn_change.specs.ChangeLines.{addition, refused_change_text, accepted_text}
 use Rattle.cstn_check.specs.declared.verdicts.Verdict.{Verdict}
 use Rattle.cstn_history.specs.Histories.{History}
 use Rattle.cstn_lines.specs.EditLines.{Edit, added, removed, changed, asked}
-use Rattle.cstn_lines.specs.FollowLines.{Follow, follow_read, done_at, came_at, now_at, awaited_at, edits, ends_by, asks_next, asks_by, asks_blame, asks_rest}
+use Rattle.cstn_lines.specs.FollowLines.{Follow, follow_read, done_at, came_at, now_at, awaited_at, ready_at, edits, ends_by, asks_next, asks_by, asks_blame, asks_rest}
 use Rattle.cstn_reply.specs.Texts.{line}
 use Rattle.cstn_reply.specs.Sessions.{Turn, more, last, wrong}
 use Rattle.cstn_reply.specs.Reached.{state_after}
@@ -27,8 +27,8 @@ use Rattle.cstn_save.specs.Canonical.{canonical}
 use Rattle.cstn_follow.specs.Following.{Following, Heard, says, saves, verdict_now, verdict_within, on_left_verdict, follows}
 use Rattle.cstn_follow.specs.PlanLines.{edited_network, replanned, on_refusal, on_edit, on_add, on_deadline}
 use Rattle.cstn_follow.specs.Replans.{with_due}
-use Rattle.cstn_follow.specs.Amending.{Amendment, forgives, amendment_read}
-use Rattle.cstn_follow.specs.Asking.{FurtherQuestion, asked_read, Spoken, of_line, of_question, of_amendment, amended_by, spoken_by, spoken_read}
+use Rattle.cstn_follow.specs.Amending.{Amendment, forgives, steps, amendment_read}
+use Rattle.cstn_follow.specs.Asking.{FurtherQuestion, asked_read, Spoken, of_line, of_question, of_amendment, asks_digest, amended_by, spoken_by, spoken_read}
 use Rattle.cstn_follow.specs.Forgiving.{broken_ids, after_removals}
 use Rattle.cstn_follow.specs.ForgivingLines.{forgiven_line}
 use Rattle.cstn_follow.specs.Hearing.{on_other, on_follow, counted, hear}
@@ -37,21 +37,21 @@ use Rattle.cstn_follow.specs.Turns.{heard_by}
 use Rattle.cstn_follow.proofs.Forgiven.{removed_is}
 use Rattle.cstn_follow.proofs.FurtherLines.{next_of, line_spoken, others_keep}
 use Rattle.cstn_follow.proofs.States.{IsSound, next_keeps, check_keeps, blame_keeps, by_keeps, next_sound}
-use Rattle.cstn_follow.proofs.Points.{turn_keeps}
 use Rattle.cstn_followed.specs.Sessions.{IsReached, follow_turn}
 use Rattle.cstn_followed.specs.Answers.{Accepts}
 use Rattle.cstn_followed.specs.Plans.{IsRefusedBy}
 use Rattle.cstn_followed.specs.Journal.{accepted_of, kept_unless_refused}
 use Rattle.cstn_follow.specs.Trials.{is_refusal}
-use Rattle.cstn_followed.specs.Edits.{change_if, change_said, after_if, IsAcceptedText, plan_told, plan_spoken, IsPlanByLines, IsHistoryTold, IsHistoryByLines, IsEditLine}
-use Rattle.cstn_followed.specs.Edits.{Edits, Forgives, IsNew}
+use Rattle.cstn_followed.specs.Edits.{change_if, change_said, after_if, IsAcceptedText, plan_told, plan_now, plan_spoken, IsPlanByLines, IsHistoryTold, IsEditLine}
+use Rattle.cstn_followed.specs.Edits.{Edits, Forgives, Steps, IsNew}
+use Rattle.cstn_followed.proofs.StepsTold.{step_answered}
 use Rattle.cstn_followed.proofs.Verdicts.{reached_sound, fact_accepted}
 use Rattle.cstn_followed.proofs.Refusals.{refusal_stays}
 use Rattle.cstn_followed.proofs.Journals.{accepted_more}
 
 -- ---- why an edit is refused
 
-refusal_why : (r : Refusal) → (why : List ℕ) × (line (refused_text r) ≡ line (codes "refused " ++ why))
+refusal_why : (r : ChangeRefusal) → (why : List ℕ) × (line (refused_change_text r) ≡ line (codes "refused " ++ why))
 refusal_why (NoRoom room) = (codes "S1 " ++ decimal room, refl)
 refusal_why (NoSuch id) = (codes "S2 " ++ decimal id, refl)
 refusal_why (ValueRange most) = (codes "S3 " ++ printed_value most, refl)
@@ -70,7 +70,7 @@ module _ (s : Following) where
   -- the edit is refused, or it is made
   abbrev Says : Follow → Heard → Type 0
   Says edit (says text next) = ((next ≡ s) × ((why : List ℕ) × (text ≡ line (codes "refused " ++ why)))) ⊎ Makes edit text next
-  Says edit (saves m names next) = ⊥
+  Says edit (saves how m names next) = ⊥
 
   follows_says : (edit : Follow) (next : Following) (text : List ℕ) → Makes edit text next → Says edit (follows s next (λ v. text))
   follows_says edit next text made = by_verdict (verdict_within next)
@@ -82,16 +82,16 @@ module _ (s : Following) where
   change_says : (edit : Edit) (change : Change) → change_said s.names edit ≡ Some change → Says (edits edit) (on_edit s (Ok change))
   change_says edit change is = by_refusal (refusal most_constraints (edited_network s) change)
     where
-      by_refusal : (o : Option Refusal) → Says (edits edit) (on_refusal s change o)
+      by_refusal : (o : Option ChangeRefusal) → Says (edits edit) (on_refusal s change o)
       by_refusal (Some why) = inl (refl, refusal_why why)
       by_refusal None =
-          follows_says (edits edit) (replanned s (after (edited_network s) change)) (line (accepted_text s.fresh change))
+          follows_says (edits edit) (replanned s (edited_by (edited_network s) change)) (line (accepted_text s.fresh change))
           (sym (ap (λ o. replanned s (after_if (edited_network s) o)) is), (change, is, refl))
 
   add_says : (from to : List ℕ) (most : ℤ) (a : Label) → Says (edits (added from to most a)) (on_add s from to most a)
   add_says from to most a = by_addition (addition s.names from to most a) refl
     where
-      by_addition : (r : Result Change Refusal) → addition s.names from to most a ≡ r → Says (edits (added from to most a)) (on_edit s r)
+      by_addition : (r : Result Change ChangeRefusal) → addition s.names from to most a ≡ r → Says (edits (added from to most a)) (on_edit s r)
       by_addition (Ok change) is = change_says (added from to most a) change (ap change_if is)
       by_addition (Err why) is = inl (refl, refusal_why why)
 
@@ -110,6 +110,7 @@ module _ (s : Following) where
   line_says (came_at t p value) is = absurd is
   line_says (now_at t) is = absurd is
   line_says (awaited_at t p) is = absurd is
+  line_says (ready_at t name) is = absurd is
   line_says asks_next is = absurd is
   line_says (asks_by name) is = absurd is
   line_says asks_blame is = absurd is
@@ -124,7 +125,7 @@ TurnSays s edit wrong = ⊥
 turn_says : (s : Following) (edit : Follow) (heard : Heard) → Says (counted s) edit heard → TurnSays s edit (heard_by canonical heard)
 turn_says s edit (says text next) (inl refused) = inl refused
 turn_says s edit (says text next) (inr made) = inr (record { next_is = made.0; text_is = made.1 })
-turn_says s edit (saves m names next) never = absurd never
+turn_says s edit (saves how m names next) never = absurd never
 
 pub edit_answered : (s next : Following) (bytes text : List ℕ) (edit : Follow) → follow_read bytes ≡ Some edit → IsEditLine edit
     → follow_turn s bytes ≡ more text next → IsRefusedBy s text next ⊎ Edits s edit text next
@@ -136,20 +137,19 @@ edit_answered s next bytes text edit reads is answered =
 
 -- what it makes of the plan, where it says this, and of what has happened, where it tells, edits or asks so
 pub record IsTold (s next : Following) (o : Option Follow) (said : Option Spoken) : Type 0 where
-  pub plan : edited_network next ≡ plan_spoken s.names s.network.labels (edited_network s) s.history said
-  pub labels : next.network.labels ≡ s.network.labels
+  pub plan : plan_now next ≡ plan_spoken (plan_now s) s.history said
   pub history : IsHistoryTold s.names s.history o next.history
   pub fresh : s.fresh ≤ next.fresh
 
 nothing_told : (s next : Following) (o : Option Follow) (said : Option Spoken)
-    → plan_spoken s.names s.network.labels (edited_network s) s.history said ≡ edited_network s → IsHistoryTold s.names s.history o s.history
+    → plan_spoken (plan_now s) s.history said ≡ plan_now s → IsHistoryTold s.names s.history o s.history
     → next ≡ counted s → IsTold s next o said
 nothing_told s next o said plan history same =
-    subst (λ (g : Following). IsTold s g o said) (sym same) (record { plan = sym plan; labels = refl; history = history; fresh = omega arith })
+    subst (λ (g : Following). IsTold s g o said) (sym same) (record { plan = sym plan; history = history; fresh = omega arith })
 
 none_said : (s next : Following) (line : Follow) → plan_told s.names (edited_network s) (Some line) ≡ edited_network s
     → IsHistoryTold s.names s.history (Some line) s.history → next ≡ counted s → IsTold s next (Some line) (Some (of_line line))
-none_said s next line = nothing_told s next (Some line) (Some (of_line line))
+none_said s next line plan = nothing_told s next (Some line) (Some (of_line line)) (ap (λ e. record (plan_now s) { network = e }) plan)
 
 fact_told : (s next : Following) (fact : Follow) (text : List ℕ) → plan_told s.names (edited_network s) (Some fact) ≡ edited_network s
     → ((h : History) → IsRecorded s.names s.history fact h → IsHistoryTold s.names s.history (Some fact) h) → is_refusal text ≡ false
@@ -157,7 +157,7 @@ fact_told : (s next : Following) (fact : Follow) (text : List ℕ) → plan_told
 fact_told s next fact text plan history fine (inl refused) = absurd (false≢true (sym fine ∙ ap is_refusal refused.1.1))
 fact_told s next fact text plan history fine (inr accepts) =
     subst (λ (g : Following). IsTold s g (Some fact) (Some (of_line fact))) (sym accepts.next_is)
-    (record { plan = sym plan; labels = refl; history = history accepts.later accepts.recorded; fresh = omega arith })
+    (record { plan = sym (ap (λ e. record (plan_now s) { network = e }) plan); history = history accepts.later accepts.recorded; fresh = omega arith })
 
 -- an id above all that were used stays above them
 fresh_after_if : (e : EditedNetwork) (o : Option Change) → e.fresh ≤ (after_if e o).fresh
@@ -173,6 +173,7 @@ fresh_told names e (done_at t given) is = absurd is
 fresh_told names e (came_at t p value) is = absurd is
 fresh_told names e (now_at t) is = absurd is
 fresh_told names e (awaited_at t p) is = absurd is
+fresh_told names e (ready_at t name) is = absurd is
 fresh_told names e asks_next is = absurd is
 fresh_told names e (asks_by name) is = absurd is
 fresh_told names e asks_blame is = absurd is
@@ -183,7 +184,6 @@ edit_told : (s next : Following) (edit : Follow) (text : List ℕ) → IsEditLin
 edit_told s next edit text is history fine (inl refused) = absurd (false≢true (sym fine ∙ ap is_refusal refused.1.1))
 edit_told s next edit text is history fine (inr made) = subst (λ (g : Following). IsTold s g (Some edit) (Some (of_line edit))) (sym made.next_is) (record {
   plan = refl;
-  labels = refl;
   history = history s.history refl;
   fresh = fresh_told s.names (edited_network s) edit is;
 })
@@ -196,7 +196,7 @@ TurnLeads s wrong = ⊥
 
 heard_leads : (s : Following) (heard : Heard) → next_of heard ≡ s → TurnLeads s (heard_by canonical heard)
 heard_leads s (says text next) same = same
-heard_leads s (saves m names next) same = same
+heard_leads s (saves how m names next) same = same
 
 -- a question changes nothing
 kept_by : (s next : Following) (bytes text : List ℕ) → next_of (hear s (spoken_read bytes)) ≡ counted s
@@ -220,7 +220,7 @@ TurnForgives s (last said) = ⊥
 TurnForgives s wrong = ⊥
 
 forgive_says : (s : Following) (b : Bool) → nat_lt most_edits (s.edits + length (broken_ids s.network s.history)) ≡ b
-    → TurnForgives s (heard_by canonical (if b then says (line (refused_text EditLimit)) (counted s)
+    → TurnForgives s (heard_by canonical (if b then says (line (refused_change_text EditLimit)) (counted s)
     else says (forgiven_line (broken_ids s.network s.history)) (replanned (counted s) (after_removals (edited_network s) (broken_ids s.network s.history)))))
 forgive_says s true many = inl (refl, (codes "S6", refl))
 forgive_says s false few = inr (record { few = upto_most (s.edits + length (broken_ids s.network s.history)) few; next_is = refl; text_is = refl })
@@ -236,12 +236,18 @@ forgive_told : (s next : Following) (text : List ℕ) → is_refusal text ≡ fa
 forgive_told s next text fine (inl refused) = absurd (false≢true (sym fine ∙ ap is_refusal refused.1.1))
 forgive_told s next text fine (inr made) = subst (λ (g : Following). IsTold s g None (Some (of_amendment forgives))) (sym made.next_is) (record {
   plan = refl;
-  labels = refl;
   history = refl;
   fresh =
       let same = ap (λ (e : EditedNetwork). e.fresh) (removed_is (edited_network s) (broken_ids s.network s.history)) in
       omega arith;
 })
+
+step_told : (s next : Following) (name text : List ℕ) → is_refusal text ≡ false → IsRefusedBy s text next ⊎ Steps s name text next
+    → IsTold s next None (Some (of_amendment (steps name)))
+step_told s next name text fine (inl refused) = absurd (false≢true (sym fine ∙ ap is_refusal refused.1.1))
+step_told s next name text fine (inr made) =
+    subst (λ (g : Following). IsTold s g None (Some (of_amendment (steps name)))) (sym made.next_is)
+    (record { plan = refl; history = refl; fresh = omega arith })
 
 -- a line that tells, edits or asks nothing amends the plan, or asks further
 amended_told : (s next : Following) (bytes text : List ℕ) → follow_read bytes ≡ None → follow_turn s bytes ≡ more text next → is_refusal text ≡ false
@@ -253,11 +259,19 @@ amended_told s next bytes text reads answered fine = by_amendment (amendment_rea
     by_question none (Some question) =
         nothing_told s next None (Some (of_question question)) refl refl (kept_by s next bytes text (others_keep (counted s) bytes reads none) answered)
 
+    by_digest : amendment_read bytes ≡ None → (b : Bool) → IsTold s next None (if b then Some asks_digest else option_map of_question (asked_read bytes))
+    by_digest none true =
+        nothing_told s next None (Some asks_digest) refl refl (kept_by s next bytes text (others_keep (counted s) bytes reads none) answered)
+    by_digest none false = by_question none (asked_read bytes)
+
     by_amendment : (o : Option Amendment) → amendment_read bytes ≡ o → IsTold s next None (amended_by o bytes)
-    by_amendment None is = by_question is (asked_read bytes)
+    by_amendment None is = by_digest is (bytes_eq bytes (codes "digest"))
     by_amendment (Some forgives) is =
         let spoken = ap (λ f. spoken_by f bytes) reads ∙ ap (λ o. amended_by o bytes) is in
         forgive_told s next text fine (forgive_answered s next bytes text spoken answered)
+    by_amendment (Some (steps name)) is =
+        let spoken = ap (λ f. spoken_by f bytes) reads ∙ ap (λ o. amended_by o bytes) is in
+        step_told s next name text fine (step_answered s next bytes text name spoken answered)
 
 pub line_told : (s next : Following) (bytes text : List ℕ) → IsSound s → (o : Option Follow) → follow_read bytes ≡ o → follow_turn s bytes ≡ more text next
     → is_refusal text ≡ false → IsTold s next o (spoken_by o bytes)
@@ -270,6 +284,8 @@ line_told s next bytes text sound (Some (now_at t)) reads answered fine =
     fact_told s next (now_at t) text refl (λ h is. is) fine (fact_accepted s next bytes text (now_at t) sound reads tt answered)
 line_told s next bytes text sound (Some (awaited_at t p)) reads answered fine =
     fact_told s next (awaited_at t p) text refl (λ h is. is) fine (fact_accepted s next bytes text (awaited_at t p) sound reads tt answered)
+line_told s next bytes text sound (Some (ready_at t name)) reads answered fine =
+    fact_told s next (ready_at t name) text refl (λ h is. is) fine (fact_accepted s next bytes text (ready_at t name) sound reads tt answered)
 line_told s next bytes text sound (Some (edits (added from to most a))) reads answered fine =
     edit_told s next (edits (added from to most a)) text tt (λ h is. is) fine (edit_answered s next bytes text (edits (added from to most a)) reads tt answered)
 line_told s next bytes text sound (Some (edits (removed id))) reads answered fine =
@@ -295,21 +311,16 @@ line_told s next bytes text sound (Some asks_rest) reads answered fine =
 
 -- what the accepted lines make of the plan and of what has happened
 pub record AreTold (s g : Following) (lines : List (List ℕ)) : Type 0 where
-  pub plan : IsPlanByLines s.names s.network.labels (edited_network s) s.history (accepted_of s lines) (edited_network g)
-  pub labels : g.network.labels ≡ s.network.labels
-  pub history : IsHistoryByLines s.names s.history (accepted_of s lines) g.history
+  pub plan : IsPlanByLines (plan_now s) s.history (accepted_of s lines) (plan_now g) g.history
   pub fresh : s.fresh ≤ g.fresh
 
 none_told : (s g : Following) → s ≡ g → AreTold s g []
-none_told s g same = subst (λ (x : Following). AreTold s x []) same (record { plan = refl; labels = refl; history = refl; fresh = omega arith })
+none_told s g same = subst (λ (x : Following). AreTold s x []) same (record { plan = (refl, refl); fresh = omega arith })
 
 told_more : (s g : Following) (k : ℕ) (first : List ℕ) (lines : List (List ℕ)) → IsSound s → (l : FirstLeads follow_turn s g k first lines)
     → AreTold l.next g lines → AreTold s g (first ∷ lines)
 told_more s g k first lines sound l rest = by_refusal (is_refusal l.text) refl
   where
-    names_are : l.next.names ≡ s.names
-    names_are = (turn_keeps canonical s l.next first l.text sound l.answer).names
-
     accepted_is : accepted_of s (first ∷ lines) ≡ kept_unless_refused (is_refusal l.text) first (accepted_of l.next lines)
     accepted_is = accepted_more s l.next first l.text lines l.answer
 
@@ -317,33 +328,21 @@ told_more s g k first lines sound l rest = by_refusal (is_refusal l.text) refl
     by_refusal true refused =
         let gone = accepted_is ∙ ap (λ b. kept_unless_refused b first (accepted_of l.next lines)) refused in
         let same = refusal_stays s l.next first l.text sound l.answer refused in
-        let history_same : l.next.history ≡ s.history = ap (λ (x : Following). x.history) same in
         let fresh_same : l.next.fresh ≡ s.fresh = ap (λ (x : Following). x.fresh) same in
         record {
-          plan = subst (λ ls. IsPlanByLines s.names s.network.labels (edited_network s) s.history ls (edited_network g)) (sym gone)
-              (subst (λ (x : Following). IsPlanByLines x.names x.network.labels (edited_network x) x.history (accepted_of l.next lines) (edited_network g))
-              same rest.plan);
-          labels = rest.labels ∙ ap (λ (x : Following). x.network.labels) same;
-          history = subst (λ ls. IsHistoryByLines s.names s.history ls g.history) (sym gone)
-              (subst (λ h. IsHistoryByLines s.names h (accepted_of l.next lines) g.history) history_same
-              (subst (λ ns. IsHistoryByLines ns l.next.history (accepted_of l.next lines) g.history) names_are rest.history));
+          plan = subst (λ ls. IsPlanByLines (plan_now s) s.history ls (plan_now g) g.history) (sym gone)
+              (subst (λ (x : Following). IsPlanByLines (plan_now x) x.history (accepted_of l.next lines) (plan_now g) g.history) same rest.plan);
           fresh = (let more_fresh = rest.fresh in omega arith);
         }
     by_refusal false fine =
         let kept = accepted_is ∙ ap (λ b. kept_unless_refused b first (accepted_of l.next lines)) fine in
         let one = line_told s l.next first l.text sound (follow_read first) refl l.answer fine in
         record {
-          plan = subst (λ ls. IsPlanByLines s.names s.network.labels (edited_network s) s.history ls (edited_network g)) (sym kept) (
+          plan = subst (λ ls. IsPlanByLines (plan_now s) s.history ls (plan_now g) g.history) (sym kept) (
             l.next.history,
             one.history,
-            subst (λ (e : EditedNetwork). IsPlanByLines s.names s.network.labels e l.next.history (accepted_of l.next lines) (edited_network g)) one.plan
-                (subst (λ ls. IsPlanByLines s.names ls (edited_network l.next) l.next.history (accepted_of l.next lines) (edited_network g)) one.labels
-                (subst (λ ns. IsPlanByLines ns l.next.network.labels (edited_network l.next) l.next.history (accepted_of l.next lines) (edited_network g))
-                names_are rest.plan)),
+            subst (λ p. IsPlanByLines p l.next.history (accepted_of l.next lines) (plan_now g) g.history) one.plan rest.plan,
           );
-          labels = rest.labels ∙ one.labels;
-          history = subst (λ ls. IsHistoryByLines s.names s.history ls g.history) (sym kept)
-              (l.next.history, one.history, subst (λ ns. IsHistoryByLines ns l.next.history (accepted_of l.next lines) g.history) names_are rest.history);
           fresh = (let more_fresh = rest.fresh in let here = one.fresh in omega arith);
         }
 

@@ -20,7 +20,7 @@ use Rattle.cstn_history.proofs.Places.{sees_left, sees_back, left_coming, left_w
 use Rattle.cstn_history.proofs.Settled.{some_or_none, as_told, told_agrees, holds_allows, allows_true, allows_back}
 use Rattle.cstn_net.proofs.Knowledge.{observer_within}
 use Rattle.cstn_next.specs.Next.{IsAllDone}
-use Rattle.cstn_lines.specs.FollowLines.{Follow, follow_read, done_at, came_at, now_at, awaited_at, edits, ends_by, asks_next, asks_by, asks_blame, asks_rest}
+use Rattle.cstn_lines.specs.FollowLines.{Follow, follow_read, done_at, came_at, now_at, awaited_at, ready_at, edits, ends_by, asks_next, asks_by, asks_blame, asks_rest}
 use Rattle.cstn_reply.specs.Sessions.{more}
 use Rattle.cstn_reply.specs.Texts.{say}
 use Rattle.cstn_reply.specs.declared.output.Outcome.TheVariants.{Good, Unfinished}
@@ -235,6 +235,7 @@ keeps_past s (Some (done_at t given)) keeps = tt
 keeps_past s (Some (came_at t p v)) keeps = tt
 keeps_past s (Some (now_at t)) keeps = tt
 keeps_past s (Some (awaited_at t p)) keeps = absurd keeps
+keeps_past s (Some (ready_at t name)) keeps = absurd keeps
 keeps_past s (Some (edits edit)) keeps = absurd keeps
 keeps_past s (Some (ends_by deadline)) keeps = absurd keeps
 keeps_past s (Some asks_next) keeps = absurd keeps

@@ -21,7 +21,7 @@ use Rattle.cstn_history.specs.Facts.{FactRefusal, OutOfRange, is_beyond, now_ref
 use Rattle.cstn_history.proofs.Followed.{step_is_done}
 use Rattle.cstn_history.proofs.NextMoment.{quiet_upto}
 use Rattle.cstn_history.proofs.Recorded.{put_there, put_other, timely_done}
-use Rattle.cstn_lines.specs.FollowLines.{Follow, follow_read, IsFollow, done_at, came_at, now_at, awaited_at, edits, ends_by, asks_next, asks_by, asks_blame}
+use Rattle.cstn_lines.specs.FollowLines.{Follow, follow_read, IsFollow, done_at, came_at, now_at, awaited_at, ready_at, edits, ends_by, asks_next, asks_by, asks_blame}
 use Rattle.cstn_lines.specs.FollowLines.{asks_rest}
 use Rattle.cstn_lines.proofs.FollowLemmas.{follow_is}
 use Rattle.cstn_reply.specs.Texts.{line, full_line}
@@ -98,7 +98,7 @@ all_named_done m h g t xs good timely room can quiet named is =
 abbrev Answer : Following → Heard → Type 0
 Answer s (says text next) =
     (((next ≡ s) × ((why : List ℕ) × (text ≡ line (codes "refused " ++ why)))) ⊎ (IsYesLine text ⊎ (text ≡ full_line s.cap))) × Can next.network next.history
-Answer s (saves m names next) = ⊥
+Answer s (saves how m names next) = ⊥
 
 module _ (s : Following) (sound : IsSound s) (can : Can s.network s.history) where
   room : HasRoomLeft s.network s.history
@@ -160,6 +160,7 @@ line_goes s (done_at t given) sound can is keeps = did_goes s sound can t given 
 line_goes s (came_at t p v) sound can is keeps = saw_goes s sound can t (record { index = p; in_range = is.1 }) v keeps
 line_goes s (now_at t) sound can is keeps = now_goes s sound can t keeps
 line_goes s (awaited_at t p) sound can is keeps = absurd keeps
+line_goes s (ready_at t name) sound can is keeps = absurd keeps
 line_goes s (edits edit) sound can is keeps = absurd keeps
 line_goes s (ends_by deadline) sound can is keeps = absurd keeps
 line_goes s asks_next sound can is keeps = absurd keeps
@@ -174,6 +175,7 @@ counted_keeps s (Some (came_at t p v)) keeps = keeps
 counted_keeps s (Some (now_at t)) keeps = keeps
 counted_keeps s None keeps = absurd keeps
 counted_keeps s (Some (awaited_at t p)) keeps = absurd keeps
+counted_keeps s (Some (ready_at t name)) keeps = absurd keeps
 counted_keeps s (Some (edits edit)) keeps = absurd keeps
 counted_keeps s (Some (ends_by deadline)) keeps = absurd keeps
 counted_keeps s (Some asks_next) keeps = absurd keeps
@@ -184,7 +186,7 @@ counted_keeps s (Some asks_rest) keeps = absurd keeps
 turn_goes : (s : Following) (bytes : List ℕ) (heard : Heard) → hear s (spoken_read bytes) ≡ heard → Answer (counted s) heard
     → (next : Following) × KeepsGoing s bytes next
 turn_goes s bytes (says text next) is answer = (next, record { text = text; answer = ap (heard_by canonical) is; said = answer.0; can = answer.1 })
-turn_goes s bytes (saves m names next) is answer = absurd answer
+turn_goes s bytes (saves how m names next) is answer = absurd answer
 
 pub one_goes : (s : Following) (bytes : List ℕ) → IsSound s → Can s.network s.history → KeepsToNext s (follow_read bytes)
     → (next : Following) × KeepsGoing s bytes next

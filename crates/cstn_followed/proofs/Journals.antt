@@ -11,6 +11,7 @@ use Rattle.cstn_reply.proofs.Sessions.{FirstLeads, first_leads, state_more}
 use Rattle.cstn_save.specs.Canonical.{canonical}
 use Rattle.cstn_follow.specs.Following.{Following, Heard, says, saves}
 use Rattle.cstn_follow.specs.Asking.{spoken_read}
+use Rattle.cstn_follow.specs.Digests.{shown}
 use Rattle.cstn_follow.specs.Hearing.{counted, on_line}
 use Rattle.cstn_follow.specs.Turns.{heard_by}
 use Rattle.cstn_follow.proofs.States.{IsSound, next_sound}
@@ -40,8 +41,8 @@ module _ (s next : Following) (n : ℕ) (bytes text : List ℕ) (answered : foll
       let same_words : words ≡ text = cc in
       let same_later : later ≡ next = cc in
       ap (λ w. more w (with_count later count')) same_words ∙ ap (λ l. more text (with_count l count')) same_later
-  by_heard (saves m names later) is =
-      let same_words : canonical m names ≡ text = cc in
+  by_heard (saves how m names later) is =
+      let same_words : shown how (canonical m names) ≡ text = cc in
       let same_later : later ≡ next = cc in
       ap (λ w. more w (with_count later count')) same_words ∙ ap (λ l. more text (with_count l count')) same_later
 
@@ -49,7 +50,7 @@ module _ (s next : Following) (n : ℕ) (bytes text : List ℕ) (answered : foll
   never (says words later) is refused =
       let same_words : words ≡ text = cc in
       false≢true (sym accepted ∙ ap is_refusal (sym same_words) ∙ refused)
-  never (saves m names later) is refused = refused
+  never (saves how m names later) is refused = refused
 
   pub same_turn : follow_turn (with_count s n) bytes ≡ more text (with_count next count')
   same_turn = by_same (line_same (counted s) count' (spoken_read bytes))

@@ -18,6 +18,7 @@ pub mod Capped
 pub mod Ordered
 pub mod Ending
 -- What edits make of the plan.
+mod StepsTold
 pub mod EditLines
 mod Forgave
 -- Sessions with marks.

@@ -8,7 +8,7 @@ use Rattle.std.proofs.lemmas.List.Elements.{All-head, All-tail}
 use Rattle.std.proofs.lemmas.Option.{same_Some}
 use Rattle.cstn_text.specs.Names.{number_of}
 use Rattle.cstn_history.specs.Histories.{History}
-use Rattle.cstn_lines.specs.FollowLines.{Follow, follow_read, done_at, came_at, now_at, awaited_at, edits, ends_by, asks_next, asks_by, asks_blame, asks_rest}
+use Rattle.cstn_lines.specs.FollowLines.{Follow, follow_read, done_at, came_at, now_at, awaited_at, ready_at, edits, ends_by, asks_next, asks_by, asks_blame, asks_rest}
 use Rattle.cstn_reply.specs.Sessions.{more}
 use Rattle.cstn_reply.specs.Reached.{state_after}
 use Rattle.cstn_reply.proofs.Sessions.{first_leads}
@@ -35,6 +35,7 @@ IsLineOf names h o later =
     × ((x t : ℕ) → (later.done x ≡ Some t) ↔ ((h.done x ≡ Some t) ⊎ TellsDone names x t o))
     × ((p : ℕ) (v : Bool) → (later.told p ≡ Some v) ↔ ((h.told p ≡ Some v) ⊎ TellsOutcome p v o))
     × (later.expected ≡ h.expected)
+    × (later.ready ≡ h.ready)
 
 -- x is the number of one of these names, or of none
 abbrev IsGiven : List (List ℕ) → List (List ℕ) → ℕ → Type 0
@@ -68,7 +69,7 @@ module _ (names : List (List ℕ)) (h later : History) where
   )
 
   done_line : (t : ℕ) (given : List (List ℕ)) → AreDone names h t given later → IsLineOf names h (Some (done_at t given)) later
-  done_line t given is = (is.now, (λ x u. (done_then x u, done_back x u)), (λ p v. unchanged h.told later.told is.told p v), is.expected)
+  done_line t given is = (is.now, (λ x u. (done_then x u, done_back x u)), (λ p v. unchanged h.told later.told is.told p v), is.expected, is.ready)
     where
       done_then : (x u : ℕ) → later.done x ≡ Some u → (h.done x ≡ Some u) ⊎ TellsDone names x u (Some (done_at t given))
       done_then x u at = elim (given_or_not names given x) [
@@ -93,7 +94,7 @@ module _ (names : List (List ℕ)) (h later : History) where
           subst (λ y. later.done y ≡ Some t) same d.3 ∙ ap (λ (n : ℕ). Some n) g.0
 
   came_line : (t p : ℕ) (value : Bool) → HasCome h t p value later → IsLineOf names h (Some (came_at t p value)) later
-  came_line t p value is = (is.now, (λ x u. unchanged h.done later.done is.done x u), (λ q v. (told_then q v, told_back q v)), is.expected)
+  came_line t p value is = (is.now, (λ x u. unchanged h.done later.done is.done x u), (λ q v. (told_then q v, told_back q v)), is.expected, is.ready)
     where
       told_then : (q : ℕ) (v : Bool) → later.told q ≡ Some v → (h.told q ≡ Some v) ⊎ TellsOutcome q v (Some (came_at t p value))
       told_then q v at = elim (cases_eq q p) [
@@ -116,6 +117,7 @@ module _ (names : List (List ℕ)) (h later : History) where
     (λ x u. unchanged h.done later.done is.done x u),
     (λ p v. unchanged h.told later.told is.told p v),
     is.expected,
+    is.ready,
   )
 
   fact_line : (fact : Follow) → TellsPast (Some fact) → IsRecorded names h fact later → IsLineOf names h (Some fact) later
@@ -123,6 +125,7 @@ module _ (names : List (List ℕ)) (h later : History) where
   fact_line (came_at t p value) tells is = came_line t p value is
   fact_line (now_at t) tells is = passed_line t is
   fact_line (awaited_at t p) tells is = absurd tells
+  fact_line (ready_at t name) tells is = absurd tells
   fact_line (edits edit) tells is = absurd tells
   fact_line (ends_by deadline) tells is = absurd tells
   fact_line asks_next tells is = absurd tells
@@ -135,6 +138,7 @@ past_is_fact (done_at t given) tells = tt
 past_is_fact (came_at t p value) tells = tt
 past_is_fact (now_at t) tells = tt
 past_is_fact (awaited_at t p) tells = absurd tells
+past_is_fact (ready_at t name) tells = absurd tells
 past_is_fact (edits edit) tells = absurd tells
 past_is_fact (ends_by deadline) tells = absurd tells
 past_is_fact asks_next tells = absurd tells
@@ -175,6 +179,7 @@ module _ (names : List (List ℕ)) where
     done = λ x t. ((λ is. inl is), (λ either. elim either [ inl is ↦ is | inr never ↦ absurd never ]));
     told = λ p v. ((λ is. inl is), (λ either. elim either [ inl is ↦ is | inr never ↦ absurd never ]));
     expected = refl;
+    ready = refl;
   }
 
   -- what a first line and then others tell
@@ -197,7 +202,14 @@ module _ (names : List (List ℕ)) where
     done = λ x t. through (one.1 x t) (rest.done x t);
     told = λ p v. through (one.2 p v) (rest.told p v);
     expected = rest.expected ∙ one.3;
+    ready = rest.ready ∙ one.4;
   }
+
+-- a line that tells what has happened keeps the names
+past_names : (s next : Following) (bytes text : List ℕ) → IsSound s → (o : Option Follow) → follow_read bytes ≡ o → TellsPast o
+    → follow_turn s bytes ≡ more text next → next.names ≡ s.names
+past_names s next bytes text sound None reads tells answered = absurd tells
+past_names s next bytes text sound (Some line) reads tells answered = (turn_keeps canonical s next bytes text line sound reads answered).names
 
 pub lines_tell : (s g : Following) (k : ℕ) (lines : List (List ℕ)) → IsSound s → AllTellPast lines → AreAccepted s lines
     → state_after follow_turn s k lines ≡ Some g → IsHistoryOf s.names s.history lines g.history
@@ -211,7 +223,7 @@ lines_tell s g k (first ∷ lines) sound tell accepted is =
     let rest = lines_tell l.next g (k + 1) lines (next_sound canonical s l.next first l.text sound l.answer)
     (All-tail (λ line. TellsPast (follow_read line)) first lines tell) (All-tail (λ text. is_refusal text ≡ false) l.text (texts_of l.next lines) fine) l.rest in
     and_more s.names s.history l.next.history g.history first lines one.1
-    (subst (λ ns. IsHistoryOf ns l.next.history lines g.history) (turn_keeps canonical s l.next first l.text sound l.answer).names rest)
+    (subst (λ ns. IsHistoryOf ns l.next.history lines g.history) (past_names s l.next first l.text sound (follow_read first) refl (All-head (λ line. TellsPast (follow_read line)) first lines tell) l.answer) rest)
 
 -- ---- in whichever order
 
@@ -243,13 +255,15 @@ module _ (names : List (List ℕ)) (h one two : History) (lines others : List (L
   same_now : one.now ≡ two.now
   same_now = a.now ∙ ap (max h.now) same.latest ∙ sym b.now
 
-  abbrev made : ℕ → (ℕ → Option ℕ) → (ℕ → Option Bool) → (ℕ → Option ℕ) → History
-  made now done told expected = record { now = now; done = done; told = told; expected = expected }
+  abbrev made : ℕ → (ℕ → Option ℕ) → (ℕ → Option Bool) → (ℕ → Option ℕ) → (ℕ → ℕ) → History
+  made now done told expected ready = record { now = now; done = done; told = told; expected = expected; ready = ready }
 
   pub same_histories : one ≡ two
   same_histories =
-      ap (λ n. made n one.done one.told one.expected) same_now ∙ ap (λ f. made two.now f one.told one.expected) same_done
-      ∙ ap (λ f. made two.now two.done f one.expected) same_told ∙ ap (made two.now two.done two.told) (a.expected ∙ sym b.expected)
+      ap (λ n. made n one.done one.told one.expected one.ready) same_now ∙ ap (λ f. made two.now f one.told one.expected one.ready) same_done
+      ∙ ap (λ f. made two.now two.done f one.expected one.ready) same_told
+      ∙ ap (λ f. made two.now two.done two.told f one.ready) (a.expected ∙ sym b.expected)
+      ∙ ap (made two.now two.done two.told two.expected) (a.ready ∙ sym b.ready)
 
 pub one_history : (s one two : Following) (lines others : List (List ℕ)) → IsSound s → AllTellPast lines → AllTellPast others
     → AreAccepted s lines → AreAccepted s others → TellTheSame s.names lines others → state_after follow_turn s 0 lines ≡ Some one

@@ -1,15 +1,31 @@
 -- A session that is led back to a mark is as it was there, but for the count of lines.
-use Rattle.std.proofs.Common.{ℕ, suc, ◌≡◌, ◌+◌, ◌<◌, ◌≤◌, Bool, true, false, List, [], ◌∷◌, ◌++◌, length, Option, Some, None, arith, refl, sym, subst, ap, ◌∙◌, inl, inr}
-use Rattle.std.specs.Prelude.{not, ◌&&◌, nat_lt, if◌then◌else◌, codes, decimal}
+use Rattle.std.proofs.Common.{ℕ, suc, ◌≡◌, ◌+◌, ◌<◌, ◌≤◌, Bool, true, false, List, [], ◌∷◌, ◌++◌, length, Option, Some, None, arith, refl, sym, subst, ap, ◌∙◌}
+use Rattle.std.specs.Prelude.{nat_lt, if◌then◌else◌, codes, decimal, Result, Ok, Err}
+use Rattle.cstn_net.specs.Limits.{most_constraints, most_deadline, most_edits}
+use Rattle.cstn_change.specs.Changes.{Change, removes, revalues, ChangeRefusal, EditLimit, refusal, edited_by}
+use Rattle.cstn_change.specs.ChangeLines.{addition, accepted_text, refused_change_text}
+use Rattle.cstn_lines.specs.EditLines.{added, removed, changed, asked}
+use Rattle.cstn_lines.specs.FollowLines.{Follow, done_at, came_at, now_at, awaited_at, ready_at, edits, ends_by, asks_next, asks_by, asks_blame, asks_rest}
+use Rattle.cstn_check.specs.declared.verdicts.Verdict.{Verdict}
+use Rattle.cstn_reply.specs.Texts.{line}
 use Rattle.cstn_reply.specs.Sessions.{Turn, more}
 use Rattle.cstn_reply.specs.Reached.{state_after}
 use Rattle.cstn_reply.proofs.Sessions.{first_leads, state_more, plus_none, one_more}
 use Rattle.cstn_save.specs.Canonical.{canonical}
-use Rattle.cstn_follow.specs.Asking.{Spoken, spoken_read}
-use Rattle.cstn_follow.specs.Following.{Following, Heard, says, saves, verdict_now, verdict_line}
-use Rattle.cstn_follow.specs.Hearing.{counted, hear}
+use Rattle.cstn_text.specs.Names.{number_of}
+use Rattle.cstn_text.specs.PrintedNames.{printed_name}
+use Rattle.cstn_follow.specs.Amending.{forgives, steps}
+use Rattle.cstn_follow.specs.Asking.{Spoken, of_line, of_question, of_amendment, asks_digest, spoken_read}
+use Rattle.cstn_follow.specs.Following.{Following, Heard, says, saves, verdict_within, on_left_verdict, verdict_now, verdict_line}
+use Rattle.cstn_follow.specs.Digests.{shown}
+use Rattle.cstn_follow.specs.Forgiving.{broken_ids, after_removals}
+use Rattle.cstn_follow.specs.ForgivingLines.{forgiven_line}
+use Rattle.cstn_follow.specs.Hearing.{counted, hear, on_other, on_follow}
+use Rattle.cstn_follow.specs.PlanLines.{edited_network, replanned, on_refusal, on_edit, on_deadline}
+use Rattle.cstn_follow.specs.Replans.{with_due}
+use Rattle.cstn_follow.specs.StepLines.{with_step, step_refusal, step_unless}
 use Rattle.cstn_follow.specs.Marks.{Saying, of_triable, tries, sets_mark, goes_back, Marked, MarkedHeard, most_marks, saying_by, saying_read, on_back, on_saying, hear_marked, marked_by}
-use Rattle.cstn_follow.specs.Trials.{Triable, of_spoken, sets_cap, triable_by, is_replanning, is_refusal, on_triable, trial_said, on_try}
+use Rattle.cstn_follow.specs.Trials.{Triable, of_spoken, sets_cap, triable_by, is_plan_line, is_replanning, on_triable, trial_text, trial_said, on_try}
 use Rattle.cstn_follow.specs.Turns.{heard_by}
 use Rattle.cstn_followed.specs.Journal.{with_count, AreSameButCount}
 use Rattle.cstn_followed.specs.Marked.{marked_turn, SetsNoMark, ArePaired, IsTried}
@@ -117,39 +133,97 @@ back_leads_back n k between t g paired fits is =
 
 -- ---- tries
 
+-- what is said to a line that edits is a text
+module _ (s : Following) where
+  abbrev IsText : Heard → Type 0
+  IsText (says text next) = Unit {0}
+  IsText (saves how m names next) = ⊥
+
+  left_text : (next : Following) (text : Verdict → List ℕ) (v : Option Verdict) → IsText (on_left_verdict s next text v)
+  left_text next text None = tt
+  left_text next text (Some v) = tt
+
+  refusal_text : (change : Change) (why : Option ChangeRefusal) → IsText (on_refusal s change why)
+  refusal_text change None =
+      let e = replanned s (edited_by (edited_network s) change) in
+      left_text e (λ v. line (accepted_text s.fresh change)) (verdict_within e)
+  refusal_text change (Some why) = tt
+
+  edit_text : (change : Result Change ChangeRefusal) → IsText (on_edit s change)
+  edit_text (Ok change) = refusal_text change (refusal most_constraints (edited_network s) change)
+  edit_text (Err why) = tt
+
+  due_text : (deadline : ℕ) (late : Bool) → IsText (if late then on_other s else on_deadline s deadline)
+  due_text deadline true = tt
+  due_text deadline false =
+      let e = replanned s (with_due (edited_network s) deadline) in
+      left_text e (λ v. line (codes "deadline " ++ decimal deadline)) (verdict_within e)
+
+  forgiving_text : (ids : List ℕ) (many : Bool)
+      → IsText (if many then says (line (refused_change_text EditLimit)) s else says (forgiven_line ids) (replanned s (after_removals (edited_network s) ids)))
+  forgiving_text ids true = tt
+  forgiving_text ids false = tt
+
+  step_text : (name : List ℕ) (why : Option (List ℕ)) → IsText (step_unless s name why)
+  step_text name None = let next = with_step s name in left_text next (λ v. line (codes "step " ++ printed_name name)) (verdict_within next)
+  step_text name (Some why) = tt
+
+  plan_text : (told : Follow) → is_plan_line told ≡ true → IsText (on_follow s told)
+  plan_text (edits (added from to most a)) is = edit_text (addition s.names from to most a)
+  plan_text (edits (removed id)) is = edit_text (Ok (removes id))
+  plan_text (edits (changed id most)) is = edit_text (Ok (revalues id most))
+  plan_text (edits asked) is = absurd (cc)
+  plan_text (ends_by deadline) is = due_text deadline (nat_lt most_deadline deadline)
+  plan_text (done_at t names) is = absurd (cc)
+  plan_text (came_at t p v) is = absurd (cc)
+  plan_text (now_at t) is = absurd (cc)
+  plan_text (awaited_at t p) is = absurd (cc)
+  plan_text (ready_at t name) is = absurd (cc)
+  plan_text asks_next is = absurd (cc)
+  plan_text (asks_by name) is = absurd (cc)
+  plan_text asks_blame is = absurd (cc)
+  plan_text asks_rest is = absurd (cc)
+
+  replanning_text : (line' : Triable) → is_replanning line' ≡ true → IsText (on_triable s line')
+  replanning_text (of_spoken (of_line told)) is = plan_text told is
+  replanning_text (of_spoken (of_question question)) is = absurd (cc)
+  replanning_text (of_spoken (of_amendment forgives)) is =
+      let ids = broken_ids s.network s.history in
+      forgiving_text ids (nat_lt most_edits (s.edits + length ids))
+  replanning_text (of_spoken (of_amendment (steps name))) is = step_text name (step_refusal s name (number_of s.names name))
+  replanning_text (of_spoken asks_digest) is = absurd (cc)
+  replanning_text (sets_cap cap) is = absurd (cc)
+
 -- what a tried line is answered by what the line is answered
 module _ (t next other : Marked) (text answer : List ℕ) (line : Triable) where
-  trial_text_is : (replans refused : Bool) (later : Following) (words : List ℕ) → (replans ≡ is_replanning line) → (refused ≡ is_refusal words)
-      → IsTried line words later (if replans && not refused then verdict_line later.cap (verdict_now later) else words)
-  trial_text_is true false later words is also = inr (sym is, sym also, refl)
-  trial_text_is true true later words is also = inl refl
-  trial_text_is false refused later words is also = inl refl
-
-  by_heard : (heard : Heard) → marked_by canonical (trial_said (counted t.now) (is_replanning line) heard) t.marks ≡ more text next
+  by_heard : (heard : Heard) → (is_replanning line ≡ true → IsText (counted t.now) heard)
+      → marked_by canonical (trial_said (counted t.now) (is_replanning line) heard) t.marks ≡ more text next
       → marked_by canonical heard t.marks ≡ more answer other
       → (next ≡ record { now = counted t.now; marks = t.marks }) × IsTried line answer other.now text
-  by_heard (says words later) is so =
+  by_heard (says words later) texts is so =
       let g : Marked = record { now = counted t.now; marks = t.marks } in
       let h : Marked = record { now = later; marks = t.marks } in
       let same_words : words ≡ answer = cc in
       let same_other : h ≡ other = same_next words answer h other so in
-      let said : (if is_replanning line && not (is_refusal words) then verdict_line later.cap (verdict_now later) else words) ≡ text = cc in (
+      let said : trial_text (is_replanning line) words later ≡ text = cc in (
         sym (same_next _ text g next is),
-        subst (λ w. IsTried line w other.now text) same_words
-            (subst (λ (x : Marked). IsTried line words x.now text) same_other
-            (subst (IsTried line words later) said (trial_text_is (is_replanning line) (is_refusal words) later words refl refl))),
+        subst (λ w. IsTried line w other.now text) same_words (subst (λ (x : Marked). IsTried line words x.now text) same_other (sym said)),
       )
-  by_heard (saves m names later) is so =
+  by_heard (saves how m names later) texts is so =
       let g : Marked = record { now = counted t.now; marks = t.marks } in
-      let same_words : canonical m names ≡ answer = cc in
-      let said : canonical m names ≡ text = cc in
-      (sym (same_next (canonical m names) text g next is), inl (sym said ∙ same_words))
+      let same_words : shown how (canonical m names) ≡ answer = cc in
+      let said : shown how (canonical m names) ≡ text = cc in
+      (sym (same_next (shown how (canonical m names)) text g next is), by_replans (is_replanning line) texts (sym said ∙ same_words))
+    where
+      by_replans : (replans : Bool) → (replans ≡ true → ⊥) → text ≡ answer → text ≡ trial_text replans answer other.now
+      by_replans true never same = absurd (never refl)
+      by_replans false never same = same
 
   pub tried_is : (bytes tried : List ℕ) → saying_read tried ≡ Some (tries line) → saying_read bytes ≡ Some (of_triable line)
       → marked_turn t tried ≡ more text next → marked_turn t bytes ≡ more answer other
       → (next ≡ record { now = counted t.now; marks = t.marks }) × IsTried line answer other.now text
   tried_is bytes tried reads also is so =
-      by_heard (on_triable (counted t.now) line)
+      by_heard (on_triable (counted t.now) line) (replanning_text (counted t.now) line)
       (ap (λ (o : Option Saying). marked_by canonical (hear_marked t o).heard (hear_marked t o).marks) (sym reads) ∙ is)
       (ap (λ (o : Option Saying). marked_by canonical (hear_marked t o).heard (hear_marked t o).marks) (sym also) ∙ so)
 
@@ -162,8 +236,8 @@ line_as_is s marks (says words later) text next is =
     let same_words : words ≡ text = cc in
     let same : later ≡ next = cc in
     ap (λ w. more w (record { now = later; marks = marks })) same_words ∙ ap (λ x. more text (record { now = x; marks = marks })) same
-line_as_is s marks (saves m names later) text next is =
-    let same_words : canonical m names ≡ text = cc in
+line_as_is s marks (saves how m names later) text next is =
+    let same_words : shown how (canonical m names) ≡ text = cc in
     let same : later ≡ next = cc in
     ap (λ w. more w (record { now = later; marks = marks })) same_words ∙ ap (λ x. more text (record { now = x; marks = marks })) same
 

@@ -21,9 +21,9 @@ use Rattle.cstn_check.proofs.Decides.{log_decides, log_closed, log_sound}
 use Rattle.cstn_history.specs.Histories.{allows}
 use Rattle.cstn_history.specs.Continuations.{Can}
 use Rattle.cstn_history.specs.Rest.{sight_left, is_left, rest}
-use Rattle.cstn_history.specs.Handed.{HasRoom}
+use Rattle.cstn_history.specs.Handed.{HasFewConstraints}
 use Rattle.cstn_history.proofs.Decides.{can_both}
-use Rattle.cstn_next.specs.Next.{IsPlannedBy, IsAllDone, coming_at, awaited_from, is_upto, next_moment, named, awaited}
+use Rattle.cstn_next.specs.Next.{IsPlannedBy, IsAllDone, coming_at, awaited_from, is_upto, next_moment, named_at_next, awaited_props}
 use Rattle.cstn_next.proofs.Exact.{is_next, named_exactly, awaited_exactly, done_exactly}
 use Rattle.cstn_lines.specs.FollowLines.{Follow, follow_read, asks_next, asks_by, asks_blame}
 use Rattle.cstn_reply.specs.Texts.{line}
@@ -56,7 +56,7 @@ use Rattle.cstn_followed.proofs.Verdicts.{reached_sound}
 -- a question is answered by such a text, and nothing changes
 abbrev Tells : Following → (List ℕ → Type 0) → Heard → Type 0
 Tells s P (says text next) = (next ≡ s) × P text
-Tells s P (saves m names next) = ⊥
+Tells s P (saves how m names next) = ⊥
 
 -- ---- what is next
 
@@ -95,8 +95,8 @@ next_tells s (Yes load) sound is = (refl, by_moment (next_moment s.network s.his
     by_moment None none = inl ((done_exactly s.network s.history s.fresh bounds plan).0 none, refl)
     by_moment (Some t) some = inr (
       t,
-      named s.network s.history bounds t,
-      awaited s.network s.history t,
+      named_at_next s.network s.history bounds t,
+      awaited_props s.network s.history t,
       record {
         next = is_next s.network s.history s.fresh bounds plan t some;
         named = named_exactly s.network s.history s.fresh bounds plan t some;
@@ -168,7 +168,7 @@ blame_tells s (No load) sound is = (refl, by_ids (ids_to_blame s.network s.histo
     within : verdict_within s ≡ Some (No load)
     within = sound.verdict ∙ ap Some is
 
-    room : HasRoom (left_now s)
+    room : HasFewConstraints (left_now s)
     room = (left_says s.network s.history s.fresh s.cap (No load) within).0
 
     never : Can s.network s.history → ⊥
@@ -209,7 +209,7 @@ TurnTells s P wrong = ⊥
 
 pub turn_tells : (s : Following) (P : List ℕ → Type 0) (heard : Heard) → Tells s P heard → TurnTells s P (heard_by canonical heard)
 turn_tells s P (says text next) tells = tells
-turn_tells s P (saves m names next) tells = absurd tells
+turn_tells s P (saves how m names next) tells = absurd tells
 
 told : (s t : Following) (bytes text : List ℕ) (question : Follow) (P : List ℕ → Type 0) → follow_read bytes ≡ Some question
     → follow_turn s bytes ≡ more text t

@@ -1,28 +1,35 @@
 -- What is said to a line doesn't depend on how many lines were heard, unless the line is refused.
 use Rattle.std.proofs.Common.{ℕ, ◌≡◌, ◌+◌, Bool, true, false, List, length, Option, Some, None, refl, inl, inr}
-use Rattle.std.specs.Prelude.{◌⊎◌, Result, Ok, Err, nat_lt, if◌then◌else◌}
+use Rattle.std.specs.Prelude.{◌++◌, ◌⊎◌, Result, Ok, Err, nat_lt, if◌then◌else◌, codes}
 use Rattle.cstn_net.specs.Limits.{most_constraints, most_deadline, most_edits}
+use Rattle.cstn_net.specs.Networks.{count}
 use Rattle.cstn_text.specs.Names.{number_of}
 use Rattle.cstn_check.specs.declared.verdicts.Verdict.{Verdict}
 use Rattle.cstn_check.specs.declared.verdicts.Verdict.TheVariants.{Yes, No, Full}
 use Rattle.cstn_history.specs.Histories.{History}
-use Rattle.cstn_history.specs.Facts.{FactRefusal, OutOfRange, is_beyond, now_refusal, told_refusal, expected_refusal, at_now, with_told, with_expected}
+use Rattle.cstn_label.specs.declared.nodes.NodeId.{NodeId}
+use Rattle.cstn_history.specs.Facts.{FactRefusal, OutOfRange, is_beyond, now_refusal, told_refusal, expected_refusal, ready_refusal, at_now, with_told, with_expected, with_ready}
 use Rattle.cstn_lines.specs.EditLines.{Edit, added, removed, changed, asked}
-use Rattle.cstn_lines.specs.FollowLines.{Follow, done_at, came_at, now_at, awaited_at, edits, ends_by, asks_next, asks_by, asks_blame, asks_rest}
-use Rattle.cstn_change.specs.Changes.{Change, removes, revalues, Refusal, EditLimit, refusal, after}
-use Rattle.cstn_change.specs.ChangeLines.{refused_text, addition}
+use Rattle.cstn_lines.specs.FollowLines.{Follow, done_at, came_at, now_at, awaited_at, ready_at, edits, ends_by, asks_next, asks_by, asks_blame, asks_rest}
+use Rattle.cstn_change.specs.Changes.{Change, removes, revalues, ChangeRefusal, EditLimit, refusal, edited_by}
+use Rattle.cstn_change.specs.ChangeLines.{refused_change_text, addition}
 use Rattle.cstn_reply.specs.Texts.{line}
 use Rattle.cstn_follow.specs.Replans.{with_due}
 use Rattle.cstn_follow.specs.Following.{Following, Heard, says, saves, verdict_now, verdict_within, on_left_verdict, follows, verdict_line}
-use Rattle.cstn_follow.specs.FactLines.{on_result, records, refuses, all_done, on_known, on_did, nodes_of, unknown_of, unless_fact_refused, on_fact}
+use Rattle.cstn_follow.specs.FactLines.{on_result, records, refuses, all_done, on_known, on_did, nodes_of, unknown_of, unless_fact_refused, on_fact, on_ready, node_named}
 use Rattle.cstn_follow.specs.PlanLines.{edited_network, replanned, on_refusal, on_edit, on_deadline}
 use Rattle.cstn_follow.specs.Questions.{next_after, check_after}
 use Rattle.cstn_follow.specs.Searches.{by_number, by_unless, by_after, by_refusal, blame_after}
-use Rattle.cstn_follow.specs.Asking.{FurtherQuestion, asks_verdict, asks_until, asks_each, asks_late, asks_raise, asks_least, Spoken, of_line, of_question, of_amendment}
+use Rattle.cstn_follow.specs.Asking.{FurtherQuestion, asks_verdict, asks_until, asks_each, asks_late, asks_raise, asks_least, Spoken, of_line, of_question, of_amendment, asks_digest}
 use Rattle.cstn_follow.specs.Further.{on_asked}
-use Rattle.cstn_follow.specs.Amending.{Amendment, forgives}
+use Rattle.cstn_follow.specs.Amending.{Amendment, forgives, steps}
 use Rattle.cstn_follow.specs.Forgiving.{broken_ids, after_removals}
 use Rattle.cstn_follow.specs.ForgivingLines.{forgiven_line}
+use Rattle.cstn_follow.specs.StepLines.{with_step, step_error_text, step_refusal, step_unless}
+use Rattle.cstn_follow.specs.Stepping.{no_room}
+use Rattle.cstn_follow.specs.declared.errors.StepError.{StepError}
+use Rattle.cstn_text.specs.PrintedNames.{printed_name}
+use Rattle.std.specs.Option.{option_map}
 use Rattle.cstn_follow.specs.Hearing.{on_plan, on_other, on_follow, on_amendment, on_line}
 use Rattle.cstn_followed.specs.Journal.{with_count}
 use Rattle.cstn_follow.specs.Trials.{is_refusal}
@@ -30,12 +37,12 @@ use Rattle.cstn_follow.specs.Trials.{is_refusal}
 -- the same is said, in a state with this count of lines
 abbrev pub recounted : ℕ → Heard → Heard
 recounted n (says text next) = says text (with_count next n)
-recounted n (saves m names next) = saves m names (with_count next n)
+recounted n (saves how m names next) = saves how m names (with_count next n)
 
 -- a refusal is said
 abbrev pub Refuses : Heard → Type 0
 Refuses (says text next) = is_refusal text ≡ true
-Refuses (saves m names next) = ⊥
+Refuses (saves how m names next) = ⊥
 
 module _ (s : Following) (n : ℕ) where
   abbrev Other : Following
@@ -67,11 +74,17 @@ module _ (s : Following) (n : ℕ) where
   fact_same : (o : Option FactRefusal) (h : History) → on_fact Other o h ≡ recounted n (on_fact s o h)
   fact_same o h = result_same (unless_fact_refused o (Ok h))
 
-  change_same : (change : Change) (o : Option Refusal) → on_refusal Other change o ≡ recounted n (on_refusal s change o)
-  change_same change (Some why) = refl
-  change_same change None = follows_same (replanned s (after (edited_network s) change)) (λ v. _)
+  expect_same : (t : ℕ) (name : List ℕ) (late : Bool) (o : Option NodeId) → (if late then refuses Other (OutOfRange t) else on_ready Other t name o)
+      ≡ recounted n (if late then refuses s (OutOfRange t) else on_ready s t name o)
+  expect_same t name true o = refl
+  expect_same t name false None = refl
+  expect_same t name false (Some x) = fact_same (ready_refusal s.network s.history t x.0) (with_ready s.history t x.0)
 
-  edit_same : (r : Result Change Refusal) → on_edit Other r ≡ recounted n (on_edit s r)
+  change_same : (change : Change) (o : Option ChangeRefusal) → on_refusal Other change o ≡ recounted n (on_refusal s change o)
+  change_same change (Some why) = refl
+  change_same change None = follows_same (replanned s (edited_by (edited_network s) change)) (λ v. _)
+
+  edit_same : (r : Result Change ChangeRefusal) → on_edit Other r ≡ recounted n (on_edit s r)
   edit_same (Ok change) = change_same change (refusal most_constraints (edited_network s) change)
   edit_same (Err why) = refl
 
@@ -120,6 +133,7 @@ module _ (s : Following) (n : ℕ) where
   follow_same (came_at t p v) = inr (fact_same (told_refusal s.network s.history t p) (with_told s.history t p v))
   follow_same (now_at t) = inr (fact_same (now_refusal s.history t) (at_now s.history t))
   follow_same (awaited_at t p) = inr (fact_same (expected_refusal s.network s.history t p) (with_expected s.history t p))
+  follow_same (ready_at t name) = inr (expect_same t name (is_beyond t) (node_named s.names name))
   follow_same (edits edit) = inr (plan_same edit)
   follow_same (ends_by deadline) = deadline_same deadline (nat_lt most_deadline deadline)
   follow_same asks_next = inr (next_same (verdict_now s))
@@ -136,18 +150,30 @@ module _ (s : Following) (n : ℕ) where
   asked_same asks_least = refl
 
   forgive_same : (ids : List ℕ) (b : Bool)
-      → (if b then says (line (refused_text EditLimit)) Other else says (forgiven_line ids) (replanned Other (after_removals (edited_network Other) ids)))
-      ≡ recounted n (if b then says (line (refused_text EditLimit)) s else says (forgiven_line ids) (replanned s (after_removals (edited_network s) ids)))
+      → (if b then says (line (refused_change_text EditLimit)) Other else says (forgiven_line ids) (replanned Other (after_removals (edited_network Other) ids)))
+      ≡ recounted n (if b then says (line (refused_change_text EditLimit)) s else says (forgiven_line ids) (replanned s (after_removals (edited_network s) ids)))
   forgive_same ids true = refl
   forgive_same ids false = refl
+
+  step_same : (name : List ℕ) (o : Option ℕ)
+      → step_unless Other name (step_refusal Other name o) ≡ recounted n (step_unless s name (step_refusal s name o))
+  step_same name (Some x) = refl
+  step_same name None = by_room (no_room s.edits (count s.network.base))
+    where
+      by_room : (o : Option StepError)
+          → step_unless Other name (option_map step_error_text o) ≡ recounted n (step_unless s name (option_map step_error_text o))
+      by_room (Some error) = refl
+      by_room None = follows_same (with_step s name) (λ v. line (codes "step " ++ printed_name name))
 
   amended_same : (amendment : Amendment) → on_amendment Other amendment ≡ recounted n (on_amendment s amendment)
   amended_same forgives =
       let ids = broken_ids s.network s.history in
       forgive_same ids (nat_lt most_edits (s.edits + length ids))
+  amended_same (steps name) = step_same name (number_of s.names name)
 
   pub line_same : (o : Option Spoken) → Refuses (on_line s o) ⊎ (on_line Other o ≡ recounted n (on_line s o))
   line_same None = inl refl
   line_same (Some (of_line line)) = follow_same line
   line_same (Some (of_question question)) = inr (asked_same question)
   line_same (Some (of_amendment amendment)) = inr (amended_same amendment)
+  line_same (Some asks_digest) = inr refl

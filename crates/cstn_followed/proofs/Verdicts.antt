@@ -32,7 +32,7 @@ states_true s r = verdict_true s (verdict_now s) (reached_sound s r) refl
 -- a fact is refused, and nothing else but the count of lines changes, or it is accepted
 abbrev FactAnswer : Following → Follow → Heard → Type 0
 FactAnswer s fact (says text next) = IsRefusedBy s text next ⊎ Accepts s fact text next
-FactAnswer s fact (saves m names next) = ⊥
+FactAnswer s fact (saves how m names next) = ⊥
 
 records_answer : (s : Following) (fact : Follow) (h : History) → IsSound s → IsTimelyHistory s.network h → IsRecorded s.names s.history fact h
     → FactAnswer s fact (records (counted s) h)
@@ -67,7 +67,7 @@ TurnAnswer s fact wrong = ⊥
 
 turn_answer : (s : Following) (fact : Follow) (heard : Heard) → FactAnswer s fact heard → TurnAnswer s fact (heard_by canonical heard)
 turn_answer s fact (says text next) answer = answer
-turn_answer s fact (saves m names next) answer = absurd answer
+turn_answer s fact (saves how m names next) answer = absurd answer
 
 -- the answer to a fact
 pub fact_accepted : (s next : Following) (bytes text : List ℕ) (fact : Follow) → IsSound s → follow_read bytes ≡ Some fact → IsFact fact

@@ -1,10 +1,10 @@
 -- Sessions with marks, by the lines that count.
-use Rattle.std.specs.Prelude.{ℕ, suc, ◌≡◌, ◌⊎◌, ◌++◌, true, false, nat_lt, List, [], ◌∷◌, length, map, Option, None, Some, if◌then◌else◌, codes}
+use Rattle.std.specs.Prelude.{ℕ, suc, ◌≡◌, ◌++◌, nat_lt, List, [], ◌∷◌, length, map, Option, None, Some, if◌then◌else◌, codes}
 use Rattle.cstn_save.specs.Canonical.{canonical}
 use Rattle.cstn_reply.specs.Sessions.{Turn}
-use Rattle.cstn_follow.specs.Following.{Following, verdict_now, verdict_line}
+use Rattle.cstn_follow.specs.Following.{Following}
 use Rattle.cstn_follow.specs.Marks.{Saying, of_triable, tries, sets_mark, goes_back, Marked, most_marks, saying_read, marked_turn_by}
-use Rattle.cstn_follow.specs.Trials.{Triable, of_spoken, sets_cap, is_replanning, is_refusal}
+use Rattle.cstn_follow.specs.Trials.{Triable, of_spoken, sets_cap, is_replanning, trial_text}
 
 -- the answer to a line of a session with marks, which may be none of it; what is left is written as its canonical document
 abbrev pub marked_turn : Marked → List ℕ → Turn Marked
@@ -68,7 +68,6 @@ pub data ArePaired : ℕ → List (List ℕ) → Type 0 where
   paired_marks : (n : ℕ) (between lines : List (List ℕ)) → ArePaired n between → ArePaired (suc n) lines
       → ArePaired (suc n) (codes "mark" ∷ (between ++ codes "back" ∷ lines))
 
--- the text is what the line was answered, or, where that accepts an edit, the line of the verdict after it
+-- the text is what the line was answered, but where that accepts an edit, an amendment or a deadline, the line of the verdict after it
 abbrev pub IsTried : Triable → List ℕ → Following → List ℕ → Type 0
-IsTried line answer next text =
-    (text ≡ answer) ⊎ ((is_replanning line ≡ true) × (is_refusal answer ≡ false) × (text ≡ verdict_line next.cap (verdict_now next)))
+IsTried line answer next text = text ≡ trial_text (is_replanning line) answer next

@@ -3,7 +3,7 @@ use Rattle.std.specs.Prelude.{ℕ, ◌≡◌, ◌↔◌, ◌⊎◌, Bool, max, L
 use Rattle.std.specs.List.{All, Contains}
 use Rattle.cstn_text.specs.Names.{number_of}
 use Rattle.cstn_history.specs.Histories.{History}
-use Rattle.cstn_lines.specs.FollowLines.{Follow, follow_read, done_at, came_at, now_at, awaited_at, edits, ends_by, asks_next, asks_by, asks_blame, asks_rest}
+use Rattle.cstn_lines.specs.FollowLines.{Follow, follow_read, done_at, came_at, now_at, awaited_at, ready_at, edits, ends_by, asks_next, asks_by, asks_blame, asks_rest}
 
 -- the line tells that x was done at t
 abbrev pub TellsDone : List (List ℕ) → ℕ → ℕ → Option Follow → Type 0
@@ -11,6 +11,7 @@ TellsDone names x t (Some (done_at u given)) = (u ≡ t) × ((name : List ℕ) �
 TellsDone names x t (Some (came_at u p value)) = ⊥
 TellsDone names x t (Some (now_at u)) = ⊥
 TellsDone names x t (Some (awaited_at u p)) = ⊥
+TellsDone names x t (Some (ready_at u name)) = ⊥
 TellsDone names x t (Some (edits edit)) = ⊥
 TellsDone names x t (Some (ends_by deadline)) = ⊥
 TellsDone names x t (Some asks_next) = ⊥
@@ -25,6 +26,7 @@ TellsOutcome p v (Some (came_at u q value)) = (q ≡ p) × (value ≡ v)
 TellsOutcome p v (Some (done_at u given)) = ⊥
 TellsOutcome p v (Some (now_at u)) = ⊥
 TellsOutcome p v (Some (awaited_at u q)) = ⊥
+TellsOutcome p v (Some (ready_at u name)) = ⊥
 TellsOutcome p v (Some (edits edit)) = ⊥
 TellsOutcome p v (Some (ends_by deadline)) = ⊥
 TellsOutcome p v (Some asks_next) = ⊥
@@ -39,6 +41,7 @@ TellsPast (Some (done_at t given)) = Unit {0}
 TellsPast (Some (came_at t p value)) = Unit {0}
 TellsPast (Some (now_at t)) = Unit {0}
 TellsPast (Some (awaited_at t p)) = ⊥
+TellsPast (Some (ready_at t name)) = ⊥
 TellsPast (Some (edits edit)) = ⊥
 TellsPast (Some (ends_by deadline)) = ⊥
 TellsPast (Some asks_next) = ⊥
@@ -53,6 +56,7 @@ moment_told (Some (done_at t given)) = t
 moment_told (Some (came_at t p value)) = t
 moment_told (Some (now_at t)) = t
 moment_told (Some (awaited_at t p)) = 0
+moment_told (Some (ready_at t name)) = 0
 moment_told (Some (edits edit)) = 0
 moment_told (Some (ends_by deadline)) = 0
 moment_told (Some asks_next) = 0
@@ -81,6 +85,7 @@ pub record IsHistoryOf (names : List (List ℕ)) (h : History) (lines : List (Li
   pub done : (x t : ℕ) → (later.done x ≡ Some t) ↔ ((h.done x ≡ Some t) ⊎ SomeTells (TellsDone names x t) lines)
   pub told : (p : ℕ) (v : Bool) → (later.told p ≡ Some v) ↔ ((h.told p ≡ Some v) ⊎ SomeTells (TellsOutcome p v) lines)
   pub expected : later.expected ≡ h.expected
+  pub ready : later.ready ≡ h.ready
 
 -- the lines tell the same: that the same was done, each at the same moment, that the same came out, and the same latest moment
 pub record TellTheSame (names : List (List ℕ)) (lines others : List (List ℕ)) : Type 0 where

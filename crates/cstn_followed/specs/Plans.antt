@@ -3,7 +3,7 @@ use Rattle.std.specs.Prelude.{ℕ, ◌≡◌, ◌⊎◌, List, [], ◌∷◌, �
 use Rattle.std.specs.List.{All}
 use Rattle.cstn_label.specs.declared.nodes.NodeId.{NodeId}
 use Rattle.cstn_history.specs.Continuations.{Can, IsNamed}
-use Rattle.cstn_lines.specs.FollowLines.{Follow, follow_read, done_at, came_at, now_at, awaited_at, edits, ends_by, asks_next, asks_by, asks_blame, asks_rest}
+use Rattle.cstn_lines.specs.FollowLines.{Follow, follow_read, done_at, came_at, now_at, awaited_at, ready_at, edits, ends_by, asks_next, asks_by, asks_blame, asks_rest}
 use Rattle.cstn_reply.specs.Texts.{line, yes_line, full_line}
 use Rattle.cstn_reply.specs.Sessions.{more}
 use Rattle.cstn_follow.specs.Following.{Following}
@@ -27,6 +27,7 @@ KeepsToNext s (Some (done_at t given)) = IsUptoNext s t × AreNamed s t given
 KeepsToNext s (Some (came_at t p value)) = IsUptoNext s t
 KeepsToNext s (Some (now_at t)) = IsUptoNext s t
 KeepsToNext s (Some (awaited_at t p)) = ⊥
+KeepsToNext s (Some (ready_at t name)) = ⊥
 KeepsToNext s (Some (edits edit)) = ⊥
 KeepsToNext s (Some (ends_by deadline)) = ⊥
 KeepsToNext s (Some asks_next) = ⊥

@@ -8,21 +8,21 @@ ghost use Rattle.cstn_text.specs.Names.{number_of};
 ghost use Rattle.cstn_lift.specs.Labelled.{Labelled};
 ghost use Rattle.cstn_lift.specs.Lowered.{lowered};
 ghost use Rattle.cstn_lift.specs.WellFormed.{IsLabelled};
-ghost use Rattle.cstn_change.specs.Changes.{unedited};
 ghost use Rattle.cstn_history.specs.Histories.{AgreesWith, nothing_yet};
 ghost use Rattle.cstn_history.specs.Continuations.{Can};
 ghost use Rattle.cstn_next.specs.Next.{IsAllDone};
 ghost use Rattle.cstn_lines.specs.FollowLines.{Follow, follow_read, asks_next, asks_by, asks_blame};
+ghost use Rattle.cstn_save.specs.Canonical.{canonical};
 ghost use Rattle.cstn_reply.specs.Texts.{line, say};
 ghost use Rattle.cstn_reply.specs.declared.output.Outcome.TheVariants.{Good, Bad};
 ghost use Rattle.cstn_reply.specs.Sessions.{more};
 ghost use Rattle.cstn_reply.specs.Reached.{state_after};
-ghost use Rattle.cstn_follow.specs.Amending.{forgives};
-ghost use Rattle.cstn_follow.specs.Asking.{FurtherQuestion, of_question, of_amendment, spoken_read};
+ghost use Rattle.cstn_follow.specs.Amending.{forgives, steps};
+ghost use Rattle.cstn_follow.specs.Asking.{FurtherQuestion, of_question, of_amendment, asks_digest, spoken_read};
+ghost use Rattle.cstn_follow.specs.Digests.{digest_line};
 ghost use Rattle.cstn_follow.specs.Following.{Following, begun_following, verdict_now, is_any_open, following_ending};
 ghost use Rattle.cstn_follow.specs.Forgiving.{IsBrokenBy, is_broken_by, broken_ids};
 ghost use Rattle.cstn_follow.specs.Hearing.{counted};
-ghost use Rattle.cstn_follow.specs.PlanLines.{edited_network};
 ghost use Rattle.cstn_follow.specs.Recorded.{IsFact};
 ghost use Rattle.cstn_follow.specs.Turns.{IsTrueOfSession};
 ghost use Rattle.cstn_followed.specs.Sessions.{IsReached, follow_turn};
@@ -33,7 +33,7 @@ ghost use Rattle.cstn_followed.specs.Finished.{IsCarriedOut, HaveTheSame};
 ghost use Rattle.cstn_followed.specs.Journal.{texts_of, accepted_of, with_cap, AreAccepted, AreSameButCount, AreSameUnlessFull};
 ghost use Rattle.cstn_follow.specs.Trials.{is_refusal};
 ghost use Rattle.cstn_followed.specs.Order.{AllTellPast, IsHistoryOf, TellTheSame};
-ghost use Rattle.cstn_followed.specs.Edits.{IsPlanByLines, IsHistoryByLines, IsEditLine, Edits, Forgives, IsNew};
+ghost use Rattle.cstn_followed.specs.Edits.{plan_begun, plan_now, IsPlanByLines, IsEditLine, Edits, Forgives, Steps, IsNew};
 ghost use Rattle.cstn_followed.specs.End.{count_left, AreTurns};
 ghost use Rattle.cstn_check.specs.declared.verdicts.Verdict.TheVariants.{Full};
 
@@ -70,10 +70,15 @@ pub fn followed_answers_are_true()
 /// right. `verdict` is answered by the line of the verdict. After yes `until` is answered by the last moment up to which time can pass
 /// with nothing done so that what has happened can go on, or by `done` where nothing is left; `by` without a name by the last moment until
 /// which each time-point can wait that is left to be done. `late` is answered by the last moment at which the outcome can be expected, or
-/// that there is none, also after no.
+/// that there is none, also after no. After no `raise` is answered by the least value above its own of the constraint with which what has
+/// happened can go on, or that there is none; and `least`, in each state, by the least deadline by which it can, or that there is none.
+/// That a log is full, or that there are too many constraints, is said only where it is so.
+/// `digest` is answered by the SHA-256 of the canonical document of the plan as edited.
 pub fn followed_questions_are_answered()
-    ensures { (s t : Following) (bytes text : List ℕ) (question : FurtherQuestion) → IsReached s → spoken_read bytes ≡ Some (of_question question)
+    ensures asked { (s t : Following) (bytes text : List ℕ) (question : FurtherQuestion) → IsReached s → spoken_read bytes ≡ Some (of_question question)
         → follow_turn s bytes ≡ more text t → (t ≡ counted s) × AnswersAsked s question text }
+    ensures digest { (s t : Following) (bytes text : List ℕ) → spoken_read bytes ≡ Some asks_digest → follow_turn s bytes ≡ more text t
+        → (t ≡ counted s) × (text ≡ digest_line (canonical s.network s.names)) }
 {}
 
 /// Where what has happened can go on, as after yes, whoever does what is named when it is named, tells what is awaited before time passes
@@ -152,8 +157,9 @@ pub fn followed_plans_end()
 /// An edit or a deadline is refused, with nothing changed but the count of lines, or the network is the one edited by it, and nothing
 /// else changes but the count of lines; an edit is counted, and a deadline isn't. So over all lines the network is the one at the start
 /// as edited by the accepted edits, in their order, with their count, where `forgive` removes what is broken by what had happened then;
-/// and what has happened is what the accepted facts say. The id of a
-/// constraint that is added was never used before: it is above all ids of each network that the session had.
+/// and what has happened is what the accepted facts say. The id of a constraint that is added was never used before: it is above all ids
+/// of each network that the session had.
+/// `digest` is answered by the SHA-256 of the canonical document of the plan as edited.
 pub fn edits_change_the_plan_alone()
     ensures answers { (s next : Following) (bytes text : List ℕ) (edit : Follow) → IsReached s → follow_read bytes ≡ Some edit → IsEditLine edit
         → follow_turn s bytes ≡ more text next → IsRefusedBy s text next ⊎ Edits s edit text next }
@@ -162,18 +168,20 @@ pub fn edits_change_the_plan_alone()
     ensures plan { (cap : ℕ) (names : List (List ℕ)) (m : Labelled) (lines : List (List ℕ)) (s : Following) → IsLabelled m
         → length (lowered m).constraints ≤ most_constraints → length names ≡ count m.base
         → state_after follow_turn (begun_following cap names m) 0 lines ≡ Some s
-        → IsPlanByLines names m.labels (unedited m.base) nothing_yet (accepted_of (begun_following cap names m) lines) (edited_network s) }
-    ensures labels { (cap : ℕ) (names : List (List ℕ)) (m : Labelled) (lines : List (List ℕ)) (s : Following) → IsLabelled m
-        → length (lowered m).constraints ≤ most_constraints → length names ≡ count m.base
-        → state_after follow_turn (begun_following cap names m) 0 lines ≡ Some s
-        → s.network.labels ≡ m.labels }
-    ensures history { (cap : ℕ) (names : List (List ℕ)) (m : Labelled) (lines : List (List ℕ)) (s : Following) → IsLabelled m
-        → length (lowered m).constraints ≤ most_constraints → length names ≡ count m.base
-        → state_after follow_turn (begun_following cap names m) 0 lines ≡ Some s
-        → IsHistoryByLines names nothing_yet (accepted_of (begun_following cap names m) lines) s.history }
+        → IsPlanByLines (plan_begun names m) nothing_yet (accepted_of (begun_following cap names m) lines) (plan_now s) s.history }
 {}
 
-/// `forgive` is refused, by S6, with nothing changed but the count of lines, or each constraint that what was done has broken is removed,
+/// `step` is refused, with nothing changed but the count of lines, or a time-point of the name, which none had, is put behind the others,
+/// which counts as an edit, and nothing else changes but the count of lines. Whatever could go on can go on, unless now is above the
+/// deadline.
+pub fn steps_are_put_behind()
+    ensures answers { (s next : Following) (bytes text name : List ℕ) → IsReached s → spoken_read bytes ≡ Some (of_amendment (steps name))
+        → follow_turn s bytes ≡ more text next → IsRefusedBy s text next ⊎ Steps s name text next }
+    ensures goes { (s next : Following) (name text : List ℕ) → IsReached s → Steps s name text next
+        → (Can next.network next.history ↔ (Can s.network s.history × (s.history.now ≤ s.network.base.deadline))) }
+{}
+
+/// `forgive` is refused, with nothing changed but the count of lines, or each constraint that what was done has broken is removed,
 /// which counts as an edit each, and nothing else changes but the count of lines; the answer tells their ids. Broken is a constraint whose
 /// ends are done at moments that don't meet it and which is in force in some case that is left. Where what has happened can go on, none
 /// is; and none is once what was broken is forgiven.

@@ -49,7 +49,7 @@ pub fn marks_lead_back()
 {}
 
 /// A line that is tried changes nothing but the count of lines. Its text is what the line is answered in this state, but where the line is
-/// an edit or a deadline that is accepted, the line of the verdict in the state that it leads to.
+/// an edit, an amendment or a deadline that is accepted, the line of the verdict in the state that it leads to.
 pub fn trials_change_nothing()
     ensures { (t next other : Marked) (bytes tried text answer : List ℕ) (line : Triable) → saying_read tried ≡ Some (tries line)
         → saying_read bytes ≡ Some (of_triable line) → marked_turn t tried ≡ more text next → marked_turn t bytes ≡ more answer other

@@ -16,12 +16,12 @@ use Rattle.cstn_net.specs.Read.{observed, the_constraint, the_network, reaction_
 use Rattle.cstn_net.specs.Drafts.{constraint_of, constraints_from}
 use Rattle.cstn_gen.specs.Generated.{observed_by, props_of, point_name, constraint_at, constraint_from, state_at, span_at, literals_at, generated}
 use Rattle.cstn_gen.specs.declared.constraints.Span.{Span}
-use Rattle.cstn_gen.specs.Made.{HasPoints, HasConstraints}
+use Rattle.cstn_gen.specs.Made.{HasDrawnPoints, HasDrawnConstraints}
 
 -- the time-points with the next one at their end
-pub one_more_point : (size n : ℕ) (points : List TimePoint) (observes : Option Prop) → HasPoints size n points →
+pub one_more_point : (size n : ℕ) (points : List TimePoint) (observes : Option Prop) → HasDrawnPoints size n points →
     option_map (λ p. p.index) observes ≡ observed_by (props_of size) n →
-    HasPoints size (n + 1) (points ++ record { observes = observes; reaction = 1 } ∷ [])
+    HasDrawnPoints size (n + 1) (points ++ record { observes = observes; reaction = 1 } ∷ [])
 one_more_point size n points observes before is =
     let t : TimePoint = record { observes = observes; reaction = 1 } in
     record {
@@ -31,7 +31,7 @@ one_more_point size n points observes before is =
       prompt = All-append (λ t. t.reaction ≡ 1) points (t ∷ []) before.prompt (All-cons (λ t. t.reaction ≡ 1) t [] refl (All-nil (λ t. t.reaction ≡ 1)));
     }
 
-pub points_count : (size n : ℕ) (points : List TimePoint) → HasPoints size n points → length points ≡ n + 1
+pub points_count : (size n : ℕ) (points : List TimePoint) → HasDrawnPoints size n points → length points ≡ n + 1
 points_count size n points has =
     let observes = ap length has.observes in
     omega (arith, observes, length-map points observed, length-map-range_with_len (observed_by (props_of size)) 0 n)
@@ -39,8 +39,8 @@ points_count size n points has =
 -- the constraints with the next one at their end, where a draft put behind the others gives that
 pub one_more_constraint : (number size n : ℕ) (drafts : List Draft) (d : Draft) →
     constraints_from 0 (drafts ++ d ∷ []) ≡ constraints_from 0 drafts ++ constraint_of n d ∷ [] →
-    HasConstraints number size n drafts → the_constraint (constraint_of n d) ≡ constraint_at number size n →
-    HasConstraints number size (n + 1) (drafts ++ d ∷ [])
+    HasDrawnConstraints number size n drafts → the_constraint (constraint_of n d) ≡ constraint_at number size n →
+    HasDrawnConstraints number size (n + 1) (drafts ++ d ∷ [])
 one_more_constraint number size n drafts d more before is =
     ap (map the_constraint) more
     ∙ map-append the_constraint (constraints_from 0 drafts) (constraint_of n d ∷ [])
@@ -92,8 +92,8 @@ drawn_is_at number size n x s l at ends label =
 
 -- a network of what was handed in, with reactions of one tick, is the generated network
 pub made_is : (number size : ℕ) (n : NetworkParts) (points : List TimePoint) (drafts : List Draft) → n.deadline ≡ 10 + 2 * size →
-    n.points ≡ points → n.constraints ≡ constraints_from 0 drafts → HasPoints size size points → ((p : ℕ) → reaction_of points p ≡ 1) →
-    HasConstraints number size (2 * size) drafts → the_network n ≡ generated number size
+    n.points ≡ points → n.constraints ≡ constraints_from 0 drafts → HasDrawnPoints size size points → ((p : ℕ) → reaction_of points p ≡ 1) →
+    HasDrawnConstraints number size (2 * size) drafts → the_network n ≡ generated number size
 made_is number size n points drafts deadline points_are constraints has_points prompt has_constraints =
     let observes : map observed n.points ≡ (generated number size).observes = ap (map observed) points_are ∙ has_points.observes in
     let reaction : reaction_of n.points ≡ (λ p. 1) = ap reaction_of points_are ∙ fun_ext prompt in

@@ -13,14 +13,14 @@ use Rattle.cstn_label.specs.declared.marks.Mark.TheVariants.{Absent}
 use Rattle.cstn_label.specs.Labels.{Label, empty, IsPlain, IsMarkPlain, with_mark}
 use Rattle.cstn_label.specs.Marks.{is_absent}
 use Rattle.cstn_net.specs.Networks.{IsConstraint, IsOnObserved, IsWellFormed, IsValue, Observes, count}
-use Rattle.cstn_gen.specs.Draws.{after, drawn, number_below}
-use Rattle.cstn_gen.specs.Generated.{props_of, observed_by, sign, with_literal, Literals, literals, letter_prop, span_of, span_at, literals_at, constraint_at, state_at, generated}
+use Rattle.cstn_gen.specs.Draws.{nth_state, drawn, number_below}
+use Rattle.cstn_gen.specs.Generated.{props_of, observed_by, sign, with_drawn_literal, Literals, literals, letter_prop, span_of, span_at, literals_at, constraint_at, state_at, generated}
 use Rattle.cstn_gen.specs.declared.constraints.Span.{Span}
 
 -- what is drawn below m is below m
 pub drawn_below : (n m x : ℕ) → 0 < m → drawn n m x < m
 unfolding number_below
-drawn_below n m x some = mod-lt (after n x / 8589934592) some
+drawn_below n m x some = mod-lt (nth_state n x / 8589934592) some
 
 -- what holds of each number holds of each of a range
 each : (P : ℕ → Type 0) → ((i : ℕ) → P i) → (a n : ℕ) → All P (range_with_len a n)
@@ -87,7 +87,7 @@ module _ (number size : ℕ) (some : 1 ≤ size) (few : size ≤ 200) where
   signs_plain : (n : ℕ) → IsMarkPlain (sign n)
   signs_plain n = grind arith
 
-  drawn_with : (a : Label) (i n : ℕ) → i < k → IsDrawn a → IsDrawn (with_literal a (letter_prop i) (sign n))
+  drawn_with : (a : Label) (i n : ℕ) → i < k → IsDrawn a → IsDrawn (with_drawn_literal a (letter_prop i) (sign n))
   drawn_with a i n inside good = elim (absent_cases (a (letter_prop i))) [
     | inl free ↦ subst IsDrawn (sym (ap (λ b. if b then with_mark a (letter_prop i) (sign n) else a) free)) (record {
       plain = λ q. marked_plain q;
@@ -126,7 +126,7 @@ module _ (number size : ℕ) (some : 1 ≤ size) (few : size ≤ 200) where
       drawn_with before.label (drawn 1 k before.state) (drawn 2 2 before.state) (drawn_below 1 k before.state fits.0) (drawn_label m l good)
 
   labels : (x : ℕ) → IsDrawn (literals_at size x).label
-  labels x = drawn_label (drawn 1 3 (after 4 x)) (record { label = empty; state = after 5 x }) (record { plain = λ p. tt; observed = λ p there. absurd (there refl) })
+  labels x = drawn_label (drawn 1 3 (nth_state 4 x)) (record { label = empty; state = nth_state 5 x }) (record { plain = λ p. tt; observed = λ p there. absurd (there refl) })
 
   -- the ends are time-points, and the value is from -9 to 14
   record IsSpan (s : Span) : Type 0 where

@@ -10,10 +10,10 @@ unfoldable pub number_below : ℕ → ℕ → ℕ
 number_below m x = x / 2 ^ 33 % m
 
 -- the state n steps after x
-abbrev pub after : ℕ → ℕ → ℕ
-after zero x = x
-after (suc n) x = next (after n x)
+abbrev pub nth_state : ℕ → ℕ → ℕ
+nth_state zero x = x
+nth_state (suc n) x = next (nth_state n x)
 
 -- the n-th number below m that is drawn from a state
 abbrev pub drawn : ℕ → ℕ → ℕ → ℕ
-drawn n m x = number_below m (after n x)
+drawn n m x = number_below m (nth_state n x)

@@ -6,7 +6,7 @@ use Rattle.cstn_label.specs.declared.marks.Mark.TheVariants.{Yes, No}
 use Rattle.cstn_label.specs.Marks.{is_absent}
 use Rattle.cstn_label.specs.Labels.{Label, empty, with_mark}
 use Rattle.cstn_net.specs.Networks.{Network, Constraint}
-use Rattle.cstn_gen.specs.Draws.{after, drawn}
+use Rattle.cstn_gen.specs.Draws.{nth_state, drawn}
 use Rattle.cstn_gen.specs.declared.constraints.Span.{Span}
 
 -- the proposition of the i-th letter from `a` on, i from 0
@@ -32,20 +32,20 @@ abbrev pub sign : ℕ → Mark
 sign n = if n == 1 then No else Yes
 
 -- a literal joins the label, unless its letter stands there already
-abbrev pub with_literal : Label → ℕ → Mark → Label
-with_literal a p m = if is_absent (a p) then with_mark a p m else a
+abbrev pub with_drawn_literal : Label → ℕ → Mark → Label
+with_drawn_literal a p m = if is_absent (a p) then with_mark a p m else a
 
 -- one literal more: one of the first k letters and a sign are drawn
-abbrev pub one_more : ℕ → Literals → Literals
-one_more k l = record {
-  label = with_literal l.label (letter_prop (drawn 1 k l.state)) (sign (drawn 2 2 l.state));
-  state = after 2 l.state;
+abbrev pub one_literal_more : ℕ → Literals → Literals
+one_literal_more k l = record {
+  label = with_drawn_literal l.label (letter_prop (drawn 1 k l.state)) (sign (drawn 2 2 l.state));
+  state = nth_state 2 l.state;
 }
 
 -- m literals are drawn, after those drawn before
 abbrev pub literals : ℕ → ℕ → Literals → Literals
 literals k zero l = l
-literals k (suc m) l = one_more k (literals k m l)
+literals k (suc m) l = one_literal_more k (literals k m l)
 
 -- the lower one of the numbers of two time-points, or the origin where they are the same
 abbrev pub lower_of : ℕ → ℕ → ℕ
@@ -65,11 +65,11 @@ span_at size x = span_of (drawn 1 4 x) (1 + drawn 2 size x) (1 + drawn 3 size x)
 
 -- a label of literals of the first k letters: how many literals is drawn first, from 0 to 2, and then each of them
 abbrev pub label_from : ℕ → ℕ → Literals
-label_from k x = literals k (drawn 1 3 x) (record { label = empty; state = after 1 x })
+label_from k x = literals k (drawn 1 3 x) (record { label = empty; state = nth_state 1 x })
 
 -- the label of the constraint that is drawn from a state, and the state after it
 abbrev pub literals_at : ℕ → ℕ → Literals
-literals_at size x = label_from (props_of size) (after 4 x)
+literals_at size x = label_from (props_of size) (nth_state 4 x)
 
 -- the state after the first n constraints
 abbrev pub state_at : ℕ → ℕ → ℕ → ℕ

@@ -1,7 +1,7 @@
 ghost use Rattle.std.specs.Prelude.{◌≡◌, ◌<◌, ◌≤◌, ◌+◌};
 ghost use Rattle.cstn_label.specs.Read.{marks};
-ghost use Rattle.cstn_gen.specs.Draws.{after};
-ghost use Rattle.cstn_gen.specs.Generated.{span_of, span_at, lower_of, with_literal, letter_prop, sign, label_from};
+ghost use Rattle.cstn_gen.specs.Draws.{nth_state};
+ghost use Rattle.cstn_gen.specs.Generated.{span_of, span_at, lower_of, with_drawn_literal, letter_prop, sign, label_from};
 
 use crate::draws::Draws;
 use cstn_label::{Label, Mark, Prop};
@@ -65,7 +65,7 @@ pub(crate) fn draw_span(draws: &mut Draws, size: u32) -> Span
     requires some { 1 ≤ size }
     requires most { size ≤ 200 }
     ensures span { result ≡ span_at size draws.old.state }
-    ensures state { draws.new.state ≡ after 4 draws.old.state }
+    ensures state { draws.new.state ≡ nth_state 4 draws.old.state }
     ensures from { result.from ≤ size }
     ensures to { result.to ≤ size }
 {
@@ -101,7 +101,7 @@ fn sign(n: u32) -> Mark
 
 // A literal joins the label, unless its letter stands there already.
 fn with_literal(label: Label, p: Prop, mark: Mark) -> Label
-    ensures { marks result ≡ with_literal (marks label) p.index mark }
+    ensures { marks result ≡ with_drawn_literal (marks label) p.index mark }
 {
     match label.mark(p) {
         Mark::Absent => label.with(p, mark),

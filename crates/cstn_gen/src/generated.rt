@@ -4,7 +4,7 @@ ghost use Rattle.cstn_net.specs.Networks.{IsWellFormed};
 ghost use Rattle.cstn_net.specs.Read.{the_network};
 ghost use Rattle.cstn_net.specs.Drafts.{net_number};
 ghost use Rattle.cstn_gen.specs.Generated.{generated, generated_names, props_of, observed_by};
-ghost use Rattle.cstn_gen.specs.Made.{HasPoints, HasConstraints};
+ghost use Rattle.cstn_gen.specs.Made.{HasDrawnPoints, HasDrawnConstraints};
 
 use crate::constraints::{Span, draw_label, draw_span, letter};
 use crate::draws::Draws;
@@ -73,7 +73,7 @@ fn observed_by(props: u32, i: u32) -> Option<Prop>
 fn add_points(builder: &mut Builder, size: u32) -> Result<(), AllocError>
     requires few { size ≤ 200 }
     requires none { builder.old.points ≡ [] }
-    ensures points { IfOk result (λ _. HasPoints size size builder.new.points) }
+    ensures points { IfOk result (λ _. HasDrawnPoints size size builder.new.points) }
     ensures rest { (builder.new.deadline ≡ builder.old.deadline) × (builder.new.drafts ≡ builder.old.drafts) }
 {
     builder.node(None)?;
@@ -90,7 +90,7 @@ fn add_constraints(builder: &mut Builder, number: u64, size: u32) -> Result<(), 
     requires most { size ≤ 200 }
     requires points { length builder.old.points ≡ size + 1 }
     requires none { builder.old.drafts ≡ [] }
-    ensures constraints { IfOk result (λ _. HasConstraints number size (2 * size) builder.new.drafts) }
+    ensures constraints { IfOk result (λ _. HasDrawnConstraints number size (2 * size) builder.new.drafts) }
     ensures rest { (builder.new.deadline ≡ builder.old.deadline) × (builder.new.points ≡ builder.old.points) }
 {
     drafts_are_numbered();

@@ -18,7 +18,7 @@ use Rattle.cstn_graphml.specs.DrawnGraphLaws.{IsDrawnAmong}
 use Rattle.cstn_graphml.specs.DrawnGraph.{observation, DrawnConstraint}
 use Rattle.cstn_graphml.specs.Document.{Parts, or_nothing}
 use Rattle.cstn_graphml.specs.Labels.{labels_seen}
-use Rattle.cstn_graphml.specs.Networks.{begun, with_points, with_drafts, point_of, draft_of, drawn_of, numbered_drawn, observed_prop, observed_reaction, observation_of, builder_of, at_origin, HasParts, network_of, IsBuilt}
+use Rattle.cstn_graphml.specs.Networks.{begun_builder, with_points, with_drafts, point_of, draft_of, drawn_of, numbered_drawn, observed_prop, observed_reaction, observation_of, builder_of, at_origin, HasParts, network_of, IsBuilt}
 
 -- the last element of one list may as well be the first of the next
 seam : {A : Type 0} (xs : List A) (x : A) (ys : List A) → (xs ++ (x ∷ [])) ++ ys ≡ xs ++ (x ∷ ys)
@@ -96,14 +96,14 @@ abbrev pub all_points : LentGraph → List (Option LentObservation)
 all_points d = at_origin d.origin ∷ d.observes.items
 
 pub built_points : (deadline : ℕ) (d : LentGraph) → (builder_of deadline d).points ≡ map point_of (all_points d)
-built_points deadline d = drafts_leave_points d.constraints.list.items (with_points (all_points d) (begun deadline)) ∙ points_are (all_points d) (begun deadline)
+built_points deadline d = drafts_leave_points d.constraints.list.items (with_points (all_points d) (begun_builder deadline)) ∙ points_are (all_points d) (begun_builder deadline)
 
 pub built_drafts : (deadline : ℕ) (d : LentGraph) → (builder_of deadline d).drafts ≡ map draft_of d.constraints.list.items
-built_drafts deadline d = drafts_are d.constraints.list.items (with_points (all_points d) (begun deadline)) ∙ ap (λ (xs : List LentDraft). xs ++ map draft_of d.constraints.list.items) (points_leave_drafts (all_points d) (begun deadline))
+built_drafts deadline d = drafts_are d.constraints.list.items (with_points (all_points d) (begun_builder deadline)) ∙ ap (λ (xs : List LentDraft). xs ++ map draft_of d.constraints.list.items) (points_leave_drafts (all_points d) (begun_builder deadline))
 
 pub has_parts : (deadline : ℕ) (d : LentGraph) → HasParts (builder_of deadline d) (parts_with deadline d)
 has_parts deadline d = record {
-  deadline = drafts_leave_deadline d.constraints.list.items (with_points (all_points d) (begun deadline)) ∙ points_leave_deadline (all_points d) (begun deadline);
+  deadline = drafts_leave_deadline d.constraints.list.items (with_points (all_points d) (begun_builder deadline)) ∙ points_leave_deadline (all_points d) (begun_builder deadline);
   observes = ap (map observation_of) (built_points deadline d) ∙ seen_points (all_points d) ∙ ap (λ o. o ∷ map observed_seen d.observes.items) (seen_origin d.origin);
   constraints = ap (map drawn_of) (built_drafts deadline d) ∙ seen_drafts d.constraints.list.items;
 }

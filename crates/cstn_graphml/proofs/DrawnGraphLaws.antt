@@ -14,14 +14,14 @@ use Rattle.cstn_element.specs.ValueTexts.{Pair, values_of}
 use Rattle.cstn_element.specs.Contents.{Tag, Content}
 use Rattle.cstn_element.specs.Contents.Content.{done, cut, run, element}
 use Rattle.cstn_element.specs.Elements.{Reading, read_by, Datum, blank, passed, datum, data_of, datum_of, attribute}
-use Rattle.cstn_graphml.specs.DrawnGraph.{Observation, observation, DrawnGraph, DrawnConstraint, empty_graph, origin_name, node_of, with_node, with_constraint, with_deadline}
-use Rattle.cstn_graphml.specs.Judged.{judged_node, judged_edge, judged_deadline, with_pair, with_pairs, with_values, with_edge, is_kept, observed, reacting, labelled}
+use Rattle.cstn_graphml.specs.DrawnGraph.{Observation, observation, DrawnGraph, DrawnConstraint, empty_graph, origin_name, node_of, with_node, with_drawn_constraint, with_deadline}
+use Rattle.cstn_graphml.specs.Judged.{judged_node, judged_edge, judged_deadline, with_pair, with_pairs, with_values, with_edge, is_edge_kept, prop_in_datum, reacting, labelled}
 use Rattle.cstn_graphml.specs.Document.{Part, graph_child, graph_reading, in_graph, root_child, root_reading, in_root, document_child, document_reading, in_document, part_of}
 use Rattle.cstn_graphml.specs.Document.Part.{a_datum, a_node, an_edge, another}
 use Rattle.cstn_graphml.specs.DrawnGraphLaws.{IsDrawnGraph, IsDrawnAmong, IsWithReaction, IsLettered}
 use Rattle.cstn_label.specs.Labels.{Label, empty}
 use Rattle.cstn_label.specs.Letters.{prop_of}
-use Rattle.cstn_element.specs.LabelTexts.{label_of, IsOfLiterals}
+use Rattle.cstn_element.specs.LabelTexts.{label_of_text, IsOfLiterals}
 use Rattle.cstn_element.specs.ObservedLetters.{observed_in, maybe_prop}
 use Rattle.cstn_element.proofs.ReactionLemmas.{reaction_in_reach}
 use Rattle.cstn_element.proofs.LiteralLabels.{HasLiterals, empty_of_literals, label_of_literals, values_of_literals}
@@ -70,7 +70,7 @@ picked false c later k n e z h = h k e
 node_inside : (name : List ℕ) (d : DrawnGraph) (k : ℕ) → IsDrawnGraph d → node_of name d ≡ Some k → k < length d.names
 node_inside name d k h e = picked (is_same name origin_name) (is_some d.origin) (number_of d.names name) k (length d.names) e (omega (arith, h.each)) (λ j f. (position-Some _ d.names j [] f).0)
 
-constraint_kept : (c : DrawnConstraint) (d : DrawnGraph) → IsDrawnGraph d → IsDrawnAmong (length d.names) c → IsOfLiterals c.label → IsDrawnGraph (with_constraint c d)
+constraint_kept : (c : DrawnConstraint) (d : DrawnGraph) → IsDrawnGraph d → IsDrawnAmong (length d.names) c → IsOfLiterals c.label → IsDrawnGraph (with_drawn_constraint c d)
 constraint_kept c d h i p = record {
   later = h.later;
   first = h.first;
@@ -89,12 +89,12 @@ constraint_kept c d h i p = record {
 deadline_kept : (found : Datum) (n : ℕ) (d : DrawnGraph) → IsDrawnGraph d → IsDrawnGraph (with_deadline found n d)
 deadline_kept found n d h = record { later = h.later; first = h.first; each = h.each; labelled = h.labelled; among = h.among; origin_timely = h.origin_timely; timely = h.timely; origin_lettered = h.origin_lettered; lettered = h.lettered; literals = h.literals; origin_literals = h.origin_literals; label_literals = h.label_literals }
 
-node_by : (b : Bool) (name : List ℕ) (observed : Option Observation) (label : Label) (d : DrawnGraph) → IsDrawnGraph d → IsWithReaction observed → IsLettered observed → IsOfLiterals label
-    → IsDrawnGraph (if b then record d { origin = Some observed; origin_label = label } else record d { names = d.names ++ (name ∷ []); observes = d.observes ++ (observed ∷ []); labels = d.labels ++ (label ∷ []) })
-node_by true name observed label d h t l p = record { later = h.later; first = h.first; each = h.each; labelled = h.labelled; among = h.among; origin_timely = t; timely = h.timely; origin_lettered = l; lettered = h.lettered; literals = h.literals; origin_literals = p; label_literals = h.label_literals }
-node_by false name observed label d h t l p =
+node_by : (b : Bool) (name : List ℕ) (prop_in_datum : Option Observation) (label : Label) (d : DrawnGraph) → IsDrawnGraph d → IsWithReaction prop_in_datum → IsLettered prop_in_datum → IsOfLiterals label
+    → IsDrawnGraph (if b then record d { origin = Some prop_in_datum; origin_label = label } else record d { names = d.names ++ (name ∷ []); observes = d.observes ++ (prop_in_datum ∷ []); labels = d.labels ++ (label ∷ []) })
+node_by true name prop_in_datum label d h t l p = record { later = h.later; first = h.first; each = h.each; labelled = h.labelled; among = h.among; origin_timely = t; timely = h.timely; origin_lettered = l; lettered = h.lettered; literals = h.literals; origin_literals = p; label_literals = h.label_literals }
+node_by false name prop_in_datum label d h t l p =
     let longer = length-append d.names (name ∷ []) in
-    let each = length-append d.observes (observed ∷ []) in
+    let each = length-append d.observes (prop_in_datum ∷ []) in
     let labelled = length-append d.labels (label ∷ []) in
     record {
       later = h.later ++ (name ∷ []);
@@ -103,16 +103,16 @@ node_by false name observed label d h t l p =
       labelled = omega (arith, longer, labelled, h.labelled);
       among = All-weaker (IsDrawnAmong (length d.names)) (IsDrawnAmong (length (d.names ++ (name ∷ [])))) (λ c i. (omega (arith, longer, i.0), omega (arith, longer, i.1))) d.constraints h.among;
       origin_timely = h.origin_timely;
-      timely = All-push IsWithReaction d.observes observed h.timely t;
+      timely = All-push IsWithReaction d.observes prop_in_datum h.timely t;
       origin_lettered = h.origin_lettered;
-      lettered = All-push IsLettered d.observes observed h.lettered l;
+      lettered = All-push IsLettered d.observes prop_in_datum h.lettered l;
       literals = h.literals;
       origin_literals = h.origin_literals;
       label_literals = All-push IsOfLiterals d.labels label h.label_literals p;
     }
 
-node_kept : (name : List ℕ) (observed : Option Observation) (label : Label) (d : DrawnGraph) → IsDrawnGraph d → IsWithReaction observed → IsLettered observed → IsOfLiterals label → IsDrawnGraph (with_node name observed label d)
-node_kept name observed label d h t l p = node_by (is_same name origin_name) name observed label d h t l p
+node_kept : (name : List ℕ) (prop_in_datum : Option Observation) (label : Label) (d : DrawnGraph) → IsDrawnGraph d → IsWithReaction prop_in_datum → IsLettered prop_in_datum → IsOfLiterals label → IsDrawnGraph (with_node name prop_in_datum label d)
+node_kept name prop_in_datum label d h t l p = node_by (is_same name origin_name) name prop_in_datum label d h t l p
 
 -- the reaction of a node is in range
 reacting_in_reach : (found : Option Datum) (ticks : ℕ) → reacting found ≡ Ok ticks → IsReaction ticks
@@ -131,14 +131,14 @@ text_lettered [] prop e ticks = let is : None ≡ prop = cc in subst (λ o. IsLe
 text_lettered (b ∷ []) prop e ticks = letter_named (prop_of b) prop (prop_small b) e ticks
 text_lettered (b ∷ c ∷ bytes) prop e ticks = absurd (cc)
 
-observed_lettered : (found : Option Datum) (prop : Option ℕ) (ticks : ℕ) → observed found ≡ Ok prop → IsLettered (observation prop ticks)
+observed_lettered : (found : Option Datum) (prop : Option ℕ) (ticks : ℕ) → prop_in_datum found ≡ Ok prop → IsLettered (observation prop ticks)
 observed_lettered None prop ticks e = subst (λ o. IsLettered (observation o ticks)) (ok_is None prop e) tt
 observed_lettered (Some x) prop ticks e = text_lettered x.value prop (given (observed_in x.value) (label_text x.at) prop e) ticks
 
 -- the label of a node consists of literals
 labelled_literals : (found : Option Datum) (label : Label) → labelled found ≡ Ok label → IsOfLiterals label
 labelled_literals None label e = subst IsOfLiterals (ok_is empty label e) empty_of_literals
-labelled_literals (Some x) label e = label_of_literals x.value label (given (label_of x.value) (label_text x.at) label e)
+labelled_literals (Some x) label e = label_of_literals x.value label (given (label_of_text x.value) (label_text x.at) label e)
 
 observation_timely : (prop : Option ℕ) (ticks : ℕ) → IsReaction ticks → IsWithReaction (observation prop ticks)
 observation_timely (Some p) ticks h = h
@@ -149,8 +149,8 @@ unfolding with_pairs
 pairs_kept at from to [] d e h literals f t k = subst IsDrawnGraph (ok_is d e k) h
 pairs_kept at from to (p ∷ pairs) d e h literals f t k =
     let b = bind_ok (with_pair at from to p d) (with_pairs at from to pairs) e k in
-    let q = bind_ok (or_refused p.label (label_text at)) (λ label. Ok (with_constraint (record { from = from; to = to; most = p.most; label = label }) d)) b.0 b.1 in
-    let is = ok_is (with_constraint (record { from = from; to = to; most = p.most; label = q.0 }) d) b.0 q.2 in
+    let q = bind_ok (or_refused p.label (label_text at)) (λ label. Ok (with_drawn_constraint (record { from = from; to = to; most = p.most; label = label }) d)) b.0 b.1 in
+    let is = ok_is (with_drawn_constraint (record { from = from; to = to; most = p.most; label = q.0 }) d) b.0 q.2 in
     let here : IsOfLiterals q.0 = All-head HasLiterals p pairs literals q.0 (given p.label (label_text at) q.0 q.1) in
     pairs_kept at from to pairs b.0 e (subst IsDrawnGraph is (constraint_kept (record { from = from; to = to; most = p.most; label = q.0 }) d h (f, t) here)) (All-tail HasLiterals p pairs literals) (subst (λ (x : DrawnGraph). from < length x.names) is f) (subst (λ (x : DrawnGraph). to < length x.names) is t) b.2
 
@@ -167,17 +167,17 @@ edge_by true at source target d e found h k =
 
 edge_kept : (tag : Tag) (d e : DrawnGraph) (found : List Datum) → IsDrawnGraph d → judged_edge tag d found ≡ Ok e → IsDrawnGraph e
 edge_kept tag d e found h k =
-    let a = bind_ok (or_refused (attribute (codes "source") tag) (shape tag.at)) (λ source. or_refused (attribute (codes "target") tag) (shape tag.at) >>= λ target. is_kept (datum_of (codes "Type") found) >>= λ keeps. with_edge keeps tag.at source target d found) e k in
-    let b = bind_ok (or_refused (attribute (codes "target") tag) (shape tag.at)) (λ target. is_kept (datum_of (codes "Type") found) >>= λ keeps. with_edge keeps tag.at a.0 target d found) e a.2 in
-    let c = bind_ok (is_kept (datum_of (codes "Type") found)) (λ keeps. with_edge keeps tag.at a.0 b.0 d found) e b.2 in
+    let a = bind_ok (or_refused (attribute (codes "source") tag) (shape tag.at)) (λ source. or_refused (attribute (codes "target") tag) (shape tag.at) >>= λ target. is_edge_kept (datum_of (codes "Type") found) >>= λ keeps. with_edge keeps tag.at source target d found) e k in
+    let b = bind_ok (or_refused (attribute (codes "target") tag) (shape tag.at)) (λ target. is_edge_kept (datum_of (codes "Type") found) >>= λ keeps. with_edge keeps tag.at a.0 target d found) e a.2 in
+    let c = bind_ok (is_edge_kept (datum_of (codes "Type") found)) (λ keeps. with_edge keeps tag.at a.0 b.0 d found) e b.2 in
     edge_by c.0 tag.at a.0 b.0 d e found h c.2
 
 node_judged : (tag : Tag) (d e : DrawnGraph) (found : List Datum) → IsDrawnGraph d → judged_node tag d found ≡ Ok e → IsDrawnGraph e
 node_judged tag d e found h k =
-    let a = bind_ok (or_refused (attribute (codes "id") tag) (shape tag.at)) (λ id. demand (nat_lt 0 (length id) && nat_le (length id) 64) (bad_value tag.at) >>= λ sized. demand (not (is_some (node_of id d))) (name_twice tag.at) >>= λ fresh. observed (datum_of (codes "Obs") found) >>= λ prop. reacting (datum_of (codes "Reaction") found) >>= λ ticks. labelled (datum_of (codes "Label") found) >>= λ label. Ok (with_node id (observation prop ticks) label d)) e k in
-    let b = bind_ok (demand (nat_lt 0 (length a.0) && nat_le (length a.0) 64) (bad_value tag.at)) (λ sized. demand (not (is_some (node_of a.0 d))) (name_twice tag.at) >>= λ fresh. observed (datum_of (codes "Obs") found) >>= λ prop. reacting (datum_of (codes "Reaction") found) >>= λ ticks. labelled (datum_of (codes "Label") found) >>= λ label. Ok (with_node a.0 (observation prop ticks) label d)) e a.2 in
-    let c = bind_ok (demand (not (is_some (node_of a.0 d))) (name_twice tag.at)) (λ fresh. observed (datum_of (codes "Obs") found) >>= λ prop. reacting (datum_of (codes "Reaction") found) >>= λ ticks. labelled (datum_of (codes "Label") found) >>= λ label. Ok (with_node a.0 (observation prop ticks) label d)) e b.2 in
-    let p = bind_ok (observed (datum_of (codes "Obs") found)) (λ prop. reacting (datum_of (codes "Reaction") found) >>= λ ticks. labelled (datum_of (codes "Label") found) >>= λ label. Ok (with_node a.0 (observation prop ticks) label d)) e c.2 in
+    let a = bind_ok (or_refused (attribute (codes "id") tag) (shape tag.at)) (λ id. demand (nat_lt 0 (length id) && nat_le (length id) 64) (bad_value tag.at) >>= λ sized. demand (not (is_some (node_of id d))) (name_twice tag.at) >>= λ fresh. prop_in_datum (datum_of (codes "Obs") found) >>= λ prop. reacting (datum_of (codes "Reaction") found) >>= λ ticks. labelled (datum_of (codes "Label") found) >>= λ label. Ok (with_node id (observation prop ticks) label d)) e k in
+    let b = bind_ok (demand (nat_lt 0 (length a.0) && nat_le (length a.0) 64) (bad_value tag.at)) (λ sized. demand (not (is_some (node_of a.0 d))) (name_twice tag.at) >>= λ fresh. prop_in_datum (datum_of (codes "Obs") found) >>= λ prop. reacting (datum_of (codes "Reaction") found) >>= λ ticks. labelled (datum_of (codes "Label") found) >>= λ label. Ok (with_node a.0 (observation prop ticks) label d)) e a.2 in
+    let c = bind_ok (demand (not (is_some (node_of a.0 d))) (name_twice tag.at)) (λ fresh. prop_in_datum (datum_of (codes "Obs") found) >>= λ prop. reacting (datum_of (codes "Reaction") found) >>= λ ticks. labelled (datum_of (codes "Label") found) >>= λ label. Ok (with_node a.0 (observation prop ticks) label d)) e b.2 in
+    let p = bind_ok (prop_in_datum (datum_of (codes "Obs") found)) (λ prop. reacting (datum_of (codes "Reaction") found) >>= λ ticks. labelled (datum_of (codes "Label") found) >>= λ label. Ok (with_node a.0 (observation prop ticks) label d)) e c.2 in
     let r = bind_ok (reacting (datum_of (codes "Reaction") found)) (λ ticks. labelled (datum_of (codes "Label") found) >>= λ label. Ok (with_node a.0 (observation p.0 ticks) label d)) e p.2 in
     let u = bind_ok (labelled (datum_of (codes "Label") found)) (λ label. Ok (with_node a.0 (observation p.0 r.0) label d)) e r.2 in
     subst IsDrawnGraph (ok_is (with_node a.0 (observation p.0 r.0) u.0 d) e u.2)

@@ -9,13 +9,13 @@ use Rattle.cstn_element.specs.Elements.{Reading, read_by, passed}
 use Rattle.cstn_graphml.specs.DrawnGraph.{DrawnGraph}
 use Rattle.cstn_graphml.specs.Document.{Part, graph_child, root_child}
 use Rattle.cstn_graphml.specs.Document.Part.{another}
-use Rattle.cstn_element.specs.Reads.{Reads, ReadsWhole, Continues, Fails, Gives, inside, behind}
+use Rattle.cstn_element.specs.Reads.{Reads, ReadsWhole, ReadsFurther, Fails, Gives, inside, behind}
 use Rattle.cstn_element.specs.InTurn.{LeavesState}
 use Rattle.cstn_element.specs.declared.errors.DocError.{DocError}
 use Rattle.cstn_element.specs.declared.errors.DocError.TheVariants.{Shape}
 
 -- an element whose end is refused is refused at its end
-pub end_fails : {S A X : Type 0} (r : Reading S A) (start : S) (view : X → A) (s : S) (name : List ℕ) (others : List (List ℕ)) (at : ℕ) (first before after : List Token) → Continues (read_by r start) (read_by r s) (name ∷ others) first before
+pub end_fails : {S A X : Type 0} (r : Reading S A) (start : S) (view : X → A) (s : S) (name : List ℕ) (others : List (List ℕ)) (at : ℕ) (first before after : List Token) → ReadsFurther (read_by r start) (read_by r s) (name ∷ others) first before
     → contents (name ∷ others) before ≡ done at ∷ contents others after → r.ends s at ≡ Err (shape at) → Reads view (read_by r start) name others first after (Err (Shape at))
 unfolding read_by
 end_fails r start view s name others at first before after c e d = record { told = c.told ∙ ap (λ cs. read_by r s (inner cs)) e ∙ d; left = tt }

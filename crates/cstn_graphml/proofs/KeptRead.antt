@@ -17,9 +17,9 @@ use Rattle.cstn_element.specs.Elements.{Reading, read_by, Datum, attribute, blan
 use Rattle.cstn_element.specs.Reads.{Fails, Gives, ReadsWhole, inside}
 use Rattle.cstn_graphml.specs.declared.drawn_graph.DrawnConstraint.{DrawnConstraint as LentDrawn}
 use Rattle.cstn_graphml.specs.declared.drawn_graph.DrawnGraph.{DrawnGraph as LentGraph}
-use Rattle.cstn_graphml.specs.DrawnGraph.{Observation, DrawnConstraint, DrawnGraph, empty_graph, observation, node_of, origin_name, with_constraint, with_deadline}
+use Rattle.cstn_graphml.specs.DrawnGraph.{Observation, DrawnConstraint, DrawnGraph, empty_graph, observation, node_of, origin_name, with_drawn_constraint, with_deadline}
 use Rattle.cstn_graphml.specs.DrawnGraphSeen.{graph_seen, drawn_seen}
-use Rattle.cstn_graphml.specs.Judged.{observed, reacting, labelled, judged_node, is_kept, with_pair, with_pairs, with_values, with_edge, judged_edge, judged_deadline}
+use Rattle.cstn_graphml.specs.Judged.{prop_in_datum, reacting, labelled, judged_node, is_edge_kept, with_pair, with_pairs, with_values, with_edge, judged_edge, judged_deadline}
 use Rattle.cstn_graphml.specs.Document.{Part, part_of, graph_child, graph_reading, in_graph, root_child, root_reading, in_root, document_child, document_reading, in_document}
 use Rattle.cstn_graphml.specs.Document.Part.{a_datum, a_node, an_edge, another}
 use Rattle.cstn_graphml.specs.Kept.{kept, kept_by, keeping, in_kept_graph, in_kept_root, in_kept_document}
@@ -38,14 +38,14 @@ take_twice n xs = take_all n (take n xs) (omega (arith, length-take n xs))
 kept_twice : (g : DrawnGraph) → kept (kept g) ≡ kept g
 kept_twice g = ap (λ (cs : List DrawnConstraint). record g { constraints = cs }) (take_twice 16385 g.constraints)
 
-kept_constraint : (c : DrawnConstraint) (g : DrawnGraph) → kept (with_constraint c (kept g)) ≡ kept (with_constraint c g)
+kept_constraint : (c : DrawnConstraint) (g : DrawnGraph) → kept (with_drawn_constraint c (kept g)) ≡ kept (with_drawn_constraint c g)
 kept_constraint c g = ap (λ (cs : List DrawnConstraint). record g { constraints = cs }) (take_push 16385 g.constraints c)
 
-kept_node : (b : Bool) (name : List ℕ) (observed : Option Observation) (label : Label) (g : DrawnGraph)
-    → kept (if b then record (kept g) { origin = Some observed; origin_label = label } else record (kept g) { names = g.names ++ (name ∷ []); observes = g.observes ++ (observed ∷ []); labels = g.labels ++ (label ∷ []) })
-    ≡ kept (if b then record g { origin = Some observed; origin_label = label } else record g { names = g.names ++ (name ∷ []); observes = g.observes ++ (observed ∷ []); labels = g.labels ++ (label ∷ []) })
-kept_node true name observed label g = kept_twice (record g { origin = Some observed; origin_label = label })
-kept_node false name observed label g = kept_twice (record g { names = g.names ++ (name ∷ []); observes = g.observes ++ (observed ∷ []); labels = g.labels ++ (label ∷ []) })
+kept_node : (b : Bool) (name : List ℕ) (prop_in_datum : Option Observation) (label : Label) (g : DrawnGraph)
+    → kept (if b then record (kept g) { origin = Some prop_in_datum; origin_label = label } else record (kept g) { names = g.names ++ (name ∷ []); observes = g.observes ++ (prop_in_datum ∷ []); labels = g.labels ++ (label ∷ []) })
+    ≡ kept (if b then record g { origin = Some prop_in_datum; origin_label = label } else record g { names = g.names ++ (name ∷ []); observes = g.observes ++ (prop_in_datum ∷ []); labels = g.labels ++ (label ∷ []) })
+kept_node true name prop_in_datum label g = kept_twice (record g { origin = Some prop_in_datum; origin_label = label })
+kept_node false name prop_in_datum label g = kept_twice (record g { names = g.names ++ (name ∷ []); observes = g.observes ++ (prop_in_datum ∷ []); labels = g.labels ++ (label ∷ []) })
 
 -- all that the program has of a graph is kept
 pub seen_kept : (d : LentGraph) → kept (graph_seen d) ≡ graph_seen d
@@ -54,7 +54,7 @@ seen_kept d =
     (take_all 16385 (map drawn_seen d.constraints.list.items) (omega (arith, d.constraints.few, length-map d.constraints.list.items drawn_seen)))
 
 pub put_kept : (d : LentGraph) (c : LentDrawn) (items : List LentDrawn) → items ≡ take 16385 (d.constraints.list.items ++ (c ∷ []))
-    → record (graph_seen d) { constraints = map drawn_seen items } ≡ kept (with_constraint (drawn_seen c) (graph_seen d))
+    → record (graph_seen d) { constraints = map drawn_seen items } ≡ kept (with_drawn_constraint (drawn_seen c) (graph_seen d))
 put_kept d c items is =
     let list : List LentDrawn = d.constraints.list.items in
     ap (λ (cs : List DrawnConstraint). record (graph_seen d) { constraints = cs })
@@ -75,19 +75,19 @@ node_alike tag g found =
     bind_kept kept (or_refused (attribute (codes "id") tag) (shape tag.at)) _ _ (λ id.
     bind_kept kept (demand (nat_lt 0 (length id) && nat_le (length id) 64) (bad_value tag.at)) _ _ (λ sized.
     bind_kept kept (demand (not (is_some (node_of id g))) (name_twice tag.at)) _ _ (λ fresh.
-    bind_kept kept (observed (datum_of (codes "Obs") found)) _ _ (λ prop.
+    bind_kept kept (prop_in_datum (datum_of (codes "Obs") found)) _ _ (λ prop.
     bind_kept kept (reacting (datum_of (codes "Reaction") found)) _ _ (λ ticks.
     bind_kept kept (labelled (datum_of (codes "Label") found)) _ _ (λ label.
     ap (λ s. Ok s) (kept_node (is_same id origin_name) id (observation prop ticks) label g)))))))
 
 pair_alike : (at from to : ℕ) (most : ℤ) (label : Option Label) (pairs : List Pair) (g : DrawnGraph)
     → ((h : DrawnGraph) → kept_by kept (with_pairs at from to pairs (kept h)) ≡ kept_by kept (with_pairs at from to pairs h))
-    → kept_by kept ((or_refused label (label_text at) >>= λ l. Ok (with_constraint (record { from = from; to = to; most = most; label = l }) (kept g))) >>= with_pairs at from to pairs)
-    ≡ kept_by kept ((or_refused label (label_text at) >>= λ l. Ok (with_constraint (record { from = from; to = to; most = most; label = l }) g)) >>= with_pairs at from to pairs)
+    → kept_by kept ((or_refused label (label_text at) >>= λ l. Ok (with_drawn_constraint (record { from = from; to = to; most = most; label = l }) (kept g))) >>= with_pairs at from to pairs)
+    ≡ kept_by kept ((or_refused label (label_text at) >>= λ l. Ok (with_drawn_constraint (record { from = from; to = to; most = most; label = l }) g)) >>= with_pairs at from to pairs)
 pair_alike at from to most None pairs g later = refl
 pair_alike at from to most (Some l) pairs g later =
     let c : DrawnConstraint = record { from = from; to = to; most = most; label = l } in
-    sym (later (with_constraint c (kept g))) ∙ ap (λ h. kept_by kept (with_pairs at from to pairs h)) (kept_constraint c g) ∙ later (with_constraint c g)
+    sym (later (with_drawn_constraint c (kept g))) ∙ ap (λ h. kept_by kept (with_pairs at from to pairs h)) (kept_constraint c g) ∙ later (with_drawn_constraint c g)
 
 pairs_alike : (at from to : ℕ) (pairs : List Pair) (g : DrawnGraph) → kept_by kept (with_pairs at from to pairs (kept g)) ≡ kept_by kept (with_pairs at from to pairs g)
 unfolding with_pairs
@@ -120,7 +120,7 @@ edge_alike : (tag : Tag) (g : DrawnGraph) (found : List Datum) → kept_by kept 
 edge_alike tag g found =
     bind_kept kept (or_refused (attribute (codes "source") tag) (shape tag.at)) _ _ (λ source.
     bind_kept kept (or_refused (attribute (codes "target") tag) (shape tag.at)) _ _ (λ target.
-    bind_kept kept (is_kept (datum_of (codes "Type") found)) _ _ (λ keeps.
+    bind_kept kept (is_edge_kept (datum_of (codes "Type") found)) _ _ (λ keeps.
     edge_by_alike keeps tag.at source target g found)))
 
 child_alike : (part : Part) (g : DrawnGraph) (tag : Tag) (inside : Content) → kept_by kept (graph_child part (kept g) tag inside) ≡ kept_by kept (graph_child part g tag inside)

@@ -12,7 +12,7 @@ use Rattle.cstn_element.specs.Results.{Refusal}
 use Rattle.cstn_element.specs.Results.Refusal.{not_utf8, shape, name_twice, unknown_node, bad_value, label_text, contingent, edge_type, no_deadline}
 use Rattle.cstn_graphml.specs.Document.{Parts}
 use Rattle.cstn_graphml.specs.Networks.{labelled_of, IsFit, IsUnfit, IsMislabelled}
-use Rattle.cstn_graphml.specs.Answers.{Answer, IsAnswerTo, RefusesDocument}
+use Rattle.cstn_graphml.specs.Answers.{DocumentAnswer, IsAnswerTo, RefusesDocument}
 use Rattle.cstn_graphml.proofs.Fits.{fits, one_unfit}
 
 -- the error of a refusal by the grammar
@@ -58,7 +58,7 @@ parts_are : (p q : Parts) → ◌≡◌ {A = Result Parts Refusal} (Ok p) (Ok q)
 parts_are p q e = cc
 
 -- the answer to a document that the grammar refuses is this refusal
-told_refusal : (r : Refusal) (a : Answer) → IsAnswerTo (Err r) a → a ≡ Err (error_of r)
+told_refusal : (r : Refusal) (a : DocumentAnswer) → IsAnswerTo (Err r) a → a ≡ Err (error_of r)
 unfolding error_of
 told_refusal r (Ok x) h = let is = h.told_are in absurd (cc)
 told_refusal r (Err (NotUtf8 at)) h = ap (λ s. Err (error_of s)) (refusal_is r (not_utf8 at) h.0)
@@ -75,15 +75,15 @@ told_refusal r (Err (Lift error names)) h = let is = h.0.told_are in absurd (cc)
 told_refusal r (Err (Memory e)) h = absurd (h.1 e refl)
 
 -- the answer is the labelled network of the parts, the fault of their network, or that of their labels
-record Told (parts : Parts) (a : Answer) : Type 0 where
+record Told (parts : Parts) (a : DocumentAnswer) : Type 0 where
   pub is : ((IsFit parts × (a ≡ Ok (labelled_of parts, parts.names)))
       ⊎ (((error : NetError) × IsUnfit parts error × (a ≡ Err (Net error parts.names)))
       ⊎ ((error : LiftError) × IsMislabelled parts error × (a ≡ Err (Lift error parts.names)))))
 
-abbrev read_as : Labelled → List (List ℕ) → Answer
+abbrev read_as : Labelled → List (List ℕ) → DocumentAnswer
 read_as m names = Ok (m, names)
 
-told_parts : (parts : Parts) (a : Answer) → IsAnswerTo (Ok parts) a → Told parts a
+told_parts : (parts : Parts) (a : DocumentAnswer) → IsAnswerTo (Ok parts) a → Told parts a
 told_parts parts (Ok x) h =
     let same = parts_are parts h.parts h.told_are in
     let labelled : x.0 ≡ labelled_of parts = h.labelled_is ∙ ap labelled_of same in
@@ -118,7 +118,7 @@ unfit_is_not_mislabelled parts error fault unfit wrong = fits parts error wrong.
 
 module _ (one_net : (b : BuilderParts) (e f : NetError) → IsLowestNetFault b e → IsLowestNetFault b f → e ≡ f)
     (one_lift : (m : Labelled) (e f : LiftError) → IsLowestLiftFault m e → IsLowestLiftFault m f → e ≡ f) where
-  same_answer : (parts : Parts) (a b : Answer) → Told parts a → Told parts b → a ≡ b
+  same_answer : (parts : Parts) (a b : DocumentAnswer) → Told parts a → Told parts b → a ≡ b
   same_answer parts a b one other = elim one.is [
     | inl fit ↦ elim other.is [
       | inl again ↦ fit.1 ∙ sym again.1
@@ -137,7 +137,7 @@ module _ (one_net : (b : BuilderParts) (e f : NetError) → IsLowestNetFault b e
     ]
   ]
 
-  pub one_answer : (told : Result Parts Refusal) (a b : Answer) → IsAnswerTo told a → IsAnswerTo told b → a ≡ b
+  pub one_answer : (told : Result Parts Refusal) (a b : DocumentAnswer) → IsAnswerTo told a → IsAnswerTo told b → a ≡ b
   one_answer (Ok parts) a b one other = same_answer parts a b (told_parts parts a one) (told_parts parts b other)
   one_answer (Err r) a b one other = told_refusal r a one ∙ sym (told_refusal r b other)
 
@@ -145,7 +145,7 @@ module _ (one_net : (b : BuilderParts) (e f : NetError) → IsLowestNetFault b e
 -- no fault
 pub some_answer : (told : Result Parts Refusal) →
     ((parts : Parts) → told ≡ Ok parts → ((e : NetError) → IsUnfit parts e → ⊥) → ((e : LiftError) → IsMislabelled parts e → ⊥) → IsFit parts) →
-    ((a : Answer) → IsAnswerTo told a → ⊥) → ⊥
+    ((a : DocumentAnswer) → IsAnswerTo told a → ⊥) → ⊥
 some_answer (Err r) fits none = none (Err (error_of r)) (refuses r, not_memory r)
 some_answer (Ok parts) fits none =
     let fit : IsFit parts =

@@ -52,16 +52,16 @@ RefusesDocument told (Lift error names) = IsMislabelledDocument told error names
 RefusesDocument told (Memory e) = Unit {0}
 
 -- a labelled network with the names of its time-points, or a refusal
-abbrev pub Answer : Type 0
-Answer = Result (Labelled × List (List ℕ)) DocError
+abbrev pub DocumentAnswer : Type 0
+DocumentAnswer = Result (Labelled × List (List ℕ)) DocError
 
 -- The answer to a document: its labelled network with the names, or its refusal. Want of memory is no answer.
-abbrev pub IsAnswerTo : Result Parts Refusal → Answer → Type 0
+abbrev pub IsAnswerTo : Result Parts Refusal → DocumentAnswer → Type 0
 IsAnswerTo told (Ok read) = IsDocument told read.0 read.1
 IsAnswerTo told (Err error) = RefusesDocument told error × ((e : AllocError) → error ≢ Memory e)
 
 -- the answer to the document of these bytes, with the deadline handed in or none
-abbrev pub IsAnswer : List ℕ → Option ℕ → Answer → Type 0
+abbrev pub IsAnswer : List ℕ → Option ℕ → DocumentAnswer → Type 0
 IsAnswer bytes deadline answer = IsAnswerTo (document bytes deadline) answer
 
 -- where the document says something, values of the program can hold it

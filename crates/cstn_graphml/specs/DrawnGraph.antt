@@ -51,8 +51,8 @@ with_node name observed label graph = if is_same name origin_name
     else record graph { names = graph.names ++ (name ∷ []); observes = graph.observes ++ (observed ∷ []); labels = graph.labels ++ (label ∷ []) }
 
 -- the graph with a constraint more
-abbrev pub with_constraint : DrawnConstraint → DrawnGraph → DrawnGraph
-with_constraint c graph = record graph { constraints = graph.constraints ++ (c ∷ []) }
+abbrev pub with_drawn_constraint : DrawnConstraint → DrawnGraph → DrawnGraph
+with_drawn_constraint c graph = record graph { constraints = graph.constraints ++ (c ∷ []) }
 
 -- the graph with the deadline of a data element
 abbrev pub with_deadline : Datum → ℕ → DrawnGraph → DrawnGraph

@@ -64,8 +64,8 @@ abbrev pub drawn_of : LentDraft → DrawnConstraint
 drawn_of d = record { from = d.from; to = d.to; most = d.most; label = marks d.label }
 
 -- a builder that was handed nothing yet
-abbrev pub begun : ℕ → BuilderParts
-begun deadline = record { deadline = deadline; points = []; drafts = [] }
+abbrev pub begun_builder : ℕ → BuilderParts
+begun_builder deadline = record { deadline = deadline; points = []; drafts = [] }
 
 -- the builder, once it was handed these time-points after its own
 abbrev pub with_points : List (Option LentObservation) → BuilderParts → BuilderParts
@@ -84,7 +84,7 @@ at_origin None = None
 
 -- the builder, once it was handed this deadline and what a graph holds
 abbrev pub builder_of : ℕ → LentGraph → BuilderParts
-builder_of deadline d = with_drafts d.constraints.list.items (with_points (at_origin d.origin ∷ d.observes.items) (begun deadline))
+builder_of deadline d = with_drafts d.constraints.list.items (with_points (at_origin d.origin ∷ d.observes.items) (begun_builder deadline))
 
 -- a builder was handed exactly these parts
 pub record HasParts (b : BuilderParts) (parts : Parts) : Type 0 where

@@ -2,7 +2,7 @@
 
 ghost use Rattle.std.specs.Prelude.{◌≡◌, ◌<◌, ◌≤◌, None, length, IfOk, OnOk};
 ghost use Rattle.cstn_label.specs.Read.{marks};
-ghost use Rattle.cstn_graphml.specs.DrawnGraph.{node_of, with_node, with_constraint, with_deadline, empty_graph};
+ghost use Rattle.cstn_graphml.specs.DrawnGraph.{node_of, with_node, with_drawn_constraint, with_deadline, empty_graph};
 ghost use Rattle.cstn_element.specs.DataElementSeen.{datum_seen};
 ghost use Rattle.cstn_graphml.specs.DrawnGraphSeen.{observed_seen, drawn_seen, graph_seen};
 ghost use Rattle.cstn_graphml.specs.Kept.{kept};
@@ -112,7 +112,7 @@ pub fn put_node(
 /// Puts in a constraint, of which nothing is kept where the graph has one past the limit of a network. Fails for want of memory
 /// alone.
 pub fn put_constraint(graph: &mut DrawnGraph, constraint: DrawnConstraint) -> Result<(), AllocError>
-    ensures { OnOk result (graph_seen graph.new ≡ kept (with_constraint (drawn_seen constraint) (graph_seen graph.old))) }
+    ensures { OnOk result (graph_seen graph.new ≡ kept (with_drawn_constraint (drawn_seen constraint) (graph_seen graph.old))) }
 {
     graph.constraints.put(constraint)
 }

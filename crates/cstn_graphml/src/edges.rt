@@ -1,7 +1,7 @@
 //! Edges, which are checked and put in the graph as constraints when they end.
 
 ghost use Rattle.std.specs.Prelude.{◌≡◌, map};
-ghost use Rattle.cstn_graphml.specs.Judged.{is_kept, with_pair, with_pairs, with_values, with_kept, judged_edge};
+ghost use Rattle.cstn_graphml.specs.Judged.{is_edge_kept, with_pair, with_pairs, with_values, with_kept, judged_edge};
 ghost use Rattle.cstn_graphml.specs.Kept.{kept, kept_by};
 ghost use Rattle.cstn_element.specs.Children.{tag_seen};
 ghost use Rattle.cstn_element.specs.DataElementSeen.{lent_datum, data_seen};
@@ -19,7 +19,7 @@ use std::alloc::Global;
 
 /// Whether an edge is kept, by its data element `Type`, if it has one. A contingent or unknown type is refused.
 fn is_kept(datum: Option<&Datum>) -> Result<bool, Fault>
-    ensures { Gives (λ b. b) (raised result) (is_kept (lent_datum datum.entry)) }
+    ensures { Gives (λ b. b) (raised result) (is_edge_kept (lent_datum datum.entry)) }
 {
     let Some(datum) = datum else {
         return Ok(true);

@@ -8,7 +8,7 @@ ghost use Rattle.cstn_net.specs.Drafts.{net_number};
 ghost use Rattle.cstn_net.specs.Networks.{IsWellFormed};
 ghost use Rattle.cstn_graphml.specs.Document.{Parts, document};
 ghost use Rattle.cstn_graphml.specs.Networks.{network_of, IsHeld, IsFit, IsUnfit, IsMislabelled};
-ghost use Rattle.cstn_graphml.specs.Answers.{Answer, IsAnswer, CanBeHeld};
+ghost use Rattle.cstn_graphml.specs.Answers.{DocumentAnswer, IsAnswer, CanBeHeld};
 ghost use Rattle.cstn_lift.specs.declared.errors.LiftError.{LiftError};
 
 use cstn_lift::{labels_without_a_lowest_fault_are_in_order, lowest_lift_fault_is_one};
@@ -26,8 +26,8 @@ pub fn documents_past_the_limit_are_refused()
 /// of the program can hold what it says, and then parts without a fault make a labelled network. Parts that make one, parts whose
 /// network has a fault, and parts whose labels have one exclude each other, and the lowest fault is one.
 pub fn documents_have_one_answer()
-    ensures one { (bytes : List ℕ) (deadline : Option ℕ) (a b : Answer) → IsAnswer bytes deadline a → IsAnswer bytes deadline b → a ≡ b }
-    ensures some { (bytes : List ℕ) (deadline : Option ℕ) → ((a : Answer) → IsAnswer bytes deadline a → ⊥) → ⊥ }
+    ensures one { (bytes : List ℕ) (deadline : Option ℕ) (a b : DocumentAnswer) → IsAnswer bytes deadline a → IsAnswer bytes deadline b → a ≡ b }
+    ensures some { (bytes : List ℕ) (deadline : Option ℕ) → ((a : DocumentAnswer) → IsAnswer bytes deadline a → ⊥) → ⊥ }
     ensures held { (bytes : List ℕ) (deadline : Option ℕ) → CanBeHeld bytes deadline }
     ensures made { (bytes : List ℕ) (deadline : Option ℕ) (parts : Parts) → document bytes deadline ≡ Ok parts → IsHeld parts
         → ((error : NetError) → IsUnfit parts error → ⊥) → ((error : LiftError) → IsMislabelled parts error → ⊥) → IsFit parts }

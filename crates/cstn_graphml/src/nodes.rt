@@ -2,7 +2,7 @@
 
 ghost use Rattle.std.specs.Prelude.{◌≡◌, map, option_map};
 ghost use Rattle.cstn_label.specs.Read.{marks};
-ghost use Rattle.cstn_graphml.specs.Judged.{observed, reacting, labelled, judged_node};
+ghost use Rattle.cstn_graphml.specs.Judged.{prop_in_datum, reacting, labelled, judged_node};
 ghost use Rattle.cstn_element.specs.Children.{tag_seen};
 ghost use Rattle.cstn_element.specs.DataElementSeen.{lent_datum, data_seen};
 ghost use Rattle.cstn_element.specs.TextsSeen.{prop_seen};
@@ -19,7 +19,7 @@ use std::alloc::Global;
 
 /// The proposition that a node observes by its data element `Obs`, if any. Refused where its text isn't of its form.
 fn observed(datum: Option<&Datum>) -> Result<Option<Prop>, Fault>
-    ensures { Gives prop_seen (raised result) (observed (lent_datum datum.entry)) }
+    ensures { Gives prop_seen (raised result) (prop_in_datum (lent_datum datum.entry)) }
 {
     let Some(datum) = datum else {
         return Ok(None);

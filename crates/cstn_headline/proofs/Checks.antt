@@ -9,7 +9,7 @@ use Rattle.cstn_top.specs.Verdicts.{IsLabelledYes}
 use Rattle.cstn_lift.specs.Labelled.{Labelled}
 use Rattle.cstn_lift.specs.Lowered.{lowered}
 use Rattle.cstn_lift.specs.Strategies.{IsEquivalent}
-use Rattle.cstn_check.specs.Decisions.{verdict, unless_yes, or_else, checked, IsYes, IsNo}
+use Rattle.cstn_check.specs.Decisions.{verdict, unless_yes, said_instead, checked, IsYes, IsNo}
 use Rattle.cstn_reply.specs.declared.output.Outcome.{Outcome}
 use Rattle.cstn_reply.specs.declared.output.Outcome.TheVariants.{Good, Bad, Words, Document, Full, Unfinished, Script, Wide}
 use Rattle.cstn_check.proofs.Deciding.{Tells, verdict_tells}
@@ -31,7 +31,7 @@ verdict_says : (cap : ℕ) (names : List (List ℕ)) (net : Network) (said : Sai
 verdict_says cap names net said good is =
     subst (Verdicts cap net) (sym (ap (λ (s : Said). s.outcome) is)) (by_verdict (verdict cap net) (verdict_tells cap net good))
   where
-    by_verdict : (v : Verdict) → Tells cap net v → Verdicts cap net (or_else (unless_yes cap names net v) (record { outcome = Good; text = yes_line (load_of net) })).outcome
+    by_verdict : (v : Verdict) → Tells cap net v → Verdicts cap net (said_instead (unless_yes cap names net v) (record { outcome = Good; text = yes_line (load_of net) })).outcome
     by_verdict (Yes load) tells' = tells'
     by_verdict (No load) tells' = tells'
     by_verdict IsFullVerdict tells' = tells'

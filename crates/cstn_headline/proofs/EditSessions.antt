@@ -13,7 +13,7 @@ use Rattle.cstn_net.specs.Limits.{most_constraints}
 use Rattle.cstn_net.specs.Networks.{Network, Constraint, IsWellFormed, count}
 use Rattle.cstn_text.specs.Names.{number_of}
 use Rattle.cstn_rules.specs.Derivations.{Entry, IsRefutation}
-use Rattle.cstn_log.specs.Cuts.{part}
+use Rattle.cstn_log.specs.Cuts.{last_with_ancestors}
 use Rattle.cstn_log.specs.Entries.{bases}
 use Rattle.cstn_log.proofs.MarkLemmas.{part_refutation}
 use Rattle.cstn_check.specs.declared.verdicts.Verdict.{Verdict}
@@ -22,16 +22,16 @@ use Rattle.cstn_check.specs.Growth.{grow, load_of, is_refuted}
 use Rattle.cstn_check.specs.Turns.{LastRefutes}
 use Rattle.cstn_check.proofs.Decides.{grown_last_refutes}
 use Rattle.cstn_check.proofs.Starts.{GoesOn, bases_go_on}
-use Rattle.cstn_refute.specs.Texts.{shown}
+use Rattle.cstn_refute.specs.Texts.{refutation_shown}
 use Rattle.cstn_lines.specs.Pieces.{is_past}
 use Rattle.cstn_lines.specs.EditLines.{Edit, added, removed, changed, asked, edit_read, IsEdit}
 use Rattle.cstn_lines.proofs.EditLemmas.{edit_is}
 use Rattle.cstn_edit.specs.declared.outcomes.Outcome.{Outcome}
-use Rattle.cstn_change.specs.Changes.{EditedNetwork, Change, adds, removes, revalues, Refusal, unedited, refusal, if_accepted}
+use Rattle.cstn_change.specs.Changes.{EditedNetwork, Change, adds, removes, revalues, ChangeRefusal, unedited, refusal, if_accepted}
 use Rattle.cstn_change.specs.ChangeLines.{accepted_text, addition, addition_between, after_change, after_edit, after_lines, network_after}
-use Rattle.cstn_edit.specs.Sessions.{kept_after, outcome_of, verdict_by}
+use Rattle.cstn_edit.specs.Sessions.{kept_after, new_outcome, verdict_by}
 use Rattle.cstn_edit.specs.Edits.{Session, edited_of, with_change, outcome_at, kept_at, with_verdict}
-use Rattle.cstn_edit.specs.Sound.{IsSound, IsTrueOf}
+use Rattle.cstn_edit.specs.Sound.{IsSoundSession, IsTrueOf}
 use Rattle.cstn_edit.proofs.VerdictLemmas.{outcome_when, after_grown, after_log}
 use Rattle.cstn_edit.proofs.SessionLaws.{begun_is_sound, added_is_sound, removed_is_sound, changed_is_sound, verdict_is_sound, sound_goes_on, outcome_is_true}
 use Rattle.cstn_reply.specs.Sessions.{Turn, more, last, wrong, on_turn}
@@ -59,11 +59,11 @@ FollowsAfter e now (last said) = ⊥
 FollowsAfter e now wrong = Unit {0}
 
 -- a change is accepted, or refused and leads to nothing
-edit_follows : (e : Editing) (why : Option Refusal) (text : List ℕ) (next : Session) → FollowsAfter e (if_accepted why (edited_of next) (edited_of e.session)) (answered_edit e why text next)
+edit_follows : (e : Editing) (why : Option ChangeRefusal) (text : List ℕ) (next : Session) → FollowsAfter e (if_accepted why (edited_of next) (edited_of e.session)) (answered_edit e why text next)
 edit_follows e None text next = record { same_cap = refl; same_names = refl; network = refl }
 edit_follows e (Some why) text next = record { same_cap = refl; same_names = refl; network = refl }
 
-change_follows : (e : Editing) (r : Result Change Refusal) → FollowsAfter e (after_change (edited_of e.session) r) (answered_change e r)
+change_follows : (e : Editing) (r : Result Change ChangeRefusal) → FollowsAfter e (after_change (edited_of e.session) r) (answered_change e r)
 change_follows e (Err why) = record { same_cap = refl; same_names = refl; network = refl }
 change_follows e (Ok change) =
     edit_follows e (refusal most_constraints (edited_of e.session) change) (accepted_text e.session.next change) (with_change e.session change)
@@ -106,7 +106,7 @@ by_list cap net list good on room = elim (cases_Bool (is_refuted net (grow net l
 ]
 
 -- a new verdict is by the list that is kept after it
-by_kept : (cap : ℕ) (net : Network) (list : List Entry) → IsWellFormed net → GoesOn net list → IsVerdictOf cap net (kept_after net cap list) (outcome_of net cap list).verdict
+by_kept : (cap : ℕ) (net : Network) (list : List Entry) → IsWellFormed net → GoesOn net list → IsVerdictOf cap net (kept_after net cap list) (new_outcome net cap list).verdict
 by_kept cap net list good on = elim (cases_Bool (nat_lt cap (length (grow net list)))) [
   | inr short ↦
       let room = ltb-false cap (length (grow net list)) short in
@@ -129,7 +129,7 @@ IsLastBy cap s None = Unit {0}
 IsLastBy cap s (Some o) = IsVerdictOf cap s.net s.kept o.verdict
 
 -- and so is the outcome of a check
-outcome_by : (cap : ℕ) (s : Session) → IsSound s → IsLastBy cap s s.last → IsVerdictOf cap s.net (with_verdict cap s).kept (outcome_at cap s).verdict
+outcome_by : (cap : ℕ) (s : Session) → IsSoundSession s → IsLastBy cap s s.last → IsVerdictOf cap s.net (with_verdict cap s).kept (outcome_at cap s).verdict
 outcome_by cap s sound is = by_last s.last is
   where
     by_last : (last : Option Outcome) → IsLastBy cap s last → IsVerdictOf cap s.net (kept_at cap s last) (outcome_at cap (record s { last = last })).verdict
@@ -141,7 +141,7 @@ outcome_by cap s sound is = by_last s.last is
 -- a session is sound, each time-point has a name, and the last outcome is by the kept list
 record Keeps (e : Editing) : Type 0 where
   named : length e.names ≡ count e.session.net
-  sound : IsSound e.session
+  sound : IsSoundSession e.session
   last_by : IsLastBy e.cap e.session e.session.last
 
 -- the session stays so after an answer, unless the line is of no grammar
@@ -150,7 +150,7 @@ KeepsAfter (more text next) = Keeps next
 KeepsAfter (last said) = ⊥
 KeepsAfter wrong = Unit {0}
 
-edit_keeps : (e : Editing) (refusal : Option Refusal) (text : List ℕ) (next : Session) → Keeps e → count next.net ≡ count e.session.net → next.last ≡ None → (refusal ≡ None → IsSound next) → KeepsAfter (answered_edit e refusal text next)
+edit_keeps : (e : Editing) (refusal : Option ChangeRefusal) (text : List ℕ) (next : Session) → Keeps e → count next.net ≡ count e.session.net → next.last ≡ None → (refusal ≡ None → IsSoundSession next) → KeepsAfter (answered_edit e refusal text next)
 edit_keeps e (Some why) text next keeps same none sound = keeps
 edit_keeps e None text next keeps same none sound = record {
   named = keeps.named ∙ sym same;
@@ -226,9 +226,9 @@ text_true back cap names net kept (No load) good named on is by =
       within = by.1;
       whole = refutation;
       steps = part_refutation net kept refutation;
-      text_is = ap (λ n. shown names n (part kept)) by.0;
+      text_is = ap (λ n. refutation_shown names n (last_with_ancestors kept)) by.0;
       inconsistent = is;
-      accepted = λ are ids capped. subst (λ n. IsNoText names net (shown names n (part kept))) (sym by.0) (kept_text names net good named ids kept on.kept (omega (arith, by.1, capped)) refutation back are);
+      accepted = λ are ids capped. subst (λ n. IsNoText names net (refutation_shown names n (last_with_ancestors kept))) (sym by.0) (kept_text names net good named ids kept on.kept (omega (arith, by.1, capped)) refutation back are);
     }))
 text_true back cap names net kept Full good named on is by = inr (inr (record { text_is = refl; long = by }))
 

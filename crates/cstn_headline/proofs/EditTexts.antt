@@ -12,19 +12,19 @@ use Rattle.cstn_net.specs.Networks.{Network, Constraint, IsWellFormed, IsOnObser
 use Rattle.cstn_rules.specs.declared.entries.Why.{Why}
 use Rattle.cstn_rules.specs.declared.entries.Why.TheVariants.{Base, Chain, Wait}
 use Rattle.cstn_rules.specs.Derivations.{Entry, Follows, IsRefutation}
-use Rattle.cstn_log.specs.Cuts.{part, last_marked, with_ancestors}
+use Rattle.cstn_log.specs.Cuts.{last_with_ancestors, last_marked, with_ancestors}
 use Rattle.cstn_log.proofs.CutLemmas.{comes}
 use Rattle.cstn_log.proofs.MarkLemmas.{part_refutation}
-use Rattle.cstn_check.specs.Kept.{IsKept}
+use Rattle.cstn_check.specs.Kept.{IsKeptList}
 use Rattle.cstn_check.proofs.GoodLemmas.{good_at}
 use Rattle.cstn_check.proofs.PartLemmas.{part_short}
 use Rattle.cstn_text.specs.Names.{AreNames}
-use Rattle.cstn_refute.specs.Texts.{Told, tells, told, shown}
-use Rattle.cstn_refute.specs.Written.{ArePlaces, IsPrintableStep, AreWritten}
+use Rattle.cstn_refute.specs.Texts.{RefutationTold, tells, refutation_told, refutation_shown}
+use Rattle.cstn_refute.specs.Written.{ArePlaces, IsPrintableStep, AreStepsWritten}
 use Rattle.cstn_lines.specs.EditLines.{Edit, added, removed, changed, asked, edit_read}
 use Rattle.cstn_replay.specs.Texts.{IsReplayOfSteps, IsReplayOf}
 use Rattle.cstn_headline.specs.Accepted.{IsAcceptance, IsNoText, HasIds}
-use Rattle.cstn_change.specs.Changes.{EditedNetwork, Change, adds, removes, revalues, Refusal, EditLimit, unedited, refusal, after, if_accepted}
+use Rattle.cstn_change.specs.Changes.{EditedNetwork, Change, adds, removes, revalues, ChangeRefusal, EditLimit, unedited, refusal, edited_by, if_accepted}
 use Rattle.cstn_change.specs.ChangeLines.{addition, after_change, after_edit, after_lines}
 use Rattle.cstn_change.proofs.IdLemmas.{above_small, one_id}
 use Rattle.cstn_net.proofs.Kept.{limit_in_time}
@@ -34,7 +34,7 @@ use Rattle.cstn_headline.proofs.ReadBack.{letters_alone, short_accepted, replay_
 -- ---- ids stay numbers of 32 bits
 
 -- where a first test refuses nothing, it doesn't pass
-no_limit : (edits : ℕ) (o : Option Refusal) → (if nat_le most_edits edits then Some EditLimit else o) ≡ None → edits < most_edits
+no_limit : (edits : ℕ) (o : Option ChangeRefusal) → (if nat_le most_edits edits then Some EditLimit else o) ≡ None → edits < most_edits
 no_limit edits o none = leb-false most_edits edits (by_test (nat_le most_edits edits) none)
   where
     by_test : (b : Bool) → (if b then Some EditLimit else o) ≡ None → b ≡ false
@@ -55,14 +55,14 @@ below_limit e (revalues id most) none = no_limit e.edits _ none
 one_took : (e : EditedNetwork) (change : Change) → TookFew e → TookFew (after_change e (Ok change))
 one_took e change took = by_why (refusal most_constraints e change) refl
   where
-    by_why : (why : Option Refusal) → refusal most_constraints e change ≡ why → TookFew (if_accepted why (after e change) e)
+    by_why : (why : Option ChangeRefusal) → refusal most_constraints e change ≡ why → TookFew (if_accepted why (edited_by e change) e)
     by_why None is =
         let below = below_limit e change is in
         let one = one_id e.fresh change in
         record { few = omega (arith, below); small = omega (arith, took.small, one) }
     by_why (Some why) is = took
 
-change_took : (e : EditedNetwork) (r : Result Change Refusal) → TookFew e → TookFew (after_change e r)
+change_took : (e : EditedNetwork) (r : Result Change ChangeRefusal) → TookFew e → TookFew (after_change e r)
 change_took e (Ok change) took = one_took e change took
 change_took e (Err why) took = took
 
@@ -89,7 +89,7 @@ next_small names net lines small =
 -- ---- the text of a kept list that refutes
 
 module _ (names : List (List ℕ)) (net : Network) (good : IsWellFormed net) (named : length names ≡ count net) (ids : HasIds net)
-    (list : List Entry) (kept : IsKept net list) (few : length list ≤ most_load) (refutation : IsRefutation net list) where
+    (list : List Entry) (kept : IsKeptList net list) (few : length list ≤ most_load) (refutation : IsRefutation net list) where
   places_small : (steps : List Entry) (k : ℕ) (why : Why) (r : Bound) → k < 2 ^ 32 → Follows net steps k why r → ArePlaces why
   places_small steps k Base r below follows = tt
   places_small steps k (Chain id i) r below follows =
@@ -102,7 +102,7 @@ module _ (names : List (List ℕ)) (net : Network) (good : IsWellFormed net) (na
       let other = follows.4.before in
       (omega (arith, one, below), omega (arith, other, below))
 
-  step_written : (k : ℕ) (e : Entry) → slice_get (part list) k ≡ Some e → IsPrintableStep names e
+  step_written : (k : ℕ) (e : Entry) → slice_get (last_with_ancestors list) k ≡ Some e → IsPrintableStep names e
   step_written k e there =
       let from = comes (with_ancestors list (length list) (last_marked (length list))) list k e there in
       let same : from.1.bound ≡ e.bound = sym (ap (λ (x : Entry). x.bound) from.5) in
@@ -113,20 +113,20 @@ module _ (names : List (List ℕ)) (net : Network) (good : IsWellFormed net) (na
       let low : pos 0 ≤ℤ e.bound.least = subst (λ (b : Bound). pos 0 ≤ℤ b.least) same range.low in
       let high : e.bound.least ≤ℤ pos (limit net e.bound.node + 1) = subst (λ (b : Bound). b.least ≤ℤ pos (limit net b.node + 1)) same range.high in
       let most = limit_in_time net good e.bound.node in
-      let inside = slice_get_within (part list) k e there in
+      let inside = slice_get_within (last_with_ancestors list) k e there in
       let short = part_short list in
       record {
         node = omega (arith, node, named);
         low = low;
         high = omega (arith, ints, most, high);
         marks = letters_alone net e.bound.label good observed;
-        places = places_small (part list) k e.why e.bound (omega (arith, inside, short, few)) ((part_refutation net list refutation).derivation k e there);
+        places = places_small (last_with_ancestors list) k e.why e.bound (omega (arith, inside, short, few)) ((part_refutation net list refutation).derivation k e there);
       }
 
-  steps_written : AreWritten names (length list) (part list)
+  steps_written : AreStepsWritten names (length list) (last_with_ancestors list)
   steps_written =
       let steps = part_refutation net list refutation in
-      let inside = slice_get_within (part list) (length (part list) - 1) steps.last steps.is_last in
+      let inside = slice_get_within (last_with_ancestors list) (length (last_with_ancestors list) - 1) steps.last steps.is_last in
       let whole = slice_get_within list (length list - 1) refutation.last refutation.is_last in
       let short = part_short list in
       record {
@@ -134,12 +134,12 @@ module _ (names : List (List ℕ)) (net : Network) (good : IsWellFormed net) (na
         load_high = few;
         some = omega (arith, inside);
         few = omega (arith, short, few);
-        each = λ k d within. step_written k (get_or (part list) k d) (slice_get-get_or (part list) k d within);
+        each = λ k d within. step_written k (get_or (last_with_ancestors list) k d) (slice_get-get_or (last_with_ancestors list) k d within);
       }
 
-  pub kept_text : StepsBack → AreNames names → IsNoText names net (shown names (length list) (part list))
+  pub kept_text : StepsBack → AreNames names → IsNoText names net (refutation_shown names (length list) (last_with_ancestors list))
   kept_text back are =
-      let text = shown names (length list) (part list) in
-      let says : told names text ≡ tells (length list) (part list) = back names (length list) (part list) are steps_written in
-      short_accepted (IsReplayOf names text net) text (steps_text_short names (length list) (part list) are steps_written)
-      (subst (λ (t : Told). IsAcceptance (IsReplayOfSteps t net)) (sym says) (replay_accepted net (part list) (part_refutation net list refutation)))
+      let text = refutation_shown names (length list) (last_with_ancestors list) in
+      let says : refutation_told names text ≡ tells (length list) (last_with_ancestors list) = back names (length list) (last_with_ancestors list) are steps_written in
+      short_accepted (IsReplayOf names text net) text (steps_text_short names (length list) (last_with_ancestors list) are steps_written)
+      (subst (λ (t : RefutationTold). IsAcceptance (IsReplayOfSteps t net)) (sym says) (replay_accepted net (last_with_ancestors list) (part_refutation net list refutation)))

@@ -21,11 +21,11 @@ use Rattle.cstn_lines.specs.Pieces.{is_past}
 use Rattle.cstn_lines.specs.LiveLines.{cut_at_space}
 use Rattle.cstn_lines.specs.EditLines.{Edit, added, removed, changed, asked, id_read, change_read, ends_read, limit_read, add_read, edited_read}
 use Rattle.cstn_edit.specs.declared.outcomes.Outcome.{Outcome as Answered}
-use Rattle.cstn_change.specs.Changes.{adds, removes, revalues, Refusal, refusal}
+use Rattle.cstn_change.specs.Changes.{adds, removes, revalues, ChangeRefusal, refusal}
 use Rattle.cstn_change.specs.ChangeLines.{accepted_text, addition, addition_between}
-use Rattle.cstn_edit.specs.Sessions.{outcome_of}
+use Rattle.cstn_edit.specs.Sessions.{new_outcome}
 use Rattle.cstn_edit.specs.Edits.{Session, edited_of, with_change, outcome_at, with_verdict}
-use Rattle.cstn_edit.specs.Sound.{IsSound}
+use Rattle.cstn_edit.specs.Sound.{IsSoundSession}
 use Rattle.cstn_edit.proofs.SessionLaws.{begun_is_sound, added_is_sound, removed_is_sound, changed_is_sound, verdict_is_sound, yes_is_true, no_is_true, full_is_exact}
 use Rattle.cstn_reply.specs.Texts.{after_text}
 use Rattle.cstn_reply.specs.Sessions.{Turn, more, last, wrong, on_turn, script, play}
@@ -93,13 +93,13 @@ full_is_true cap s full is = by_last s.last refl
   where
     by_last : (last : Option Answered) → s.last ≡ last → cap < load_of s.net
     by_last None none = ((full_is_exact cap s none).0 is).1
-    by_last (Some o) some = full o some (sym (ap (λ (l : Option Answered). (unwrap_or l (outcome_of s.net cap s.kept)).verdict) some) ∙ is)
+    by_last (Some o) some = full o some (sym (ap (λ (l : Option Answered). (unwrap_or l (new_outcome s.net cap s.kept)).verdict) some) ∙ is)
 
 -- a session that is sound, under the names of its time-points, and the verdict of the last check is true
 record Holds (cap : ℕ) (e : Editing) (checked : Option Network) : Type 0 where
   same_cap : e.cap ≡ cap
   named : length e.names ≡ count e.session.net
-  sound : IsSound e.session
+  sound : IsSoundSession e.session
   full : IsFullTrue cap e.session
   true_verdict : IsTrueVerdict cap checked e.verdict
 
@@ -109,7 +109,7 @@ HoldsAfter cap checked (more text next) = Holds cap next checked
 HoldsAfter cap checked (last said) = ⊥
 HoldsAfter cap checked wrong = Unit {0}
 
-edit_holds : (cap : ℕ) (e : Editing) (checked : Option Network) (refusal : Option Refusal) (text : List ℕ) (next : Session) → Holds cap e checked → count next.net ≡ count e.session.net → next.last ≡ None → (refusal ≡ None → IsSound next) → HoldsAfter cap checked (answered_edit e refusal text next)
+edit_holds : (cap : ℕ) (e : Editing) (checked : Option Network) (refusal : Option ChangeRefusal) (text : List ℕ) (next : Session) → Holds cap e checked → count next.net ≡ count e.session.net → next.last ≡ None → (refusal ≡ None → IsSoundSession next) → HoldsAfter cap checked (answered_edit e refusal text next)
 edit_holds cap e checked (Some refusal) text next holds same fresh sound = holds
 edit_holds cap e checked None text next holds same fresh sound = record {
   same_cap = holds.same_cap;

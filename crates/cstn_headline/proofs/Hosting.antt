@@ -4,7 +4,7 @@ use Rattle.std.specs.Prelude.{Option, None, Some}
 use Rattle.std.proofs.lemmas.Bool.{cases_lt}
 use Rattle.std.proofs.lemmas.Option.{same_Some}
 use Rattle.std.specs.Option.{option_map}
-use Rattle.cstn_run.specs.hosted.Sessions.{HostSession, case_of, due_in, or_later, due_from, unfinished}
+use Rattle.cstn_run.specs.hosted.Sessions.{HostSession, case_of, due_in, or_second, due_from, unfinished}
 use Rattle.cstn_run.proofs.hosts.Endings.{begins}
 use Rattle.cstn_headline.specs.commands.Host.{ArePlansDone, IsLeftOver}
 
@@ -17,7 +17,7 @@ none_from : (session : HostSession) (n id : ℕ) → due_from session id n ≡ N
 none_from session zero id none j above below = absurd (omega (arith, above, below))
 none_from session (suc n) id none j above below = by_due (due_at session id) refl none (λ rest past. none_from session n (id + 1) rest j past (omega (arith, below)))
   where
-    by_due : (o : Option ℕ) → due_at session id ≡ o → or_later (option_map (λ t. (id, t)) o) (due_from session (id + 1) n) ≡ None →
+    by_due : (o : Option ℕ) → due_at session id ≡ o → or_second (option_map (λ t. (id, t)) o) (due_from session (id + 1) n) ≡ None →
         (due_from session (id + 1) n ≡ None → id + 1 ≤ j → due_at session j ≡ None) → due_at session j ≡ None
     by_due (Some t) is none' later = let f : ⊥ = cc in absurd f
     by_due None is none' later = elim (cases_lt id j) [
@@ -36,7 +36,7 @@ first_from : (session : HostSession) (n from id due : ℕ) → due_from session 
 first_from session zero from id due found = let f : ⊥ = cc in absurd f
 first_from session (suc n) from id due found = by_due (due_at session from) refl found (first_from session n (from + 1) id due)
   where
-    by_due : (o : Option ℕ) → due_at session from ≡ o → or_later (option_map (λ t. (from, t)) o) (due_from session (from + 1) n) ≡ Some (id, due) →
+    by_due : (o : Option ℕ) → due_at session from ≡ o → or_second (option_map (λ t. (from, t)) o) (due_from session (from + 1) n) ≡ Some (id, due) →
         (due_from session (from + 1) n ≡ Some (id, due) → IsFirst session (from + 1) n id due) → IsFirst session from (suc n) id due
     by_due (Some t) is found' later =
         let pair : ◌≡◌ {A = ℕ × ℕ} (from, t) (id, due) = same_Some (from, t) (id, due) found' in

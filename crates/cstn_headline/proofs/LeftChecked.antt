@@ -47,7 +47,7 @@ module _ (backs : DocumentsBack) where
         → HasLabelled (canonical m names) deadline (λ ns l. holds l) → IsLabelled (renumbered m) × holds (renumbered m)
     of_document holds deadline plain has =
         let at = subst (λ (d : Option ℕ). HasLabelled (canonical m names) d (λ ns l. holds l)) plain has in
-        let parts_are = subst (λ (told : Result Parts DocumentRefusal). IsSomeAnd (parts_read told) (λ ps. IsFit ps × holds (labelled_of ps)))
+        let parts_are = subst (λ (parsed : Result Parts DocumentRefusal). IsSomeAnd (parts_read parsed) (λ ps. IsFit ps × holds (labelled_of ps)))
         (backs.back m names good named) at in
         let back = read_back m names unseen in
         (subst IsLabelled back parts_are.0.labelled, subst holds back parts_are.1)

@@ -20,11 +20,11 @@ use Rattle.cstn_lift.specs.WellFormed.{IsLabelled}
 use Rattle.cstn_lift.proofs.LoweredLemmas.{observer_back, observer_found}
 use Rattle.cstn_graphml.specs.Networks.{labelled_of}
 use Rattle.cstn_save.specs.Canonical.{timed_observations}
-use Rattle.cstn_save.specs.ReadBack.{drawn, parts}
+use Rattle.cstn_save.specs.ReadBack.{without_its_id, parts}
 use Rattle.cstn_save.specs.Names.{AreNamesOf}
 use Rattle.cstn_save.proofs.SameLemmas.{labelled_back}
 use Rattle.cstn_history.specs.Histories.{History, IsHistory, is_told, edited}
-use Rattle.cstn_history.specs.Rest.{is_left, sight_left, left, rest, number_of, reaction_after, reaction_by}
+use Rattle.cstn_history.specs.Rest.{is_left, sight_left, left, rest, number_left, reaction_after, reaction_by}
 use Rattle.cstn_history.proofs.Places.{observes_left}
 use Rattle.cstn_follow.specs.Following.{name_of_point}
 
@@ -34,9 +34,9 @@ use Rattle.cstn_follow.specs.Following.{name_of_point}
 abbrev pub renumbered : Labelled → Labelled
 renumbered m = edited m m.base.deadline (numbered 0 m.base.constraints)
 
-drawn_same : (k : ℕ) (cs : List Constraint) → map drawn (numbered k cs) ≡ map drawn cs
+drawn_same : (k : ℕ) (cs : List Constraint) → map without_its_id (numbered k cs) ≡ map without_its_id cs
 drawn_same k [] = refl
-drawn_same k (c ∷ cs) = ap (λ l. drawn c ∷ l) (drawn_same (k + 1) cs)
+drawn_same k (c ∷ cs) = ap (λ l. without_its_id c ∷ l) (drawn_same (k + 1) cs)
 
 parts_same : (m : Labelled) (names : List (List ℕ)) → parts (renumbered m) names ≡ parts m names
 parts_same m names =
@@ -83,7 +83,7 @@ module _ (m : Labelled) (h : History) (fresh : ℕ) where
           → (if told || not kept then 1 else reaction_after m h p x (h.done x)) ≡ 1
       by_tests x o true kept at also = refl
       by_tests x o false false at also = refl
-      by_tests x o false true at also = absurd (none (number_of m h x) (observes_left m h fresh good known x p o (untold_none (h.told p) at) also))
+      by_tests x o false true at also = absurd (none (number_left m h x) (observes_left m h fresh good known x p o (untold_none (h.told p) at) also))
 
       by_observer : (o : Option ℕ) → observer_of m.base p ≡ o → reaction_by m h p o ≡ 1
       by_observer None is = unseen p (λ x o. absurd (let found = observer_found m.base good.base.network x p o in let f : ⊥ = cc in f))

@@ -22,10 +22,10 @@ use Rattle.cstn_text.specs.PrintedLabels.{printed_mark, marks_below, or_dash, pr
 use Rattle.cstn_text.proofs.PrintedNameLemmas.{name_length}
 use Rattle.cstn_refute.specs.Limits.{most_least}
 use Rattle.cstn_refute.specs.Steps.{printed_why, printed_bound, printed_step}
-use Rattle.cstn_refute.specs.Texts.{printed_steps, shown as shown_steps}
-use Rattle.cstn_refute.specs.Written.{ArePlaces, IsPrintableStep as IsWrittenStep, AreWritten as AreWrittenSteps}
-use Rattle.cstn_closed.specs.Texts.{printed_bounds, shown as shown_bounds}
-use Rattle.cstn_closed.specs.Written.{IsPrintableBound as IsWrittenBound, AreWritten as AreWrittenBounds}
+use Rattle.cstn_refute.specs.Texts.{printed_steps, refutation_shown as shown_steps}
+use Rattle.cstn_refute.specs.Written.{ArePlaces, IsPrintableStep as IsWrittenStep, AreStepsWritten as AreWrittenSteps}
+use Rattle.cstn_closed.specs.Texts.{printed_bounds, closed_shown as shown_bounds}
+use Rattle.cstn_closed.specs.Written.{IsPrintableBound as IsWrittenBound, AreBoundsWritten as AreWrittenBounds}
 
 mark_short : (letter : ℕ) (m : Mark) → length (printed_mark letter m) ≤ 2
 mark_short letter Absent = omega arith

@@ -17,6 +17,8 @@ pub mod records
 pub mod SomeFault
 pub mod SomeOutput
 pub mod OneOutput
+pub mod CasesTrees
+pub mod CasesSaid
 pub mod Verbs
 pub mod Proved
 pub mod Dispatch

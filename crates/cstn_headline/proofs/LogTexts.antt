@@ -4,7 +4,7 @@ use Rattle.std.specs.Prelude.{◌⊎◌}
 use Rattle.cstn_net.specs.Networks.{Network, IsWellFormed}
 use Rattle.cstn_net.specs.Strategies.{IsConsistent}
 use Rattle.cstn_rules.specs.Derivations.{Entry, IsRefutation}
-use Rattle.cstn_log.specs.Cuts.{part}
+use Rattle.cstn_log.specs.Cuts.{last_with_ancestors}
 use Rattle.cstn_check.specs.Growth.{is_refuted, log_of, live_bounds}
 use Rattle.cstn_check.proofs.Decides.{log_closed, log_decides}
 use Rattle.cstn_check.proofs.InRange.{live_in_range}
@@ -20,9 +20,9 @@ listed_faultless net good consistent =
     closed_faultless net (live_bounds (log_of net)) (log_closed net good.network good.letters ((log_decides net good.network good.letters).0 consistent)) (live_in_range net good)
 
 -- the steps of a no refute the network
-pub refuted_by_log : (net : Network) → IsWellFormed net → (IsConsistent net → ⊥) → IsRefutation net (part (log_of net))
+pub refuted_by_log : (net : Network) → IsWellFormed net → (IsConsistent net → ⊥) → IsRefutation net (last_with_ancestors (log_of net))
 refuted_by_log net good never =
-    part_refutes net (log_of net) (part (log_of net)) (log_refutation net good (log_refutes_last net good (is_true (is_refuted net (log_of net)) refl))) refl
+    part_refutes net (log_of net) (last_with_ancestors (log_of net)) (log_refutation net good (log_refutes_last net good (is_true (is_refuted net (log_of net)) refl))) refl
   where
     is_true : (b : Bool) → is_refuted net (log_of net) ≡ b → is_refuted net (log_of net) ≡ true
     is_true true is = is

@@ -9,7 +9,7 @@ use Rattle.cstn_lift.specs.Labelled.{Labelled}
 use Rattle.cstn_lift.specs.Lowered.{lowered}
 use Rattle.cstn_lift.specs.WellFormed.{IsLabelled}
 use Rattle.cstn_text.specs.Numbers.{number_read, number_within, printed_number}
-use Rattle.cstn_check.specs.Growth.{observed, load_of, most_entries}
+use Rattle.cstn_check.specs.Growth.{count_observed, load_of, most_entries}
 use Rattle.cstn_save.specs.Canonical.{canonical}
 use Rattle.cstn_save.specs.ReadBack.{parts, AreSameButIds}
 use Rattle.cstn_save.specs.Names.{AreNamesOf}
@@ -81,7 +81,7 @@ may_ask_it back release words file cap may asks is =
 
 -- ---- how many bounds there can be
 
-observed_count : (os : List (Option ℕ)) → observed os ≡ length (filter is_some os)
+observed_count : (os : List (Option ℕ)) → count_observed os ≡ length (filter is_some os)
 observed_count [] = refl
 observed_count (None ∷ os) = observed_count os
 observed_count (Some p ∷ os) = ap suc (observed_count os)
@@ -194,13 +194,13 @@ module _ (numbers : NumbersBack) (entries : EntriesBounded) (backs : DocumentsBa
         by_end (inr stopped) = stopped_decides m cap status stopped
 
   -- a call of `run` with words that ask for a check of the network's document decides it
-  pub told_decided : {S : Type 0} (release : Release) (words : List (List ℕ)) (told : Option (List ℕ → Option (List ℕ))) (seen : S → LiveState) (source now : S) (old new : Option (List ℕ)) (status : Status) →
-      IsToldOfCall (request_of release words) told seen source now old new status →
-      (m : Labelled) (names : List (List ℕ)) (file : List ℕ) (cap : ℕ) → IsNamedNetwork m names → AskCheck words file cap → HasDocument told file m names → IsNetworkDecided m cap status
-  told_decided release words told seen source now old new status all m names file cap is asks has =
-      by_request (subst (λ (w : Option Request). IsToldOfCall w told seen source now old new status) (asks_check numbers release words file cap asks) all)
+  pub told_decided : {S : Type 0} (release : Release) (words : List (List ℕ)) (shelf : Option (List ℕ → Option (List ℕ))) (seen : S → LiveState) (source now : S) (old new : Option (List ℕ)) (status : Status) →
+      IsToldOfCall (request_of release words) shelf seen source now old new status →
+      (m : Labelled) (names : List (List ℕ)) (file : List ℕ) (cap : ℕ) → IsNamedNetwork m names → AskCheck words file cap → HasDocument shelf file m names → IsNetworkDecided m cap status
+  told_decided release words shelf seen source now old new status all m names file cap is asks has =
+      by_request (subst (λ (w : Option Request). IsToldOfCall w shelf seen source now old new status) (asks_check numbers release words file cap asks) all)
     where
-      by_request : IsToldOfCall (Some (check (file_asked file) cap)) told seen source now old new status → IsNetworkDecided m cap status
+      by_request : IsToldOfCall (Some (check (file_asked file) cap)) shelf seen source now old new status → IsNetworkDecided m cap status
       by_request of_check =
           ends_decided m names is file has.short cap (seen source) (seen now) old new status
           (subst (λ (contents : List (List ℕ)). PlanEnds (plan_at (check (file_asked file) cap) contents) (seen source) (seen now) old new status)

@@ -1,6 +1,6 @@
 -- The outputs of a request are one.
 use Rattle.std.proofs.Common.{◌≡◌, ℕ, ◌<◌, Bool, true, false, List, [], ◌∷◌, ◌++◌, length, map, sym, ap, ◌∙◌, inl, inr, arith}
-use Rattle.std.specs.Prelude.{nat_lt, Option, None, Some, Result, Ok, Err, codes, decimal}
+use Rattle.std.specs.Prelude.{◌⊎◌, nat_lt, Option, None, Some, Result, Ok, Err, codes, decimal}
 use Rattle.cstn_label.specs.Bounds.{Bound}
 use Rattle.cstn_net.specs.Networks.{Network}
 use Rattle.cstn_net.specs.declared.errors.NetError.{NetError}
@@ -8,14 +8,18 @@ use Rattle.cstn_lift.specs.Labelled.{Labelled}
 use Rattle.cstn_lift.specs.Lowered.{lowered}
 use Rattle.cstn_lift.specs.declared.errors.LiftError.{LiftError}
 use Rattle.cstn_rules.specs.Derivations.{Entry}
-use Rattle.cstn_refute.specs.Texts.{Told as ToldSteps, tells as tells_steps, wrong as wrong_step}
+use Rattle.cstn_refute.specs.Texts.{RefutationTold as ToldSteps, tells as tells_steps, wrong as wrong_step}
 use Rattle.cstn_replay.specs.Texts.{IsReplay, IsReplayOfSteps}
 use Rattle.cstn_closed.specs.Faults.{Fault, IsFirstFault}
-use Rattle.cstn_closed.specs.Texts.{Told as ToldBounds, tells as tells_bounds, wrong as wrong_bound}
+use Rattle.cstn_closed.specs.Texts.{ClosedTold as ToldBounds, tells as tells_bounds, wrong as wrong_bound}
 use Rattle.cstn_closed.specs.Certificates.{fault_words, IsCertificate, IsCertificateOfBounds}
-use Rattle.cstn_outline.specs.Trees.{Tree, lines_of as tree_lines}
+use Rattle.cstn_outline.specs.Trees.{Tree, lines_of_tree as tree_lines}
 use Rattle.cstn_tree.specs.Made.{IsTreeOf}
-use Rattle.cstn_outline.specs.Texts.{shown}
+use Rattle.cstn_outline.specs.Texts.{tree_shown}
+use Rattle.cstn_cases.specs.Going.{unbegun}
+use Rattle.cstn_cases.specs.Told.{IsCasesText, IsWideText, AreCasesUnless, AreCasesSaid, tree_said}
+use Rattle.cstn_cases.proofs.Writes.{one_from}
+use Rattle.cstn_cases.specs.Cases.{branches}
 use Rattle.cstn_tree.specs.Unfolded.{IsTreeText, IsTreeUnless, IsUnfolded}
 use Rattle.cstn_check.specs.Growth.{log_of, load_of, live_bounds}
 use Rattle.cstn_check.specs.Decisions.{verdict, unless_yes}
@@ -25,7 +29,7 @@ use Rattle.cstn_graphml.specs.Document.{Parts, document}
 use Rattle.cstn_graphml.specs.Networks.{labelled_of, IsFit, IsUnfit, IsMislabelled}
 use Rattle.cstn_sentences.specs.Refusals.{PlanRefusal}
 use Rattle.cstn_run.specs.hosted.Files.{Named, the_file, yes_lines}
-use Rattle.cstn_run.specs.hosted.Sessions.{begun as begun_host, host_turn, host_wants, host_ending}
+use Rattle.cstn_run.specs.hosted.Sessions.{host_begun as begun_host, host_turn, host_wants, host_ending}
 use Rattle.cstn_request.specs.Limits.{most_document}
 use Rattle.cstn_request.specs.Refusals.{refusal_text}
 use Rattle.cstn_reply.specs.Texts.{Said, say}
@@ -84,7 +88,7 @@ one_text : OneTree → (printed : List (List ℕ)) (load : ℕ) (bounds : List B
 one_text one printed load bounds net a b x y = x.said_is ∙ ap said_of (one net bounds x.tree y.tree x.made y.made) ∙ sym y.said_is
   where
     said_of : Tree → Said
-    said_of tree = record { outcome = Good; text = shown printed load (tree_lines tree) }
+    said_of tree = record { outcome = Good; text = tree_shown printed load (tree_lines tree) }
 
 -- ---- a document
 
@@ -154,8 +158,33 @@ one_unfolded one cap names net live a b (inl x) (inr y) = absurd (let many = x.0
 one_unfolded one cap names net live a b (inr x) (inl y) = absurd (let few = x.0 in let many = y.0 in omega (arith, few, many))
 one_unfolded one cap names net live a b (inr x) (inr y) = one_tree one names net (unless_yes cap names net (verdict cap net)) a b x.1 y.1
 
+-- ---- a tree by cases
+
+one_by_cases : (names : List (List ℕ)) (m : Labelled) (o : Option Said) (a b : Said) → AreCasesUnless names m o a → AreCasesUnless names m o b → a ≡ b
+one_by_cases names m (Some said) a b x y = x ∙ sym y
+one_by_cases names m None a b x y = by_width x y
+  where
+    bounds : List Bound
+    bounds = live_bounds (log_of (lowered m))
+
+    few_or_many : (one other : Said) → IsCasesText names (load_of (lowered m)) bounds m one → IsWideText bounds m other → ⊥
+    few_or_many one other x y =
+        let same : branches x.tree ≡ branches y.tree = ap branches (one_from m bounds unbegun x.tree y.tree x.cases y.cases) in
+        let few = x.few in
+        let many = y.many in
+        omega (arith, same, few, many)
+
+    by_width : IsCasesText names (load_of (lowered m)) bounds m a ⊎ IsWideText bounds m a → IsCasesText names (load_of (lowered m)) bounds m b ⊎ IsWideText bounds m b → a ≡ b
+    by_width (inl x) (inl y) = x.said_is ∙ ap (λ (tree : Tree). tree_said names (load_of (lowered m)) (tree_lines tree)) (one_from m bounds unbegun x.tree y.tree x.cases y.cases) ∙ sym y.said_is
+    by_width (inl x) (inr y) = absurd (few_or_many a b x y)
+    by_width (inr x) (inl y) = absurd (few_or_many b a y x)
+    by_width (inr x) (inr y) = x.said_is ∙ sym y.said_is
+
+pub one_cases : (cap : ℕ) (names : List (List ℕ)) (m : Labelled) (a b : Said) → AreCasesSaid cap names m a → AreCasesSaid cap names m b → a ≡ b
+one_cases cap names m a b x y = one_by_cases names m (unless_yes cap names (lowered m) (verdict cap (lowered m))) a b x y
+
 module _ (judgement : OneJudgement) where
-  one_told : (answer : LabelledAnswer) → ((names : List (List ℕ)) (m : Labelled) → IsOne (answer names m)) → (told : Result Parts DocumentRefusal) → IsOne (judged answer told)
+  one_told : (answer : LabelledAnswer) → ((names : List (List ℕ)) (m : Labelled) → IsOne (answer names m)) → (parsed : Result Parts DocumentRefusal) → IsOne (judged answer parsed)
   one_told answer each (Err refusal) = one_said (say Document (refusal_text refusal))
   one_told answer each (Ok parts) = λ live a b x y.
       one_judged judgement a_document parts (answer parts.names (labelled_of parts)) live a b (each parts.names (labelled_of parts) live a b) x y
@@ -179,7 +208,7 @@ module _ (judgement : OneJudgement) where
   one_network true answer each bytes deadline = one_labelled (of_lowered answer) (λ names m. each names (lowered m)) bytes deadline
   one_network false answer each bytes deadline = one_labelled (of_plain answer) (one_plain answer each) bytes deadline
 
-  pub one_planned : (told : Result Parts PlanRefusal) → IsOne (planned_of told)
+  pub one_planned : (parsed : Result Parts PlanRefusal) → IsOne (planned_of parsed)
   one_planned (Err refusal) live a b x y = x ∙ sym y
   one_planned (Ok parts) live a b x y = one_judged judgement a_plan parts (says (saved parts.names (labelled_of parts))) live a b (λ one other. one ∙ sym other) x y
 

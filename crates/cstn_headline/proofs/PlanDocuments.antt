@@ -91,8 +91,8 @@ documents_are_plans back same bytes deadline live said output good = by_told (pl
     not_refused : (o : Outcome) → o ≡ Document → o ≡ Good → ⊥
     not_refused o one other = grind arith
 
-    by_told : (told : Result Parts PlanRefusal) → plan bytes deadline ≡ told → (planned_of told).output live said → HasNetworkOf told (IsDocumentReadAs said.text)
-    by_told (Err refusal) is told = absurd (not_refused said.outcome (ap (λ (s : Said). s.outcome) told) good)
+    by_told : (parsed : Result Parts PlanRefusal) → plan bytes deadline ≡ parsed → (planned_of parsed).output live said → HasNetworkOf parsed (IsDocumentReadAs said.text)
+    by_told (Err refusal) is parsed = absurd (not_refused said.outcome (ap (λ (s : Said). s.outcome) parsed) good)
     by_told (Ok p) is (inl fit) = (fit.0, subst (λ (text : List ℕ). IsDocumentReadAs text p.names (labelled_of p)) (sym (ap (λ (s : Said). s.text) fit.1)) (read_back back same bytes deadline p is fit.0))
     by_told (Ok p) is (inr (inl unfit)) = absurd (not_refused said.outcome (ap (λ (s : Said). s.outcome) unfit.2) good)
     by_told (Ok p) is (inr (inr wrong_labels)) = absurd (not_refused said.outcome (ap (λ (s : Said). s.outcome) wrong_labels.2) good)

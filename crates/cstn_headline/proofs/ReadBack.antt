@@ -17,7 +17,7 @@ use Rattle.cstn_rules.specs.Closed.{IsClosed}
 use Rattle.cstn_rules.specs.declared.entries.Why.{Why}
 use Rattle.cstn_rules.specs.declared.entries.Why.TheVariants.{Base, Chain, Wait}
 use Rattle.cstn_rules.specs.Derivations.{Entry, Follows, IsRefutation}
-use Rattle.cstn_log.specs.Cuts.{part, last_marked, with_ancestors}
+use Rattle.cstn_log.specs.Cuts.{last_with_ancestors, last_marked, with_ancestors}
 use Rattle.cstn_log.proofs.CutLemmas.{comes}
 use Rattle.cstn_check.specs.Growth.{log_of, load_of, live_bounds}
 use Rattle.cstn_check.proofs.Bounded.{log_kept}
@@ -27,11 +27,11 @@ use Rattle.cstn_check.proofs.GoodLemmas.{good_at}
 use Rattle.cstn_check.proofs.InRange.{live_in_range}
 use Rattle.cstn_check.proofs.PartLemmas.{part_short}
 use Rattle.cstn_text.specs.Names.{AreNames}
-use Rattle.cstn_refute.specs.Texts.{Told as ToldSteps, tells as tells_steps, told as told_steps, shown as shown_steps}
-use Rattle.cstn_refute.specs.Written.{ArePlaces, IsPrintableStep as IsWrittenStep, AreWritten as AreWrittenSteps}
+use Rattle.cstn_refute.specs.Texts.{RefutationTold as ToldSteps, tells as tells_steps, refutation_told as told_steps, refutation_shown as shown_steps}
+use Rattle.cstn_refute.specs.Written.{ArePlaces, IsPrintableStep as IsWrittenStep, AreStepsWritten as AreWrittenSteps}
 use Rattle.cstn_closed.specs.Faults.{IsFaultless}
-use Rattle.cstn_closed.specs.Texts.{Told as ToldBounds, tells as tells_bounds, told as told_bounds, shown as shown_bounds}
-use Rattle.cstn_closed.specs.Written.{IsPrintableBound as IsWrittenBound, AreWritten as AreWrittenBounds}
+use Rattle.cstn_closed.specs.Texts.{ClosedTold as ToldBounds, tells as tells_bounds, closed_told as told_bounds, closed_shown as shown_bounds}
+use Rattle.cstn_closed.specs.Written.{IsPrintableBound as IsWrittenBound, AreBoundsWritten as AreWrittenBounds}
 use Rattle.cstn_replay.specs.Texts.{IsReplay, IsReplayOfSteps, IsReplayOf}
 use Rattle.cstn_closed.specs.Certificates.{IsCertificate, IsCertificateOfBounds, IsCertificateOf}
 use Rattle.cstn_reply.specs.Texts.{Said, say}
@@ -89,7 +89,7 @@ module _ (names : List (List ℕ)) (net : Network) (good : IsWellFormed net) (na
       let other = follows.4.before in
       (omega (arith, one, below), omega (arith, other, below))
 
-  step_written : HasIds net → IsRefutation net (part (log_of net)) → (k : ℕ) (e : Entry) → slice_get (part (log_of net)) k ≡ Some e → IsWrittenStep names e
+  step_written : HasIds net → IsRefutation net (last_with_ancestors (log_of net)) → (k : ℕ) (e : Entry) → slice_get (last_with_ancestors (log_of net)) k ≡ Some e → IsWrittenStep names e
   step_written ids refutation k e there =
       let list = log_of net in
       let kept = log_kept net good.network good.letters in
@@ -102,19 +102,19 @@ module _ (names : List (List ℕ)) (net : Network) (good : IsWellFormed net) (na
       let low : pos 0 ≤ℤ e.bound.least = subst (λ (b : Bound). pos 0 ≤ℤ b.least) same range.low in
       let high : e.bound.least ≤ℤ pos (limit net e.bound.node + 1) = subst (λ (b : Bound). b.least ≤ℤ pos (limit net b.node + 1)) same range.high in
       let most = limit_in_time net good e.bound.node in
-      let inside = slice_get_within (part list) k e there in
+      let inside = slice_get_within (last_with_ancestors list) k e there in
       let short = part_short list in
       record {
         node = omega (arith, node, named);
         low = low;
         high = omega (arith, ints, most, high);
         marks = letters_alone net e.bound.label good observed;
-        places = places_small ids (part list) k e.why e.bound (omega (arith, inside, short, few)) (refutation.derivation k e there);
+        places = places_small ids (last_with_ancestors list) k e.why e.bound (omega (arith, inside, short, few)) (refutation.derivation k e there);
       }
 
-  steps_written : HasIds net → IsRefutation net (part (log_of net)) → AreWrittenSteps names (load_of net) (part (log_of net))
+  steps_written : HasIds net → IsRefutation net (last_with_ancestors (log_of net)) → AreWrittenSteps names (load_of net) (last_with_ancestors (log_of net))
   steps_written ids refutation =
-      let steps = part (log_of net) in
+      let steps = last_with_ancestors (log_of net) in
       let inside = slice_get_within steps (length steps - 1) refutation.last refutation.is_last in
       let short = part_short (log_of net) in
       record {
@@ -166,9 +166,9 @@ yes_text back names net good are named few consistent =
     (subst (λ (t : ToldBounds). IsAcceptance (IsCertificateOfBounds names t net)) (sym told) (certificate_accepted names net bounds (listed_faultless net good consistent) closed))
 
 -- and so is the text of a no
-pub no_text : StepsBack → (names : List (List ℕ)) (net : Network) → IsWellFormed net → AreNames names → length names ≡ count net → HasIds net → load_of net ≤ most_load → (IsConsistent net → ⊥) → IsNoText names net (shown_steps names (load_of net) (part (log_of net)))
+pub no_text : StepsBack → (names : List (List ℕ)) (net : Network) → IsWellFormed net → AreNames names → length names ≡ count net → HasIds net → load_of net ≤ most_load → (IsConsistent net → ⊥) → IsNoText names net (shown_steps names (load_of net) (last_with_ancestors (log_of net)))
 no_text back names net good are named ids few never =
-    let steps = part (log_of net) in
+    let steps = last_with_ancestors (log_of net) in
     let text = shown_steps names (load_of net) steps in
     let refutation : IsRefutation net steps = refuted_by_log net good never in
     let written : AreWrittenSteps names (load_of net) steps = steps_written names net good named few ids refutation in

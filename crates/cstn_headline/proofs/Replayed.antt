@@ -48,7 +48,7 @@ labelled_accepted one answer bytes deadline short has =
     fit_says parts plan live said fit (inr (inl unfit)) = absurd (one.fit parts unfit.0 fit unfit.1)
     fit_says parts plan live said fit (inr (inr wrong)) = absurd (one.labelled parts wrong.0 fit wrong.1)
 
-    by_told : (told : Result Parts DocumentRefusal) → IsSomeAnd (parts_read told) (λ parts. IsFit parts × IsAccepted (answer parts.names (labelled_of parts))) → IsAccepted (judged answer told)
+    by_told : (parsed : Result Parts DocumentRefusal) → IsSomeAnd (parts_read parsed) (λ parts. IsFit parts × IsAccepted (answer parts.names (labelled_of parts))) → IsAccepted (judged answer parsed)
     by_told (Err refusal) h = absurd h
     by_told (Ok parts) h = λ live said.
         ((λ output. (h.1 live said).0 (fit_says parts (answer parts.names (labelled_of parts)) live said h.0 output)), (λ same. inl (h.0, (h.1 live said).1 same)))

@@ -11,7 +11,7 @@ use Rattle.cstn_lift.specs.Completion.{is_observed_by, brought_by, joined_upto, 
 use Rattle.cstn_lift.specs.Strategies.{IsExecuted, IsInForce, IsKnownExecuted, IsLabelledStrategy, IsLabelledConsistent}
 use Rattle.cstn_graphml.specs.DrawnGraph.{DrawnConstraint}
 use Rattle.cstn_graphml.specs.Networks.{labelled_of}
-use Rattle.cstn_save.specs.ReadBack.{drawn, parts, AreSameButIds}
+use Rattle.cstn_save.specs.ReadBack.{without_its_id, parts, AreSameButIds}
 
 -- n is the same as m for strategies: each of its constraints is one of m, but for the id
 record IsLike (m n : Labelled) : Type 0 where
@@ -19,7 +19,7 @@ record IsLike (m n : Labelled) : Type 0 where
   observes : n.base.observes ≡ m.base.observes
   deadline : n.base.deadline ≡ m.base.deadline
   reaction : (x p : ℕ) → Observes m.base x p → n.base.reaction p ≡ m.base.reaction p
-  constraints : (c : Constraint) → Contains n.base.constraints c → (d : Constraint) × Contains m.base.constraints d × (drawn d ≡ drawn c)
+  constraints : (c : Constraint) → Contains n.base.constraints c → (d : Constraint) × Contains m.base.constraints d × (without_its_id d ≡ without_its_id c)
 
 module _ (m n : Labelled) (like : IsLike m n) where
   counted : count n.base ≡ count m.base
@@ -75,7 +75,7 @@ module _ (m n : Labelled) (like : IsLike m n) where
   }
 
   -- what is in force in n is in force in m
-  force_back : (s : Scenario) (c d : Constraint) → drawn d ≡ drawn c → IsInForce n s c → IsInForce m s d
+  force_back : (s : Scenario) (c d : Constraint) → without_its_id d ≡ without_its_id c → IsInForce n s c → IsInForce m s d
   force_back s c d same force =
       subst (Holds s)
       (full_same c ∙ ap (λ (e : DrawnConstraint). completed m (joined e.label (joined (label_of m e.from) (label_of m e.to)))) (sym same)) force
@@ -94,8 +94,8 @@ module _ (m n : Labelled) (like : IsLike m n) where
   }
 
 -- the constraints of one network are those of the other, but for ids
-drawn_there : (one other : List Constraint) → map drawn one ≡ map drawn other → (c : Constraint) → Contains one c → (d : Constraint) × Contains other d × (drawn d ≡ drawn c)
-drawn_there one other same c there = map_from drawn other (drawn c) (subst (λ (ds : List DrawnConstraint). Contains ds (drawn c)) same (contains_map drawn one c there))
+drawn_there : (one other : List Constraint) → map without_its_id one ≡ map without_its_id other → (c : Constraint) → Contains one c → (d : Constraint) × Contains other d × (without_its_id d ≡ without_its_id c)
+drawn_there one other same c there = map_from without_its_id other (without_its_id c) (subst (λ (ds : List DrawnConstraint). Contains ds (without_its_id c)) same (contains_map without_its_id one c there))
 
 module _ (m : Labelled) (names : List (List ℕ)) (same : AreSameButIds (labelled_of (parts m names)).base m.base) where
   abbrev read : Labelled

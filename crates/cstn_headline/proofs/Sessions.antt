@@ -8,6 +8,6 @@ use Rattle.cstn_lines.specs.Pieces.{heard_lines}
 use Rattle.cstn_headline.specs.Sessions.{Wrote}
 
 -- what was said is an opening and then the session
-pub wrote : {S : Type 0} (ends : Bool) (turn : S → List ℕ → Turn S) (ending : S → Said) (opening : List ℕ) (start : S) (told : Option (List ℕ)) (live : List ℕ) (said : Said) (OfLines : List (List ℕ) → Type 0) →
-    IsAllOf told live → said ≡ after_text opening (play turn ending start 0 (heard_lines ends live)) → OfLines (heard_lines ends live) → Wrote ends turn ending opening start told said.text OfLines
-wrote ends turn ending opening start told live said OfLines all is of_lines = record { live = live; all = all; text_is = ap (λ (s : Said). s.text) is; of_lines = of_lines }
+pub wrote : {S : Type 0} (ends : Bool) (turn : S → List ℕ → Turn S) (ending : S → Said) (opening : List ℕ) (start : S) (source : Option (List ℕ)) (live : List ℕ) (said : Said) (OfLines : List (List ℕ) → Type 0) →
+    IsAllOf source live → said ≡ after_text opening (play turn ending start 0 (heard_lines ends live)) → OfLines (heard_lines ends live) → Wrote ends turn ending opening start source said.text OfLines
+wrote ends turn ending opening start source live said OfLines all is of_lines = record { live = live; all = all; text_is = ap (λ (s : Said). s.text) is; of_lines = of_lines }

@@ -11,7 +11,7 @@ use Rattle.cstn_rules.specs.Closed.{IsCovered, IsClosed}
 use Rattle.cstn_rules.specs.Rules.{base}
 use Rattle.cstn_label.specs.Tests.{dominates}
 use Rattle.cstn_check.proofs.Decided.{dominates_true, true_dominates}
-use Rattle.cstn_closed.specs.Faults.{Fault, bad, no_base, no_chain, no_wait, kind, place, other, IsFit, IsFault, IsBefore, IsFirstFault, IsFaultless}
+use Rattle.cstn_closed.specs.Faults.{Fault, bad, no_base, no_chain, no_wait, kind, place, other, IsFitBound, IsFault, IsBefore, IsFirstFault, IsFaultless}
 use Rattle.cstn_closed.proofs.FaultLemmas.{faultless_closed}
 use Rattle.cstn_label.specs.OnLetters.{IsOnLetters}
 
@@ -89,7 +89,7 @@ some_is (o ∷ os) p = elim (here o) [
     later other none zero e = other e
     later other none (suc x) e = none x e
 
-fits : (net : Network) (b : Bound) → ((IsFit net b → ⊥) → ⊥) → IsFit net b
+fits : (net : Network) (b : Bound) → ((IsFitBound net b → ⊥) → ⊥) → IsFitBound net b
 fits net b never = record {
   range = record {
     node = below b.node (count net) (λ not. never (λ fit. not fit.range.node));

@@ -1,6 +1,6 @@
 -- It can't be that a request has no output.
 use Rattle.std.proofs.Common.{◌≡◌, ℕ, zero, suc, ◌+◌, ◌<◌, ◌≤◌, Bool, true, false, List, ◌∷◌, ◌++◌, length, map, refl, subst, inl, inr, arith, zero-add, []}
-use Rattle.std.specs.Prelude.{slice_get, nat_lt, Option, Some, Result, Ok, Err, ◌-◌, codes}
+use Rattle.std.specs.Prelude.{slice_get, nat_lt, Option, None, Some, Result, Ok, Err, ◌-◌, codes}
 use Rattle.std.specs.List.{All}
 use Rattle.std.proofs.lemmas.List.Elements.{All-head, All-tail, All-contains}
 use Rattle.std.proofs.lemmas.Bool.{cases_lt}
@@ -20,10 +20,10 @@ use Rattle.cstn_graphml.specs.Document.{Parts, document}
 use Rattle.cstn_graphml.specs.Networks.{labelled_of, network_of, IsHeld, IsFit, IsUnfit, IsMislabelled}
 use Rattle.cstn_graphml.specs.Answers.{CanBeHeld}
 use Rattle.cstn_rules.specs.Derivations.{Entry, Follows, IsDerivation}
-use Rattle.cstn_refute.specs.Texts.{Told as ToldSteps, tells as tells_steps, wrong as wrong_step, told as told_steps}
-use Rattle.cstn_refute.specs.Written.{AreWritten as AreWrittenSteps}
-use Rattle.cstn_closed.specs.Texts.{Told as ToldBounds, tells as tells_bounds, wrong as wrong_bound, told as told_bounds}
-use Rattle.cstn_closed.specs.Written.{IsPrintableBound, AreWritten as AreWrittenBounds}
+use Rattle.cstn_refute.specs.Texts.{RefutationTold as ToldSteps, tells as tells_steps, wrong as wrong_step, refutation_told as told_steps}
+use Rattle.cstn_refute.specs.Written.{AreStepsWritten as AreWrittenSteps}
+use Rattle.cstn_closed.specs.Texts.{ClosedTold as ToldBounds, tells as tells_bounds, wrong as wrong_bound, closed_told as told_bounds}
+use Rattle.cstn_closed.specs.Written.{IsPrintableBound, AreBoundsWritten as AreWrittenBounds}
 use Rattle.cstn_replay.specs.Texts.{IsReplay, IsReplayOfSteps, IsReplayOf}
 use Rattle.cstn_closed.specs.Certificates.{IsCertificateOfBounds, IsCertificateOf}
 use Rattle.cstn_plan.specs.Plans.{IsEarliest}
@@ -36,11 +36,16 @@ use Rattle.cstn_check.proofs.Ends.{load_above}
 use Rattle.cstn_text.specs.Names.{AreNames}
 use Rattle.cstn_text.specs.PrintedNames.{printed_name}
 use Rattle.cstn_tree.specs.Limits.{most_observed}
-use Rattle.cstn_outline.specs.Trees.{Tree, lines_of as tree_lines, table_of}
+use Rattle.cstn_outline.specs.Trees.{Tree, lines_of_tree as tree_lines, table_of}
+use Rattle.cstn_cases.specs.Limits.{most_branches}
+use Rattle.cstn_cases.specs.Cases.{AreCasesOf, IsSoundlyPlanned, branches}
+use Rattle.cstn_cases.specs.Told.{AreCasesUnless, AreCasesSaid}
+use Rattle.cstn_cases.proofs.Branches.{cases_strategy, cases_least, cases_all_executed, cases_none_ruled_out}
+use Rattle.cstn_cases.proofs.Exists.{some_cases}
 use Rattle.cstn_tree.specs.Made.{IsTreeOf}
 use Rattle.cstn_tree.specs.Good.{IsUnbroken}
-use Rattle.cstn_outline.specs.Texts.{tells as tells_tree, told as told_tree, shown as shown_tree}
-use Rattle.cstn_outline.specs.Written.{AreWritten as IsWrittenTree}
+use Rattle.cstn_outline.specs.Texts.{tells as tells_tree, tree_told as told_tree, tree_shown as shown_tree}
+use Rattle.cstn_outline.specs.Written.{IsTreeWritten as IsWrittenTree}
 use Rattle.cstn_request.specs.Requests.{tree}
 use Rattle.cstn_reply.specs.Texts.{Said, say, yes_line}
 use Rattle.cstn_request.specs.Limits.{most_document}
@@ -56,12 +61,13 @@ use Rattle.cstn_reply.specs.declared.output.Outcome.TheVariants.{Document}
 use Rattle.cstn_check.specs.Decisions.{verdict, unless_yes, IsYes}
 use Rattle.cstn_check.proofs.Deciding.{Tells, verdict_tells}
 use Rattle.cstn_top.proofs.Documents.{IsOfDocument}
-use Rattle.cstn_tree.specs.Unfolded.{observed, IsTreeText, IsTreeUnless, IsUnfolded}
-use Rattle.cstn_exec.specs.Guides.{begun}
+use Rattle.cstn_tree.specs.Unfolded.{how_many_observed, IsTreeText, IsTreeUnless, IsUnfolded}
+use Rattle.cstn_exec.specs.Guides.{guide_begun}
 use Rattle.cstn_run.specs.Sessions.{guide_turn, guide_ending}
-use Rattle.cstn_run.specs.hosted.Sessions.{begun as begun_host, host_turn, host_wants, host_ending}
+use Rattle.cstn_run.specs.hosted.Sessions.{host_begun as begun_host, host_turn, host_wants, host_ending}
 use Rattle.cstn_run.specs.hosted.Files.{Named, the_file, yes_lines}
 use Rattle.cstn_top.proofs.Documents.{of_network}
+use Rattle.cstn_top.proofs.Labels.{IsOfLabelled}
 use Rattle.cstn_headline.proofs.SomeFault.{faultless, faultless_is_closed}
 use Rattle.cstn_plan.specs.Asked.{asked}
 
@@ -133,7 +139,7 @@ module _ (made : PartsMade) where
       ((parts : Parts) → document bytes deadline ≡ Ok parts → IsFit parts → HasSome (answer parts.names (labelled_of parts)) live) → HasSome (on_labelled answer bytes deadline) live
   document_some answer bytes deadline live held each = by_length (nat_lt most_document (length bytes))
     where
-      by_told : (told : Result Parts DocumentRefusal) → document bytes deadline ≡ told → HasSome (judged answer told) live
+      by_told : (parsed : Result Parts DocumentRefusal) → document bytes deadline ≡ parsed → HasSome (judged answer parsed) live
       by_told (Err refusal) is = said_some _ live
       by_told (Ok parts) is = λ none.
           let fit : IsFit parts = made bytes deadline parts is (held parts is)
@@ -157,7 +163,7 @@ PlansMade = (bytes : List ℕ) (deadline : Option ℕ) (parts : Parts) → plan 
 pub plan_some : PlansMade → (bytes : List ℕ) (deadline : Option ℕ) (live : List ℕ) → PlanCanBeHeld bytes deadline → HasSome (planned bytes deadline) live
 plan_some made bytes deadline live held = by_told (plan bytes deadline) refl
   where
-    by_told : (told : Result Parts PlanRefusal) → plan bytes deadline ≡ told → HasSome (planned_of told) live
+    by_told : (parsed : Result Parts PlanRefusal) → plan bytes deadline ≡ parsed → HasSome (planned_of parsed) live
     by_told (Err refusal) is = said_some _ live
     by_told (Ok parts) is = λ none.
         let fit : IsFit parts = made bytes deadline parts is (held parts is)
@@ -194,7 +200,7 @@ tree_some trees cap names net live of capped yes' none =
     })
 
 pub unfolded_some : TreesMade → (cap : ℕ) (names : List (List ℕ)) (net : Network) (live : List ℕ) → IsOfDocument names net → cap ≤ most_load → HasSome (says_such (IsUnfolded cap names net)) live
-unfolded_some trees cap names net live of capped = by_width (nat_lt most_observed (observed net)) refl
+unfolded_some trees cap names net live of capped = by_width (nat_lt most_observed (how_many_observed net)) refl
   where
     above : (n m : ℕ) → nat_lt n m ≡ true → n < m
     above n m is = grind arith
@@ -207,9 +213,49 @@ unfolded_some trees cap names net live of capped = by_width (nat_lt most_observe
     by_verdict (No load) told = λ none. none _ refl
     by_verdict IsFullVerdict told = λ none. none _ refl
 
-    by_width : (many : Bool) → nat_lt most_observed (observed net) ≡ many → HasSome (says_such (IsUnfolded cap names net)) live
-    by_width true over none = none _ (inl (above most_observed (observed net) over, refl))
-    by_width false under none = by_verdict (verdict cap net) (verdict_tells cap net of.good) (λ said is. none said (inr (below most_observed (observed net) under, is)))
+    by_width : (many : Bool) → nat_lt most_observed (how_many_observed net) ≡ many → HasSome (says_such (IsUnfolded cap names net)) live
+    by_width true over none = none _ (inl (above most_observed (how_many_observed net) over, refl))
+    by_width false under none = by_verdict (verdict cap net) (verdict_tells cap net of.good) (λ said is. none said (inr (below most_observed (how_many_observed net) under, is)))
+
+-- the tree by cases, or that it has too many branches, or what is said in its place
+pub cases_some : (cap : ℕ) (names : List (List ℕ)) (m : Labelled) (live : List ℕ) → IsOfLabelled names m → HasSome (says_such (AreCasesSaid cap names m)) live
+cases_some cap names m live of = by_verdict (verdict cap (lowered m)) (verdict_tells cap (lowered m) of.plain.good)
+  where
+    bounds : List Bound
+    bounds = live_bounds (log_of (lowered m))
+
+    above : (n k : ℕ) → nat_lt n k ≡ true → n < k
+    above n k is = grind arith
+
+    below : (n k : ℕ) → nat_lt n k ≡ false → k ≤ n
+    below n k is = grind arith
+
+    by_width : IsSoundlyPlanned m bounds → (tree : Tree) → AreCasesOf m bounds tree → (many : Bool) → nat_lt most_branches (branches tree) ≡ many → HasSome (says_such (AreCasesUnless names m None)) live
+    by_width plan tree cases true over none = none _ (inr (record { tree = tree; cases = cases; many = above most_branches (branches tree) over; said_is = refl }))
+    by_width plan tree cases false under none = none _ (inl (record {
+      tree = tree;
+      cases = cases;
+      few = below most_branches (branches tree) under;
+      strategy = cases_strategy m bounds plan tree cases;
+      least = cases_least m bounds plan tree cases;
+      executed = cases_all_executed m bounds plan tree cases;
+      ruled_out = cases_none_ruled_out m bounds plan tree cases;
+      said_is = refl;
+    }))
+
+    by_verdict : (v : Verdict) → Tells cap (lowered m) v → HasSome (says_such (AreCasesUnless names m (unless_yes cap names (lowered m) v))) live
+    by_verdict (Yes load) told =
+        let good = of.plain.good in
+        let plan : IsSoundlyPlanned m bounds = record {
+          labelled = of.labelled;
+          well_formed = good;
+          closed = log_closed (lowered m) good.network good.letters ((log_decides (lowered m) good.network good.letters).0 told.0);
+          sound = log_sound (lowered m) good.network good.letters;
+        } in
+        let made = some_cases m bounds plan in
+        by_width plan made.0 made.1 (nat_lt most_branches (branches made.0)) refl
+    by_verdict (No load) told = λ none. none _ refl
+    by_verdict IsFullVerdict told = λ none. none _ refl
 
 -- steps and bounds that a text tells are such as can be written
 abbrev pub StepsWritten : Type 0
@@ -254,4 +300,4 @@ documents_some made answer deadline live each before (bytes ∷ rest) held =
 pub guided_some : (cap : ℕ) (names : List (List ℕ)) (m : Labelled) (live : List ℕ) → HasSome (run_answer cap names m) live
 guided_some cap names m live =
     let bounds : List Bound = live_bounds (log_of (lowered m)) in
-    verdict_any cap names (lowered m) (session (guide_turn (map printed_name names) m bounds) (guide_ending m bounds) (yes_line (load_of (lowered m))) (begun (count m.base))) (verdict cap (lowered m)) live (λ none. none _ refl)
+    verdict_any cap names (lowered m) (session (guide_turn (map printed_name names) m bounds) (guide_ending m bounds) (yes_line (load_of (lowered m))) (guide_begun (count m.base))) (verdict cap (lowered m)) live (λ none. none _ refl)

@@ -7,9 +7,9 @@ use Rattle.cstn_net.specs.Networks.{Network, Constraint, IsWellFormed, count}
 use Rattle.cstn_net.specs.Strategies.{IsConsistent}
 use Rattle.cstn_text.specs.Names.{AreNames}
 use Rattle.cstn_check.specs.Growth.{log_of, load_of, live_bounds}
-use Rattle.cstn_log.specs.Cuts.{part}
-use Rattle.cstn_refute.specs.Texts.{shown as shown_steps}
-use Rattle.cstn_closed.specs.Texts.{shown as shown_bounds}
+use Rattle.cstn_log.specs.Cuts.{last_with_ancestors}
+use Rattle.cstn_refute.specs.Texts.{refutation_shown as shown_steps}
+use Rattle.cstn_closed.specs.Texts.{closed_shown as shown_bounds}
 use Rattle.cstn_check.specs.Givers.{is_of, with_ids}
 use Rattle.cstn_check.specs.Needs.{said as said_by_check}
 use Rattle.cstn_check.proofs.Fewer.{some_well_formed}
@@ -38,7 +38,7 @@ abbrev pub YesAccepted : Type 0
 YesAccepted = (names : List (List ℕ)) (net : Network) → IsWellFormed net → AreNames names → length names ≡ count net → load_of net ≤ most_load → IsConsistent net → IsYesText names net (shown_bounds names (load_of net) (live_bounds (log_of net)))
 
 abbrev pub NoAccepted : Type 0
-NoAccepted = (names : List (List ℕ)) (net : Network) → IsWellFormed net → AreNames names → length names ≡ count net → HasIds net → load_of net ≤ most_load → (IsConsistent net → ⊥) → IsNoText names net (shown_steps names (load_of net) (part (log_of net)))
+NoAccepted = (names : List (List ℕ)) (net : Network) → IsWellFormed net → AreNames names → length names ≡ count net → HasIds net → load_of net ≤ most_load → (IsConsistent net → ⊥) → IsNoText names net (shown_steps names (load_of net) (last_with_ancestors (log_of net)))
 
 module _ (yes_text : YesAccepted) (no_text : NoAccepted) where
   -- what is said of a least deadline stands for it

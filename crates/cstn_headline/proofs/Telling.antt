@@ -4,10 +4,10 @@ use Rattle.std.specs.Prelude.{◌⊎◌, Option, None, Some}
 use Rattle.cstn_net.specs.Limits.{most_load}
 use Rattle.cstn_net.specs.Networks.{Network}
 use Rattle.cstn_check.specs.Growth.{load_of, log_of}
-use Rattle.cstn_log.specs.Cuts.{part}
-use Rattle.cstn_refute.specs.Texts.{shown}
+use Rattle.cstn_log.specs.Cuts.{last_with_ancestors}
+use Rattle.cstn_refute.specs.Texts.{refutation_shown}
 use Rattle.cstn_check.specs.declared.verdicts.Verdict.{Verdict}
-use Rattle.cstn_check.specs.Decisions.{verdict, unless_yes, or_else, on_verdict as verdict_said, IsYes, IsNo}
+use Rattle.cstn_check.specs.Decisions.{verdict, unless_yes, said_instead, on_verdict as verdict_said, IsYes, IsNo}
 use Rattle.cstn_reply.specs.Texts.{Said}
 use Rattle.cstn_lift.specs.Labelled.{Labelled}
 use Rattle.cstn_lift.specs.Lowered.{lowered}
@@ -71,9 +71,9 @@ pub judged : NoAccepted → (cap : ℕ) (names : List (List ℕ)) (net : Network
     (plan_on_verdict cap names net after_yes (verdict cap net)).output live said → Judged cap names net (after_yes.output live said) said
 judged no_text cap names net after_yes live said of capped output = by_verdict_of (verdict cap net) refl (verdict_tells cap net of.good) output
   where
-    accepted : (load : ℕ) → verdict cap net ≡ No load → IsNo cap net → said.text ≡ shown names load (part (log_of net)) → IsNoText names net said.text
+    accepted : (load : ℕ) → verdict cap net ≡ No load → IsNo cap net → said.text ≡ refutation_shown names load (last_with_ancestors (log_of net)) → IsNoText names net said.text
     accepted load same no' is =
-        subst (IsNoText names net) (sym (is ∙ ap (λ (l : ℕ). shown names l (part (log_of net))) (load_told cap load net same)))
+        subst (IsNoText names net) (sym (is ∙ ap (λ (l : ℕ). refutation_shown names l (last_with_ancestors (log_of net))) (load_told cap load net same)))
         (no_text names net of.good of.are of.named of.ids (omega (arith, no'.1, capped)) no'.0)
 
     by_verdict_of : (v : Verdict) → verdict cap net ≡ v → VerdictTells cap net v → (plan_on_verdict cap names net after_yes v).output live said → Judged cap names net (after_yes.output live said) said
@@ -96,7 +96,7 @@ labelled_judged no_text cap names m after_yes live said of capped output = by_ju
     by_judged (inr (inr is)) = inr (inr is)
 
 -- what is said of a verdict, where a text is said after yes, is what that plan says
-pub as_plan : (o : Option Said) (after_yes said : Said) (live : List ℕ) → said ≡ or_else o after_yes → (unless_said o (says after_yes)).output live said
+pub as_plan : (o : Option Said) (after_yes said : Said) (live : List ℕ) → said ≡ said_instead o after_yes → (unless_said o (says after_yes)).output live said
 as_plan None after_yes said live is = is
 as_plan (Some other) after_yes said live is = is
 

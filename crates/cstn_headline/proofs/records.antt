@@ -3,6 +3,7 @@ pub mod Closed
 pub mod Tight
 pub mod Conflict
 pub mod Tree
+pub mod Cases
 pub mod Edit
 pub mod Follow
 pub mod Run

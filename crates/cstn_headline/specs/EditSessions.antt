@@ -6,9 +6,9 @@ use Rattle.cstn_net.specs.Networks.{Network}
 use Rattle.cstn_net.specs.Strategies.{IsConsistent}
 use Rattle.cstn_text.specs.Names.{AreNames}
 use Rattle.cstn_rules.specs.Derivations.{Entry, IsRefutation}
-use Rattle.cstn_log.specs.Cuts.{part}
+use Rattle.cstn_log.specs.Cuts.{last_with_ancestors}
 use Rattle.cstn_check.specs.Growth.{load_of}
-use Rattle.cstn_refute.specs.Texts.{shown}
+use Rattle.cstn_refute.specs.Texts.{refutation_shown}
 use Rattle.cstn_reply.specs.Texts.{line, yes_line, full_line}
 use Rattle.cstn_reply.specs.Reached.{Says}
 use Rattle.cstn_change.specs.ChangeLines.{network_after}
@@ -28,8 +28,8 @@ pub record SaysNo (cap : ℕ) (names : List (List ℕ)) (net : Network) (text : 
   pub list : List Entry
   pub within : length list ≤ cap
   pub whole : IsRefutation net list
-  pub steps : IsRefutation net (part list)
-  pub text_is : text ≡ shown names (length list) (part list)
+  pub steps : IsRefutation net (last_with_ancestors list)
+  pub text_is : text ≡ refutation_shown names (length list) (last_with_ancestors list)
   pub inconsistent : IsConsistent net → ⊥
   pub accepted : AreNames names → HasIds net → cap ≤ most_load → IsNoText names net text
 

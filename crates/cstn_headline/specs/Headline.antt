@@ -25,7 +25,7 @@ use Rattle.cstn_request.specs.Documents.{AreEmpty}
 use Rattle.cstn_request.specs.Files.{file_bytes}
 use Rattle.cstn_reply.specs.declared.status.Status.{Status}
 use Rattle.cstn_reply.specs.declared.status.Status.TheVariants.{Good, Bad, Full, Script}
-use Rattle.cstn_run.specs.Meanings.{end_of, said_to, GuideSays, WasNamed}
+use Rattle.cstn_run.specs.Meanings.{guided_end, said_to, GuideSays, WasNamed}
 use Rattle.cstn_reply.specs.Texts.{yes_line}
 use Rattle.cstn_change.specs.ChangeLines.{network_after}
 use Rattle.cstn_reply.specs.Statuses.{status_of}
@@ -82,7 +82,7 @@ CallTells request contents c = (outcome : Outcome) × (c.status ≡ status_of ou
 
 -- it is told what files there are, and those that the request names have these contents
 abbrev pub HasContents : Option (List ℕ → Option (List ℕ)) → Request → List (List ℕ) → Type 0
-HasContents told request contents = (files : List ℕ → Option (List ℕ)) × (told ≡ Some files) × (contents ≡ map (file_bytes files) (files_of request))
+HasContents shelf request contents = (files : List ℕ → Option (List ℕ)) × (shelf ≡ Some files) × (contents ≡ map (file_bytes files) (files_of request))
 
 -- a call of `run` with this request, over these contents and these bytes of the live source, ended with this status; what the
 -- sink had goes from `old` to `new`
@@ -134,8 +134,8 @@ pub record WasWritten (names : List (List ℕ)) (m : Labelled) (lines : List (Li
 -- label holds.
 pub record IsExecutedOver (names : List (List ℕ)) (m : Labelled) (lines : List (List ℕ)) (text : List ℕ) : Type 0 where
   pub text_is : text ≡ yes_line (load_of (lowered m)) ++ (said_to names m (run_bounds m) lines).text
-  pub each : (s : Scenario) (x : ℕ) → AgreesHanded m (end_of names m (run_bounds m) lines) s → x < count m.base → IsExecuted m s x →
+  pub each : (s : Scenario) (x : ℕ) → AgreesHanded m (guided_end names m (run_bounds m) lines) s → x < count m.base → IsExecuted m s x →
       (t : ℕ) × WasWritten names m lines x t × IsLabelledLeast m s x t
-  pub no_other : (s : Scenario) (x t : ℕ) → AgreesHanded m (end_of names m (run_bounds m) lines) s → WasNamed names m (run_bounds m) lines x t → IsExecuted m s x
-  pub meets : (s : Scenario) (c : Constraint) (from to : ℕ) → AgreesHanded m (end_of names m (run_bounds m) lines) s → Contains m.base.constraints c → IsInForce m s c →
+  pub no_other : (s : Scenario) (x t : ℕ) → AgreesHanded m (guided_end names m (run_bounds m) lines) s → WasNamed names m (run_bounds m) lines x t → IsExecuted m s x
+  pub meets : (s : Scenario) (c : Constraint) (from to : ℕ) → AgreesHanded m (guided_end names m (run_bounds m) lines) s → Contains m.base.constraints c → IsInForce m s c →
       WasNamed names m (run_bounds m) lines c.from from → WasNamed names m (run_bounds m) lines c.to to → (pos to -ℤ pos from) ≤ℤ c.most

@@ -28,9 +28,9 @@ pub record IsNamedNetwork (m : Labelled) (names : List (List ℕ)) : Type 0 wher
   pub named : AreNamesOf m.base names
 
 -- it is told what files there are, and this one has the canonical document of the network under these names
-pub record HasDocument (told : Option (List ℕ → Option (List ℕ))) (file : List ℕ) (m : Labelled) (names : List (List ℕ)) : Type 0 where
+pub record HasDocument (shelf : Option (List ℕ → Option (List ℕ))) (file : List ℕ) (m : Labelled) (names : List (List ℕ)) : Type 0 where
   pub files : List ℕ → Option (List ℕ)
-  pub told_is : told ≡ Some files
+  pub told_is : shelf ≡ Some files
   pub content : files file ≡ Some (canonical m names)
   pub short : length (canonical m names) ≤ most_document
 
@@ -44,7 +44,7 @@ pub record IsNetworkDecided (m : Labelled) (cap : ℕ) (status : Status) : Type 
   pub yes : status ≡ Good → IsLabelledConsistent m
   -- after no there is none
   pub no : status ≡ Bad → IsLabelledConsistent m → ⊥
-  -- the log has more bounds than it may, and so there may be fewer than there can be
+  -- the cap is below the most bounds that there can be
   pub full : status ≡ Full → cap < most_bounds m.base
-  -- a check that ends otherwise was stopped by a fault or by want of memory
+  -- else the status is that of a fault, or of want of memory
   pub ends : Contains (Good ∷ Bad ∷ Full ∷ ReadFault ∷ WriteFault ∷ Memory ∷ []) status

@@ -8,9 +8,9 @@ use Rattle.cstn_reply.specs.Reached.{state_after}
 
 -- The text is an opening, and then what a session says to the lines of the live source, which has these bytes where it tells. This
 -- holds of these lines.
-pub record Wrote {S : Type 0} (ends : Bool) (turn : S → List ℕ → Turn S) (ending : S → Said) (opening : List ℕ) (start : S) (told : Option (List ℕ)) (text : List ℕ) (OfLines : List (List ℕ) → Type 0) : Type 0 where
+pub record Wrote {S : Type 0} (ends : Bool) (turn : S → List ℕ → Turn S) (ending : S → Said) (opening : List ℕ) (start : S) (source : Option (List ℕ)) (text : List ℕ) (OfLines : List (List ℕ) → Type 0) : Type 0 where
   pub live : List ℕ
-  pub all : IsAllOf told live
+  pub all : IsAllOf source live
   pub text_is : text ≡ opening ++ (play turn ending start 0 (heard_lines ends live)).text
   pub of_lines : OfLines (heard_lines ends live)
 

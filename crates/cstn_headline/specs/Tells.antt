@@ -6,7 +6,7 @@ use Rattle.cstn_graphml.specs.Answers.{CanBeHeld}
 use Rattle.cstn_sentences.specs.Held.{PlanCanBeHeld}
 use Rattle.cstn_request.specs.Requests.{Request, of_network, of_labelled, of_text, of_document, of_plan, drill, host, version}
 use Rattle.cstn_request.specs.declared.words.NetworkVerb.TheVariants.{Check, Closed, Tight, Conflict, Tree, Edit}
-use Rattle.cstn_request.specs.declared.words.LabelledVerb.TheVariants.{Follow, Run}
+use Rattle.cstn_request.specs.declared.words.LabelledVerb.TheVariants.{Follow, Run, Cases}
 use Rattle.cstn_request.specs.declared.words.TextVerb.TheVariants.{Replay, Closedcheck, Treecheck}
 use Rattle.cstn_request.specs.declared.words.DocumentVerb.TheVariants.{Save, Sentences}
 use Rattle.cstn_reply.specs.Statuses.{status_of}
@@ -22,6 +22,7 @@ use Rattle.cstn_headline.specs.commands.Tree.{tree_telling}
 use Rattle.cstn_headline.specs.commands.Edit.{edit_telling}
 use Rattle.cstn_headline.specs.commands.Follow.{follow_telling}
 use Rattle.cstn_headline.specs.commands.Run.{run_telling}
+use Rattle.cstn_headline.specs.commands.Cases.{cases_telling}
 use Rattle.cstn_headline.specs.commands.Replay.{replay_telling}
 use Rattle.cstn_headline.specs.commands.Closedcheck.{closedcheck_telling}
 use Rattle.cstn_headline.specs.commands.Treecheck.{treecheck_telling}
@@ -43,6 +44,7 @@ RequestTells (of_network Tree asked cap) outcome live text contents = OfNetwork 
 RequestTells (of_network Edit asked cap) outcome live text contents = OfNetwork (file_in contents) asked.deadline outcome (edit_telling cap live text)
 RequestTells (of_labelled Follow asked cap) outcome live text contents = OfLabelled (file_in contents) asked.deadline outcome (follow_telling cap live text)
 RequestTells (of_labelled Run asked cap) outcome live text contents = OfLabelled (file_in contents) asked.deadline outcome (run_telling cap live text)
+RequestTells (of_labelled Cases asked cap) outcome live text contents = OfLabelled (file_in contents) asked.deadline outcome (cases_telling cap text)
 RequestTells (of_text Replay asked proof) outcome live text contents = OfLabelled (file_in contents) asked.deadline outcome (replay_telling (proof_in contents))
 RequestTells (of_text Closedcheck asked proof) outcome live text contents = OfLabelled (file_in contents) asked.deadline outcome (closedcheck_telling (proof_in contents))
 RequestTells (of_text Treecheck asked proof) outcome live text contents = OfNetwork (file_in contents) asked.deadline outcome (treecheck_telling (proof_in contents))

@@ -5,7 +5,7 @@ use Rattle.cstn_lift.specs.Labelled.{Labelled}
 use Rattle.cstn_lift.specs.Lowered.{lowered}
 use Rattle.cstn_lift.specs.Strategies.{IsLabelledConsistent}
 use Rattle.cstn_rules.specs.Derivations.{IsRefutation}
-use Rattle.cstn_log.specs.Cuts.{part}
+use Rattle.cstn_log.specs.Cuts.{last_with_ancestors}
 use Rattle.cstn_check.specs.Growth.{log_of, load_of, live_bounds}
 use Rattle.cstn_closed.specs.Faults.{IsFaultless}
 
@@ -19,4 +19,4 @@ HasListedBounds net = IsFaultless net (live_bounds (log_of net))
 
 -- the last entry of the network's log, with the entries that it follows from, is a refutation
 abbrev pub IsRefutedByLog : Network → Type 0
-IsRefutedByLog net = IsRefutation net (part (log_of net))
+IsRefutedByLog net = IsRefutation net (last_with_ancestors (log_of net))

@@ -9,6 +9,7 @@ pub mod Closedcheck
 pub mod Tight
 pub mod Conflict
 pub mod Tree
+pub mod Cases
 pub mod Treecheck
 pub mod Replay
 pub mod Save

@@ -7,7 +7,8 @@ ghost use Rattle.cstn_reply.specs.declared.status.Status.{Status};
 ghost use Rattle.cstn_reply.specs.declared.status.Status.TheVariants.{Good, Bad, Full};
 ghost use Rattle.cstn_top.specs.commands.Run.{run_bounds};
 ghost use Rattle.cstn_headline.specs.commands.Run.{AnswersLeast};
-ghost use Rattle.cstn_headline.specs.Headline.{Document, network, printed_names, DocumentHasStrategy, load, network_edited, RequestCall, CallTells, HasContents, IsCall};
+ghost use Rattle.cstn_headline.specs.Headline.{Document, network, printed_names, DocumentHasStrategy, load, network_edited, RequestCall, CallTells};
+ghost use Rattle.cstn_headline.specs.Headline.{HasContents, IsCall};
 ghost use Rattle.cstn_headline.specs.Headline.{Checked, Ran, Replayed, Edited, StatusDecides, IsEditedVerdict, IsExecutedOver};
 ghost use Rattle.cstn_top.specs.Meanings.{IsStopped};
 ghost use Rattle.cstn_reply.specs.Written.{view};
@@ -26,7 +27,8 @@ use cstn_io::Source;
 /// none too long or too late, the verdict of the last check is that of the network as edited by the lines before it, or Full,
 /// where its log has more entries than the cap.
 pub fn the_headline()
-    ensures check { (d : Document) (cap : ℕ) (c : Checked d cap) → ((c.status ≡ Full) × (cap < load d)) ⊎ (StatusDecides c.status (DocumentHasStrategy d) × (load d ≤ cap)) }
+    ensures check { (d : Document) (cap : ℕ) (c : Checked d cap) → ((c.status ≡ Full) × (cap < load d))
+        ⊎ (StatusDecides c.status (DocumentHasStrategy d) × (load d ≤ cap)) }
     ensures least { (d : Document) → DocumentHasStrategy d → AnswersLeast (printed_names d) (network d) (run_bounds (network d)) }
     ensures executed { (d : Document) (cap : ℕ) (c : Ran d cap) → c.status ≡ Good
         → IsExecutedOver (printed_names d) (network d) (lines_of c.live) c.text }

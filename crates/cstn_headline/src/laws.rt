@@ -19,15 +19,20 @@ ghost use Rattle.cstn_top.specs.Dispatch.{plan_at};
 ghost use Rattle.cstn_top.specs.Meanings.{IsCapRanged};
 ghost use Rattle.cstn_headline.specs.Tells.{AreDocumentsHeld};
 ghost use Rattle.cstn_headline.specs.commands.Plan.{PlanHasNetwork, IsDocumentReadAs};
-ghost use Rattle.cstn_request.specs.Requests.{AskedFile, Request, of_plan, check, run, closed, replay, closedcheck};
+ghost use Rattle.cstn_request.specs.Requests.{AskedFile, Request, of_plan, check, run, closed, replay, closedcheck, tree, cases};
 ghost use Rattle.cstn_reply.specs.Texts.{Said, line};
-ghost use Rattle.cstn_reply.specs.declared.output.Outcome.TheVariants.{Good, Bad};
-ghost use Rattle.cstn_lift.specs.Labelled.{Labelled};
+ghost use Rattle.cstn_reply.specs.declared.output.Outcome.TheVariants.{Good, Bad, Document, Wide};
+ghost use Rattle.cstn_label.specs.Bounds.{Bound};
+ghost use Rattle.cstn_label.specs.Labels.{empty};
+ghost use Rattle.cstn_lift.specs.Labelled.{Labelled, label_of};
 ghost use Rattle.cstn_lift.specs.Lowered.{lowered};
 ghost use Rattle.cstn_lift.specs.WellFormed.{IsLabelled};
 ghost use Rattle.cstn_history.specs.Continuations.{Can};
 ghost use Rattle.cstn_tight.specs.Deadlines.{at_deadline, IsLeastDeadline};
 ghost use Rattle.cstn_headline.specs.LabelledDeadlines.{labelled_at, IsLabelledLeastDeadline};
+ghost use Rattle.cstn_outline.specs.Trees.{Tree};
+ghost use Rattle.cstn_tree.specs.Made.{IsTreeOf};
+ghost use Rattle.cstn_cases.specs.Cases.{AreCasesOf, IsSoundlyPlanned};
 ghost use Rattle.cstn_change.specs.ChangeLines.{network_after};
 ghost use Rattle.cstn_headline.specs.EditSessions.{AnswersCheck, IsAtLastCheck};
 ghost use Rattle.cstn_top.specs.commands.Follow.{marked_turn};
@@ -62,7 +67,7 @@ pub fn edit_sessions_are_true()
 }
 
 /// A labelled network with another deadline is lowered to its lowered network with that deadline. So the least deadline of a
-/// labelled network is that of the network it is lowered to.
+/// labelled network, up to its own, is that of the network it is lowered to.
 pub fn least_deadlines_are_lowered()
     ensures lowered { (m : Labelled) (h : ℕ) → lowered (labelled_at m h) ≡ at_deadline (lowered m) h }
     ensures least { (m : Labelled) (h : ℕ) → IsLabelled m → h ≤ m.base.deadline → (IsLabelledLeastDeadline m h ↔ IsLeastDeadline (lowered m) h) }
@@ -84,6 +89,18 @@ pub fn outputs_are_one()
     networks_have_one_tree();
     made_trees_are_good();
     tree_texts_are_read_back();
+}
+
+/// Of a document without labels on time-points `cases` says what `tree` says, unless that is how many propositions are observed, where they
+/// are too many for it. The tree of a network is then its tree by cases.
+pub fn cases_without_labels_are_trees()
+    ensures said { (asked : AskedFile) (cap : ℕ) (contents : List (List ℕ)) (live : List ℕ) (one other : Said)
+        → (plan_at (tree asked cap) contents).output live one → (plan_at (cases asked cap) contents).output live other
+        → (one.outcome ≡ Document → ⊥) → (one.outcome ≡ Wide → ⊥) → one ≡ other }
+    ensures tree { (m : Labelled) (bounds : List Bound) (tree : Tree) → IsSoundlyPlanned m bounds
+        → ((x : ℕ) → x < count m.base → label_of m x ≡ empty) → IsTreeOf (lowered m) bounds tree → AreCasesOf m bounds tree }
+{
+    documents_have_one_answer();
 }
 
 /// What `check`, `run` and `closed` write after no passes: `replay` of the same document with that text says `accepted`, and
@@ -118,7 +135,8 @@ pub fn documents_of_plans_are_the_plans()
 /// After no, the refutation that `check` answers, less its line `end`, passes: `replay` accepts it on the document that `rest` answers
 /// in the same state, where that has at most 8,388,608 bytes. What nothing observes has a reaction of 1 tick, as in each document.
 pub fn followed_refutations_pass()
-    ensures { (cap : ℕ) (names : List (List ℕ)) (m : Labelled) (lines : List (List ℕ)) (s t u : Marked) (load : ℕ) (text bytes file : List ℕ) (asked : AskedFile)
+    ensures { (cap : ℕ) (names : List (List ℕ)) (m : Labelled) (lines : List (List ℕ)) (s t u : Marked) (load : ℕ) (text bytes file : List ℕ)
+        (asked : AskedFile)
         → IsLabelled m → length (lowered m).constraints ≤ most_constraints → AreNamesOf m.base names
         → ((p : ℕ) → ((x : ℕ) → Observes m.base x p → ⊥) → m.base.reaction p ≡ 1) → cap ≤ most_load
         → state_after marked_turn (begun_marked cap names m) 0 lines ≡ Some s → verdict_now s.now ≡ No load

@@ -15,7 +15,7 @@ use std::alloc::Global;
 
 /// The headline for networks: `run`, asked for a check of the canonical document of a network in memory, ends with Good only if the
 /// network has a dynamic strategy, with Bad only if it has none, and with Full only if the cap is below n * 4^k * (H + 2), for n
-/// time-points, k observed propositions and the deadline H. Else a fault or want of memory stopped it.
+/// time-points, k observed propositions and the deadline H. Else it ends with ReadFault, WriteFault or Memory.
 pub fn check_network<F: Shelf, S: Source, K: Sink>(
     alloc: Global,
     release: Release,

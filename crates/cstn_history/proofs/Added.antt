@@ -8,8 +8,8 @@ use Rattle.cstn_facts.proofs.Members.{flat_map_contains, flat_map_from, contains
 use Rattle.cstn_facts.proofs.Ranges.{range_contains, range_from}
 use Rattle.cstn_net.specs.Networks.{Constraint, count, limit}
 use Rattle.cstn_lift.specs.Labelled.{Labelled}
-use Rattle.cstn_history.specs.Histories.{History, is_done}
-use Rattle.cstn_history.specs.Rest.{sight_left, is_left, number_of, bare, late_one, late, moment_watched, stands_at, watched_one, watched, coming_one, coming}
+use Rattle.cstn_history.specs.Histories.{History, is_done, soonest}
+use Rattle.cstn_history.specs.Rest.{sight_left, is_left, number_left, bare, late_one, late, moment_watched, stands_at, watched_one, watched, coming_one, coming}
 
 second_in : {X : Type 0} → (x y : X) → Contains (x ∷ (y ∷ [])) y
 second_in x y = (1, omega arith, refl)
@@ -69,28 +69,28 @@ module _ (m : Labelled) (h : History) where
     pub here : suc point < count m.base
     pub done : h.done (suc point) ≡ Some moment
     pub sees : sight_left m h (suc point) ≡ Some prop
-    pub is : (bare (number_of m h (suc point)) 0 (pos 0 -ℤ pos (moment_watched m h prop moment)) ≡ e)
-        ⊎ (bare 0 (number_of m h (suc point)) (pos (moment_watched m h prop moment)) ≡ e)
+    pub is : (bare (number_left m h (suc point)) 0 (pos 0 -ℤ pos (moment_watched m h prop moment)) ≡ e)
+        ⊎ (bare 0 (number_left m h (suc point)) (pos (moment_watched m h prop moment)) ≡ e)
 
   watched_is : (x t p : ℕ) → h.done (suc x) ≡ Some t → sight_left m h (suc x) ≡ Some p →
-      watched_one m h (suc x) (h.done (suc x)) (sight_left m h (suc x)) ≡ stands_at (number_of m h (suc x)) (moment_watched m h p t)
+      watched_one m h (suc x) (h.done (suc x)) (sight_left m h (suc x)) ≡ stands_at (number_left m h (suc x)) (moment_watched m h p t)
   watched_is x t p e f = ap (λ o. watched_one m h (suc x) o (sight_left m h (suc x))) e ∙ ap (watched_one m h (suc x) (Some t)) f
 
   watched_in : (x t p : ℕ) (d : Constraint) → suc x < count m.base → h.done (suc x) ≡ Some t → sight_left m h (suc x) ≡ Some p →
-      Contains (stands_at (number_of m h (suc x)) (moment_watched m h p t)) d → Contains (watched m h) d
+      Contains (stands_at (number_left m h (suc x)) (moment_watched m h p t)) d → Contains (watched m h) d
   watched_in x t p d here e f has =
       flat_map_contains (λ y. watched_one m h y (h.done y) (sight_left m h y)) (range_with_len 0 (count m.base)) (suc x) d
       (range_contains (count m.base) (suc x) here) (subst (λ l. Contains l d) (sym (watched_is x t p e f)) has)
 
   pub watched_low : (x t p : ℕ) → suc x < count m.base → h.done (suc x) ≡ Some t → sight_left m h (suc x) ≡ Some p →
-      Contains (watched m h) (bare (number_of m h (suc x)) 0 (pos 0 -ℤ pos (moment_watched m h p t)))
-  watched_low x t p here e f = watched_in x t p (bare (number_of m h (suc x)) 0 (pos 0 -ℤ pos (moment_watched m h p t))) here e f
-      (contains_head (bare (number_of m h (suc x)) 0 (pos 0 -ℤ pos (moment_watched m h p t))) (bare 0 (number_of m h (suc x)) (pos (moment_watched m h p t)) ∷ []))
+      Contains (watched m h) (bare (number_left m h (suc x)) 0 (pos 0 -ℤ pos (moment_watched m h p t)))
+  watched_low x t p here e f = watched_in x t p (bare (number_left m h (suc x)) 0 (pos 0 -ℤ pos (moment_watched m h p t))) here e f
+      (contains_head (bare (number_left m h (suc x)) 0 (pos 0 -ℤ pos (moment_watched m h p t))) (bare 0 (number_left m h (suc x)) (pos (moment_watched m h p t)) ∷ []))
 
   pub watched_high : (x t p : ℕ) → suc x < count m.base → h.done (suc x) ≡ Some t → sight_left m h (suc x) ≡ Some p →
-      Contains (watched m h) (bare 0 (number_of m h (suc x)) (pos (moment_watched m h p t)))
-  watched_high x t p here e f = watched_in x t p (bare 0 (number_of m h (suc x)) (pos (moment_watched m h p t))) here e f
-      (second_in (bare (number_of m h (suc x)) 0 (pos 0 -ℤ pos (moment_watched m h p t))) (bare 0 (number_of m h (suc x)) (pos (moment_watched m h p t))))
+      Contains (watched m h) (bare 0 (number_left m h (suc x)) (pos (moment_watched m h p t)))
+  watched_high x t p here e f = watched_in x t p (bare 0 (number_left m h (suc x)) (pos (moment_watched m h p t))) here e f
+      (second_in (bare (number_left m h (suc x)) 0 (pos 0 -ℤ pos (moment_watched m h p t))) (bare 0 (number_left m h (suc x)) (pos (moment_watched m h p t))))
 
   watched_by : (x : ℕ) (o q : Option ℕ) (e : Constraint) → x < count m.base → h.done x ≡ o → sight_left m h x ≡ q →
       Contains (watched_one m h x o q) e → IsWatched e
@@ -104,8 +104,8 @@ module _ (m : Labelled) (h : History) where
     here = here;
     done = at;
     sees = sees;
-    is = one_of_two (bare (number_of m h (suc x)) 0 (pos 0 -ℤ pos (moment_watched m h p t)))
-        (bare 0 (number_of m h (suc x)) (pos (moment_watched m h p t))) e has;
+    is = one_of_two (bare (number_left m h (suc x)) 0 (pos 0 -ℤ pos (moment_watched m h p t)))
+        (bare 0 (number_left m h (suc x)) (pos (moment_watched m h p t))) e has;
   }
 
   pub watched_from : (e : Constraint) → Contains (watched m h) e → IsWatched e
@@ -113,21 +113,21 @@ module _ (m : Labelled) (h : History) where
       let from = flat_map_from (λ y. watched_one m h y (h.done y) (sight_left m h y)) (range_with_len 0 (count m.base)) e has in
       watched_by from.0 (h.done from.0) (sight_left m h from.0) e (range_from (count m.base) from.0 from.1) refl refl from.2
 
-  -- by e, x isn't before now
+  -- by e, x isn't before now and when it is ready
   pub record IsComing (e : Constraint) : Type 0 where
     pub point : ℕ
     pub here : point < count m.base
     pub left : is_left m h point ≡ true
     pub coming : h.done point ≡ None
-    pub is : bare (number_of m h point) 0 (pos 0 -ℤ pos h.now) ≡ e
+    pub is : bare (number_left m h point) 0 (pos 0 -ℤ pos (soonest h point)) ≡ e
 
-  pub coming_in : (x : ℕ) → x < count m.base → 0 < h.now → is_left m h x ≡ true → h.done x ≡ None →
-      Contains (coming m h) (bare (number_of m h x) 0 (pos 0 -ℤ pos h.now))
+  pub coming_in : (x : ℕ) → x < count m.base → 0 < soonest h x → is_left m h x ≡ true → h.done x ≡ None →
+      Contains (coming m h) (bare (number_left m h x) 0 (pos 0 -ℤ pos (soonest h x)))
   coming_in x here later left none =
-      let d = bare (number_of m h x) 0 (pos 0 -ℤ pos h.now) in
+      let d = bare (number_left m h x) 0 (pos 0 -ℤ pos (soonest h x)) in
       let undone : is_done h x ≡ false = ap is_some none in
       flat_map_contains (coming_one m h) (range_with_len 0 (count m.base)) x d (range_contains (count m.base) x here)
-      (subst (λ l. Contains l d) (sym (ap (λ b. if b && is_left m h x && not (is_done h x) then d ∷ [] else []) (lt-ltb 0 h.now later)
+      (subst (λ l. Contains l d) (sym (ap (λ b. if b && is_left m h x && not (is_done h x) then d ∷ [] else []) (lt-ltb 0 (soonest h x) later)
       ∙ ap (λ b. if true && b && not (is_done h x) then d ∷ [] else []) left ∙ ap (λ b. if true && true && not b then d ∷ [] else []) undone)) (contains_head d []))
 
   undone : (o : Option ℕ) → is_some o ≡ false → o ≡ None
@@ -135,13 +135,13 @@ module _ (m : Labelled) (h : History) where
   undone (Some t) e = absurd (cc)
 
   coming_by : (x : ℕ) (e : Constraint) (a b c : Bool) → x < count m.base → is_left m h x ≡ b → is_done h x ≡ c →
-      Contains (if a && b && not c then bare (number_of m h x) 0 (pos 0 -ℤ pos h.now) ∷ [] else []) e → IsComing e
+      Contains (if a && b && not c then bare (number_left m h x) 0 (pos 0 -ℤ pos (soonest h x)) ∷ [] else []) e → IsComing e
   coming_by x e true true false here left none has = record {
     point = x;
     here = here;
     left = left;
     coming = undone (h.done x) none;
-    is = contains_one (bare (number_of m h x) 0 (pos 0 -ℤ pos h.now)) e has;
+    is = contains_one (bare (number_left m h x) 0 (pos 0 -ℤ pos (soonest h x))) e has;
   }
   coming_by x e true true true here left none has = absurd (none_in e has)
   coming_by x e true false c here left none has = absurd (none_in e has)
@@ -150,4 +150,4 @@ module _ (m : Labelled) (h : History) where
   pub coming_from : (e : Constraint) → Contains (coming m h) e → IsComing e
   coming_from e has =
       let from = flat_map_from (coming_one m h) (range_with_len 0 (count m.base)) e has in
-      coming_by from.0 e (nat_lt 0 h.now) (is_left m h from.0) (is_done h from.0) (range_from (count m.base) from.0 from.1) refl refl from.2
+      coming_by from.0 e (nat_lt 0 (soonest h from.0)) (is_left m h from.0) (is_done h from.0) (range_from (count m.base) from.0 from.1) refl refl from.2

@@ -10,7 +10,7 @@ use Rattle.cstn_lift.specs.WellFormed.{IsLabelled}
 use Rattle.cstn_lift.specs.Strategies.{IsExecuted, IsLabelledStrategy, IsLabelledConsistent, IsLabelledLeast}
 use Rattle.cstn_history.specs.Histories.{History, IsHistory, AgreesWith}
 use Rattle.cstn_history.specs.Continuations.{Continues, Can, IsLeastNow}
-use Rattle.cstn_history.specs.Rest.{number_of, rest}
+use Rattle.cstn_history.specs.Rest.{number_left, rest}
 use Rattle.cstn_history.proofs.Settled.{as_told, told_itself, holds_allows}
 use Rattle.cstn_history.proofs.Places.{left_coming}
 use Rattle.cstn_history.proofs.ToRest.{executed_left, at_coming, to_rest, to_rest_strategy}
@@ -28,17 +28,17 @@ module _ (m : Labelled) (h : History) (fresh : ℕ) (good : IsLabelled m) (known
     same : as_told h s ≡ s
     same = told_itself h s agrees
 
-    moment : (table : Table) (goes : Continues m h table) → to_rest m h fresh good known table goes s (number_of m h x) ≡ table s x
+    moment : (table : Table) (goes : Continues m h table) → to_rest m h fresh good known table goes s (number_left m h x) ≡ table s x
     moment table goes =
         at_coming m h fresh good known table goes s x here
         (left_coming m h fresh good known x none (holds_allows h (completed_label m x) s agrees seen)) none
         ∙ ap (λ r. table r x) same
 
     moment_back : (strategy : Table) (plays : IsLabelledStrategy (rest m h fresh) strategy) →
-        from_rest m h fresh good known strategy plays s x ≡ strategy s (number_of m h x)
+        from_rest m h fresh good known strategy plays s x ≡ strategy s (number_left m h x)
     moment_back strategy plays = back_coming m h fresh good known strategy plays s x none
 
-    least_in_rest : (t : ℕ) → IsLeastNow m h s x t → IsLabelledLeast (rest m h fresh) s (number_of m h x) t
+    least_in_rest : (t : ℕ) → IsLeastNow m h s x t → IsLabelledLeast (rest m h fresh) s (number_left m h x) t
     least_in_rest t l = record {
       executed = executed_left m h fresh good known s x here
           (left_coming m h fresh good known x none (holds_allows h (completed_label m x) s agrees seen))
@@ -52,7 +52,7 @@ module _ (m : Labelled) (h : History) (fresh : ℕ) (good : IsLabelled m) (known
           (l.least (from_rest m h fresh good known strategy plays) (from_rest_continues m h fresh good known strategy plays));
     }
 
-    least_now : (t : ℕ) → IsLabelledLeast (rest m h fresh) s (number_of m h x) t → IsLeastNow m h s x t
+    least_now : (t : ℕ) → IsLabelledLeast (rest m h fresh) s (number_left m h x) t → IsLeastNow m h s x t
     least_now t l = record {
       coming = none;
       executed = seen;
@@ -65,5 +65,5 @@ module _ (m : Labelled) (h : History) (fresh : ℕ) (good : IsLabelled m) (known
           (l.least (to_rest m h fresh good known table goes) (to_rest_strategy m h fresh good known table goes));
     }
 
-    pub least_both : (t : ℕ) → IsLeastNow m h s x t ↔ IsLabelledLeast (rest m h fresh) s (number_of m h x) t
+    pub least_both : (t : ℕ) → IsLeastNow m h s x t ↔ IsLabelledLeast (rest m h fresh) s (number_left m h x) t
     least_both t = (least_in_rest t, least_now t)

@@ -42,6 +42,7 @@ module _ (m : Labelled) (deadline : ℕ) (cs : List Constraint) where
       told = λ p v e. let o = known.told p v e in (o.0, observed_new p o.0 o.1);
       expected = λ p u e. let o = known.expected p u e in (o.0, o.1, observed_new p o.0 o.2);
       settled = λ x t e. subst (Settles h) (sym (completed_new _)) (known.settled x t e);
+      ready = known.ready;
     }
 
     pub timely_new : IsInTime m h → IsInTime new h
@@ -49,6 +50,7 @@ module _ (m : Labelled) (deadline : ℕ) (cs : List Constraint) where
       now = timely.now;
       expected = timely.expected;
       origin = λ p u e o. timely.origin p u e (observes_old 0 p o);
+      ready = timely.ready;
     }
 
     executed_new : (s : Scenario) (x : ℕ) → IsExecuted m s x → IsExecuted new s x
@@ -77,7 +79,7 @@ module _ (m : Labelled) (deadline : ℕ) (cs : List Constraint) where
       continues_new table goes = record {
         done = goes.done;
         in_time = λ s x t agrees e. let upto = goes.in_time s x t agrees e in let last = limit_new x in omega arith;
-        from_now = λ s x agrees here none e. goes.from_now s x agrees here none (executed_old s x e);
+        from_soonest = λ s x agrees here none e. goes.from_soonest s x agrees here none (executed_old s x e);
         within = λ s x agrees here none e.
             let upto = goes.within s x agrees here none (executed_old s x e) in let last = limit_new x in omega arith;
         meets = λ s c agrees has force. goes.meets s c agrees (fewer c has) (subst (Holds s) (completed_new _) force);

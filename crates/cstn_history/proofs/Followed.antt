@@ -29,7 +29,10 @@ module _ (m : Labelled) (h : History) (table : Table) (goes : Continues m h tabl
   time_passes = record {
     done = goes.done;
     in_time = goes.in_time;
-    from_now = quiet;
+    from_soonest = λ s x agrees here none e.
+        let from = goes.from_soonest s x agrees here none e in
+        let late = quiet s x agrees here none e in
+        omega arith;
     within = goes.within;
     meets = goes.meets;
     dynamic = λ s r x of_s of_r here none e agrees. goes.dynamic s r x of_s of_r here none e (λ p k. agrees p (known_then s (table s x) p k));
@@ -38,7 +41,7 @@ module _ (m : Labelled) (h : History) (table : Table) (goes : Continues m h tabl
 module _ (m : Labelled) (h : History) (table : Table) (goes : Continues m h table) (t p : ℕ) (v : Bool) (untold : h.told p ≡ None) (quiet : IsQuietBefore m h table t) where
   quiet_later : IsQuietBefore m h table (max h.now t)
   quiet_later s x agrees here none e =
-      let a = goes.from_now s x agrees here none e in
+      let a = goes.from_soonest s x agrees here none e in
       let b = quiet s x agrees here none e in
       omega arith
 
@@ -48,6 +51,7 @@ module _ (m : Labelled) (h : History) (table : Table) (goes : Continues m h tabl
     done = λ x. refl;
     told = λ q w is. put_kept h.told p v q w untold is;
     expected = λ q. refl;
+    ready = λ x. refl;
   }) table (time_passes m h table goes (max h.now t) quiet_later)
 
 module _ (m : Labelled) (h : History) (good : IsLabelled m) (known : IsHistory m h) (table : Table) (goes : Continues m h table) (t x : ℕ)
@@ -119,8 +123,8 @@ module _ (m : Labelled) (h : History) (good : IsLabelled m) (known : IsHistory m
           subst (λ z. u ≤ limit m.base z) (sym new.0) (omega arith)
       | inr old ↦ goes.in_time s y u agrees old
     ];
-    from_now = λ s y agrees inside none e.
-        let a = goes.from_now s y agrees inside (was y none) e in
+    from_soonest = λ s y agrees inside none e.
+        let a = goes.from_soonest s y agrees inside (was y none) e in
         let b = quiet s y agrees inside (was y none) e in
         omega arith;
     within = λ s y agrees inside none e. goes.within s y agrees inside (was y none) e;

@@ -18,7 +18,7 @@ use Rattle.cstn_lift.proofs.CompletionLemmas.{completed_least}
 use Rattle.cstn_lift.proofs.ListLemmas.{numbered_all, numbered_append, numbered_contains, numbered_length}
 use Rattle.cstn_lift.proofs.Equivalent.{full_from, full_to}
 use Rattle.cstn_history.specs.Histories.{History, IsHistory, allows, label_left, IsAllowed}
-use Rattle.cstn_history.specs.Rest.{number_of, end_left, moved, is_over, constraint_left, bare, late, watched, coming, added, rest}
+use Rattle.cstn_history.specs.Rest.{number_left, end_left, moved, is_over, constraint_left, bare, late, watched, coming, added, rest}
 use Rattle.cstn_history.proofs.Settled.{some_or_none, allows_true, allows_back, allows_within, left_told, left_untold, left_joined, as_told, holds_left, holds_back, settles_absent}
 use Rattle.cstn_history.proofs.Places.{left_coming, label_new}
 use Rattle.cstn_history.proofs.Labels.{label_absent, completed_left}
@@ -55,10 +55,10 @@ module _ (m : Labelled) (h : History) (fresh : ℕ) (good : IsLabelled m) (known
   origin_empty = label_new m h fresh good known 0 good.base.network.origin refl ∙ done_empty 0 0 known.origin
 
   pub end_done : (x t : ℕ) → h.done x ≡ Some t → end_left m h x ≡ 0
-  end_done x t e = ap (λ o. if is_some o then 0 else number_of m h x) e
+  end_done x t e = ap (λ o. if is_some o then 0 else number_left m h x) e
 
-  pub end_coming : (x : ℕ) → h.done x ≡ None → end_left m h x ≡ number_of m h x
-  end_coming x e = ap (λ o. if is_some o then 0 else number_of m h x) e
+  pub end_coming : (x : ℕ) → h.done x ≡ None → end_left m h x ≡ number_left m h x
+  end_coming x e = ap (λ o. if is_some o then 0 else number_left m h x) e
 
   pub end_label : (x : ℕ) → x < count m.base → IsAllowed h (completed_label m x) → label_of R (end_left m h x) ≡ label_left h (label_of m x)
   end_label x here all = elim (some_or_none (h.done x)) [

@@ -18,9 +18,9 @@ use Rattle.cstn_lift.specs.Completion.{completed_label, full_label}
 use Rattle.cstn_lift.specs.WellFormed.{IsLabelled}
 use Rattle.cstn_lift.specs.Strategies.{IsExecuted, IsInForce, IsKnownExecuted, IsLabelledStrategy}
 use Rattle.cstn_lift.proofs.Equivalent.{full_from, full_to}
-use Rattle.cstn_history.specs.Histories.{History, IsHistory, AgreesWith, is_done, known_at, or_at}
+use Rattle.cstn_history.specs.Histories.{History, IsHistory, AgreesWith, is_done, known_at, or_at, soonest}
 use Rattle.cstn_history.specs.Continuations.{Continues, IsKnownAfter}
-use Rattle.cstn_history.specs.Rest.{is_left, number_of, end_left, moment_done, value_left, moved, is_over, bare, moment_watched, rest}
+use Rattle.cstn_history.specs.Rest.{is_left, number_left, end_left, moment_done, value_left, moved, is_over, bare, moment_watched, rest}
 use Rattle.cstn_history.proofs.Settled.{some_or_none, as_told, told_itself, holds_allows}
 use Rattle.cstn_history.proofs.Places.{old, left_coming, left_watching, old_stands, new_inside, observes_back, sees_left}
 use Rattle.cstn_history.proofs.Forces.{done_empty, origin_empty, end_done, end_coming, force_left, constraint_kept, late_kept, watched_kept, coming_kept, bare_force, bare_full}
@@ -41,13 +41,13 @@ module _ (m : Labelled) (h : History) (fresh : ℕ) (good : IsLabelled m) (known
 
   -- what is done stands at its moment, and what isn't done stands as in the rest
   abbrev pub from_rest : Table
-  from_rest s x = or_at (h.done x) (strategy s (number_of m h x))
+  from_rest s x = or_at (h.done x) (strategy s (number_left m h x))
 
   pub at_done : (s : Scenario) (x t : ℕ) → h.done x ≡ Some t → from_rest s x ≡ t
-  at_done s x t e = ap (λ o. or_at o (strategy s (number_of m h x))) e
+  at_done s x t e = ap (λ o. or_at o (strategy s (number_left m h x))) e
 
-  pub at_coming : (s : Scenario) (x : ℕ) → h.done x ≡ None → from_rest s x ≡ strategy s (number_of m h x)
-  at_coming s x e = ap (λ o. or_at o (strategy s (number_of m h x))) e
+  pub at_coming : (s : Scenario) (x : ℕ) → h.done x ≡ None → from_rest s x ≡ strategy s (number_left m h x)
+  at_coming s x e = ap (λ o. or_at o (strategy s (number_left m h x))) e
 
   pub at_origin : (s : Scenario) → strategy s 0 ≡ 0
   at_origin s =
@@ -62,10 +62,10 @@ module _ (m : Labelled) (h : History) (fresh : ℕ) (good : IsLabelled m) (known
     left_executed : (x : ℕ) → h.done x ≡ None → IsExecuted m s x → is_left m h x ≡ true
     left_executed x none e = left_coming m h fresh good known x none (holds_allows h (completed_label m x) s agrees e)
 
-    pub executed_in : (x : ℕ) → x < count m.base → is_left m h x ≡ true → IsExecuted m s x → IsExecuted R s (number_of m h x)
+    pub executed_in : (x : ℕ) → x < count m.base → is_left m h x ≡ true → IsExecuted m s x → IsExecuted R s (number_left m h x)
     executed_in x here left e = executed_left m h fresh good known s x here left (subst (λ r. IsExecuted m r x) (sym same) e)
 
-    pub executed_out : (x : ℕ) → x < count m.base → is_left m h x ≡ true → IsExecuted R s (number_of m h x) → IsExecuted m s x
+    pub executed_out : (x : ℕ) → x < count m.base → is_left m h x ≡ true → IsExecuted R s (number_left m h x) → IsExecuted m s x
     executed_out x here left e = subst (λ r. IsExecuted m r x) same (executed_back m h fresh good known s x here left e)
 
     in_time : (x t : ℕ) → h.done x ≡ Some t → t ≤ limit m.base x
@@ -79,25 +79,25 @@ module _ (m : Labelled) (h : History) (fresh : ℕ) (good : IsLabelled m) (known
           absurd (omega (arith, ints))
     ]
 
-    from_now : (x : ℕ) → x < count m.base → h.done x ≡ None → IsExecuted m s x → h.now ≤ from_rest s x
-    from_now x here none e = elim (cases_lt 0 h.now) [
+    from_soonest : (x : ℕ) → x < count m.base → h.done x ≡ None → IsExecuted m s x → soonest h x ≤ from_rest s x
+    from_soonest x here none e = elim (cases_lt 0 (soonest h x)) [
       | inr start ↦ omega arith
       | inl later ↦
           let left = left_executed x none e in
-          let d = bare (number_of m h x) 0 (pos 0 -ℤ pos h.now) in
+          let d = bare (number_left m h x) 0 (pos 0 -ℤ pos (soonest h x)) in
           let kept = coming_kept m h fresh good known d (coming_in m h x here later left none) in
-          let force : IsInForce R s d = subst (Holds s) (sym (bare_full m h fresh good known (number_of m h x) (pos 0 -ℤ pos h.now))) (executed_in x here left e) in
+          let force : IsInForce R s d = subst (Holds s) (sym (bare_full m h fresh good known (number_left m h x) (pos 0 -ℤ pos (soonest h x)))) (executed_in x here left e) in
           let met = plays.meets s (record d { id = kept.0 }) kept.1 force in
           let origin = at_origin s in
           let at = at_coming s x none in
           omega (arith, ints)
     ]
 
-    upto_deadline : (x : ℕ) → x < count m.base → h.done x ≡ None → IsExecuted m s x → strategy s (number_of m h x) ≤ m.base.deadline
+    upto_deadline : (x : ℕ) → x < count m.base → h.done x ≡ None → IsExecuted m s x → strategy s (number_left m h x) ≤ m.base.deadline
     upto_deadline x here none e =
         let left = left_executed x none e in
-        let upto = plays.within s (number_of m h x) (new_inside m h fresh good known x here left) (executed_in x here left e) in
-        let last = limit_upto R.base (number_of m h x) in
+        let upto = plays.within s (number_left m h x) (new_inside m h fresh good known x here left) (executed_in x here left e) in
+        let last = limit_upto R.base (number_left m h x) in
         omega arith
 
     within : (x : ℕ) → x < count m.base → h.done x ≡ None → IsExecuted m s x → from_rest s x ≤ limit m.base x
@@ -117,7 +117,7 @@ module _ (m : Labelled) (h : History) (fresh : ℕ) (good : IsLabelled m) (known
           let stands = at_done s x done.0 done.1 in
           (omega arith, omega arith)
       | inr none ↦
-          let at : strategy s (end_left m h x) ≡ strategy s (number_of m h x) = ap (strategy s) (end_coming m h fresh good known x none) in
+          let at : strategy s (end_left m h x) ≡ strategy s (number_left m h x) = ap (strategy s) (end_coming m h fresh good known x none) in
           let since : moment_done h x ≡ 0 = ap (λ o. unwrap_or o 0) none in
           let stands = at_coming s x none in
           let upto = upto_deadline x here none e in
@@ -155,10 +155,10 @@ module _ (m : Labelled) (h : History) (fresh : ℕ) (good : IsLabelled m) (known
 
     -- a watched time-point stands where it is watched from
     at_watched : (j t p : ℕ) → Observes m.base (suc j) p → h.done (suc j) ≡ Some t → h.told p ≡ None →
-        strategy s (number_of m h (suc j)) ≡ moment_watched m h p t
+        strategy s (number_left m h (suc j)) ≡ moment_watched m h p t
     at_watched j t p o done none =
         let here = observer_within m.base (suc j) p o in
-        let k = number_of m h (suc j) in
+        let k = number_left m h (suc j) in
         let left = left_watching m h fresh good known (suc j) t p done o none in
         let sees = sees_left m h (suc j) p o none in
         let label = label_new m h fresh good known (suc j) here left ∙ done_empty m h fresh good known (suc j) t done in
@@ -173,7 +173,7 @@ module _ (m : Labelled) (h : History) (fresh : ℕ) (good : IsLabelled m) (known
         omega (arith, ints)
 
     known_at_done : (j t p u : ℕ) → u ≤ m.base.deadline → Observes m.base j p → h.done j ≡ Some t → h.told p ≡ None →
-        strategy s (number_of m h j) + R.base.reaction p ≤ u → known_at m h p t ≤ u
+        strategy s (number_left m h j) + R.base.reaction p ≤ u → known_at m h p t ≤ u
     known_at_done zero t p u upto o done none passed =
         let origin = at_origin s in
         let reacts = reaction_origin m h fresh good t p o none done in
@@ -190,7 +190,7 @@ module _ (m : Labelled) (h : History) (fresh : ℕ) (good : IsLabelled m) (known
         let back = observes_back m h fresh good known k.observer p k.observes in
         let j = old m h k.observer in
         let stands = old_stands m h fresh good known k.observer back.0 in
-        let soon : strategy s (number_of m h j) + R.base.reaction p ≤ u = subst (λ i. strategy s i + R.base.reaction p ≤ u) (sym stands.2) k.passed in
+        let soon : strategy s (number_left m h j) + R.base.reaction p ≤ u = subst (λ i. strategy s i + R.base.reaction p ≤ u) (sym stands.2) k.passed in
         elim (some_or_none (h.done (old m h k.observer))) [
           | inl done ↦ inr (inl (record {
             since = done.0;
@@ -216,15 +216,15 @@ module _ (m : Labelled) (h : History) (fresh : ℕ) (good : IsLabelled m) (known
       let at_s = at_coming s x none in
       let at_r = at_coming r x none in
       let upto = upto_deadline s of_s x here none e in
-      let both = plays.dynamic s r (number_of m h x) (new_inside m h fresh good known x here left) (executed_in s of_s x here left e)
-      (λ p k. agrees p (subst (λ u. IsKnownAfter m h s (from_rest s) u p) (sym at_s) (known_after s of_s (strategy s (number_of m h x)) p upto k))) in
+      let both = plays.dynamic s r (number_left m h x) (new_inside m h fresh good known x here left) (executed_in s of_s x here left e)
+      (λ p k. agrees p (subst (λ u. IsKnownAfter m h s (from_rest s) u p) (sym at_s) (known_after s of_s (strategy s (number_left m h x)) p upto k))) in
       (executed_out r of_r x here left both.0, at_r ∙ both.1 ∙ sym at_s)
 
   pub from_rest_continues : Continues m h from_rest
   from_rest_continues = record {
     done = λ s x t agrees e. at_done s x t e;
     in_time = λ s x t agrees e. in_time s agrees x t e;
-    from_now = λ s x agrees here none e. from_now s agrees x here none e;
+    from_soonest = λ s x agrees here none e. from_soonest s agrees x here none e;
     within = λ s x agrees here none e. within s agrees x here none e;
     meets = λ s c agrees has force. meets s agrees c has force;
     dynamic = dynamic;

@@ -13,7 +13,7 @@ use Rattle.cstn_lift.specs.WellFormed.{IsLabelled}
 use Rattle.cstn_lift.proofs.CompletionLemmas.{completed_contains, completed_complete, completed_least}
 use Rattle.cstn_lift.proofs.FullLemmas.{full_within}
 use Rattle.cstn_history.specs.Histories.{History, IsHistory, label_left, IsAllowed}
-use Rattle.cstn_history.specs.Rest.{is_left, number_of, rest}
+use Rattle.cstn_history.specs.Rest.{is_left, number_left, rest}
 use Rattle.cstn_history.proofs.Settled.{some_or_none, left_told, left_untold, left_within, marked_left, settles_absent, allows_within}
 use Rattle.cstn_history.proofs.Places.{old, left_coming, left_watching, left_allows, observes_left, observes_back, label_at, label_new}
 
@@ -112,7 +112,7 @@ module _ (m : Labelled) (h : History) (fresh : ℕ) (good : IsLabelled m) (known
           let there = (marked_left h C p kept).1 in
           let inner = full_within m good C (completed_complete m a) x p o there in
           let is = observer_left x p o none (allows_within h (completed_label m x) C inner all) in
-          let closed = completed_complete (rest m h fresh) (label_left h a) (number_of m h x) p
+          let closed = completed_complete (rest m h fresh) (label_left h a) (number_left m h x) p
           (observes_left m h fresh good known x p o none is) seen in
           within_both x (completed_complete m a x p o there) (λ q unsaid.
           subst (λ b. IsMarkWithin b (D q))
@@ -137,7 +137,7 @@ module _ (m : Labelled) (h : History) (fresh : ℕ) (good : IsLabelled m) (known
 
   -- the completed label in the rest of what is left
   pub completed_new : (x : ℕ) → x < count m.base → is_left m h x ≡ true →
-      completed_label (rest m h fresh) (number_of m h x) ≡ label_left h (completed_label m x)
+      completed_label (rest m h fresh) (number_left m h x) ≡ label_left h (completed_label m x)
   completed_new x here is =
       ap (completed (rest m h fresh)) (label_new m h fresh good known x here is)
       ∙ completed_left (label_of m x) (left_allows m h fresh good known x is)

@@ -1,4 +1,4 @@
--- Time and steps only narrow how a history may go on, and what is told only leaves cases out.
+-- Time, steps and later readiness only narrow how a history may go on, and what is told only leaves cases out.
 use Rattle.std.proofs.Common.{ℕ, ◌≡◌, inl, inr, ◌+◌, ◌<◌, ◌≤◌, Option, Some, None, arith, sym, subst, ap, ◌∙◌}
 use Rattle.cstn_label.specs.Labels.{Scenario}
 use Rattle.cstn_net.specs.Networks.{Observes, count, limit}
@@ -7,7 +7,7 @@ use Rattle.cstn_lift.specs.Labelled.{Labelled}
 use Rattle.cstn_lift.specs.Completion.{completed_label}
 use Rattle.cstn_lift.specs.WellFormed.{IsLabelled}
 use Rattle.cstn_lift.specs.Strategies.{IsExecuted}
-use Rattle.cstn_history.specs.Histories.{History, IsHistory, AgreesWith, GoesOn, IsToldMore, known_at, or_at}
+use Rattle.cstn_history.specs.Histories.{History, IsHistory, AgreesWith, soonest, GoesOn, IsToldMore, known_at, or_at}
 use Rattle.cstn_history.specs.Continuations.{Continues, IsKnownAfter}
 use Rattle.cstn_history.proofs.Settled.{some_or_none, settles_holds}
 
@@ -16,9 +16,9 @@ module _ (m : Labelled) (h later : History) (good : IsLabelled m) (before : IsHi
   agrees_later : (s : Scenario) → AgreesWith h s → AgreesWith later s
   agrees_later s agrees p v e = agrees p v (sym (on.told p) ∙ e)
 
-  -- what wasn't done before and is now stands at a moment from the earlier now on
+  -- what wasn't done before and is now stands at a moment at which it could be done before
   moment : (s : Scenario) (x : ℕ) → AgreesWith h s → x < count m.base → h.done x ≡ None → IsExecuted m s x →
-      (h.now ≤ table s x) × (table s x ≤ limit m.base x)
+      (soonest h x ≤ table s x) × (table s x ≤ limit m.base x)
   moment s x agrees here none e = elim (some_or_none (later.done x)) [
     | inl done ↦
         let at = goes.done s x done.0 (agrees_later s agrees) done.1 in
@@ -26,8 +26,9 @@ module _ (m : Labelled) (h later : History) (good : IsLabelled m) (before : IsHi
         let upto = goes.in_time s x done.0 (agrees_later s agrees) done.1 in
         (omega arith, omega arith)
     | inr coming ↦
-        let from = goes.from_now s x (agrees_later s agrees) here coming e in
+        let from = goes.from_soonest s x (agrees_later s agrees) here coming e in
         let low = on.now in
+        let ready = on.ready x coming in
         (omega arith, goes.within s x (agrees_later s agrees) here coming e)
   ]
 
@@ -91,7 +92,7 @@ module _ (m : Labelled) (h later : History) (good : IsLabelled m) (before : IsHi
   narrower = record {
     done = λ s x t agrees e. goes.done s x t (agrees_later s agrees) (on.kept x t e);
     in_time = λ s x t agrees e. goes.in_time s x t (agrees_later s agrees) (on.kept x t e);
-    from_now = λ s x agrees here none e. (moment s x agrees here none e).0;
+    from_soonest = λ s x agrees here none e. (moment s x agrees here none e).0;
     within = λ s x agrees here none e. (moment s x agrees here none e).1;
     meets = λ s c agrees has force. goes.meets s c (agrees_later s agrees) has force;
     dynamic = dynamic;
@@ -126,7 +127,11 @@ module _ (m : Labelled) (h later : History) (on : IsToldMore h later) (table : T
   told_continues = record {
     done = λ s x t agrees e. goes.done s x t (agrees_before s agrees) (was_done x (Some t) e);
     in_time = λ s x t agrees e. goes.in_time s x t (agrees_before s agrees) (was_done x (Some t) e);
-    from_now = λ s x agrees here none e. subst (λ t. t ≤ table s x) (sym on.now) (goes.from_now s x (agrees_before s agrees) here (was_done x None none) e);
+    from_soonest = λ s x agrees here none e.
+        let from = goes.from_soonest s x (agrees_before s agrees) here (was_done x None none) e in
+        let now = on.now in
+        let ready = on.ready x in
+        omega arith;
     within = λ s x agrees here none e. goes.within s x (agrees_before s agrees) here (was_done x None none) e;
     meets = λ s c agrees has force. goes.meets s c (agrees_before s agrees) has force;
     dynamic = λ s r x of_s of_r here none e agrees. goes.dynamic s r x (agrees_before s of_s) (agrees_before r of_r) here (was_done x None none) e

@@ -23,7 +23,7 @@ module _ (m : Labelled) (h : History) (good : IsLabelled m) (t : ℕ) (first : (
   module _ (n : ℕ) (inside : n < t) (before : NoneBefore n) (table : Table) (s : Scenario) (x : ℕ) (goes : Continues m h table) (agrees : AgreesWith h s)
       (here : x < count m.base) (none : h.done x ≡ None) (e : IsExecuted m s x) (at : table s x ≡ n) where
     from_now : h.now ≤ n
-    from_now = let low = goes.from_now s x agrees here none e in omega arith
+    from_now = let low = goes.from_soonest s x agrees here none e in omega arith
 
     -- what is known at n is what was told, so each scenario agrees on it
     same : (r : Scenario) → AgreesWith h r → (p : ℕ) → IsKnownAfter m h s (table s) (table s x) p → r p ≡ s p

@@ -21,7 +21,7 @@ use Rattle.cstn_label.proofs.MarkLemmas.{mark_within_absent}
 use Rattle.cstn_label.proofs.LabelLemmas.{within_itself}
 use Rattle.cstn_lift.proofs.CompletionLemmas.{completed_least}
 use Rattle.cstn_history.specs.Histories.{History, IsHistory, Settles, nothing_yet, origin_alone, allows, label_left}
-use Rattle.cstn_history.specs.Rest.{untold, sight_left, is_left, left, left_upto, end_left, moment_done, value_left, cut, moved, is_over, constraint_left, late_one, watched_one, coming_one, watched, coming, added, reaction_by, rest}
+use Rattle.cstn_history.specs.Rest.{untold, sight_left, is_left, left, left_upto, end_left, moment_done, value_left, value_cut, moved, is_over, constraint_left, late_one, watched_one, coming_one, watched, coming, added, reaction_by, rest}
 use Rattle.cstn_history.proofs.Settled.{allows_true}
 
 untold_whole : (o : Option ℕ) → untold nothing_yet o ≡ o
@@ -39,7 +39,7 @@ moment_none : (x : ℕ) → unwrap_or (origin_alone x) 0 ≡ 0
 moment_none zero = refl
 moment_none (suc x) = refl
 
-value_whole : (most : ℤ) (a b : ℕ) → IsValue most → a ≡ 0 → b ≡ 0 → cut ((most +ℤ pos a) -ℤ pos b) ≡ most
+value_whole : (most : ℤ) (a b : ℕ) → IsValue most → a ≡ 0 → b ≡ 0 → value_cut ((most +ℤ pos a) -ℤ pos b) ≡ most
 value_whole most a b range e f = let low = range.0 in let high = range.1 in omega (arith, ints, clamps)
 
 module _ (m : Labelled) (fresh : ℕ) (good : IsLabelled m) where
@@ -131,6 +131,7 @@ nothing_history m good = record {
   told = λ p v e. absurd (cc);
   expected = λ p t e. absurd (cc);
   settled = settled_at;
+  ready = λ x past. refl;
 }
   where
     settled_at : (x t : ℕ) → origin_alone x ≡ Some t → Settles nothing_yet (completed_label m x)

@@ -10,7 +10,7 @@ use Rattle.cstn_lift.specs.Labelled.{Labelled, label_of}
 use Rattle.cstn_lift.specs.Completion.{completed_label}
 use Rattle.cstn_lift.specs.WellFormed.{IsLabelled}
 use Rattle.cstn_history.specs.Histories.{History, IsHistory, allows, label_left, IsAllowed}
-use Rattle.cstn_history.specs.Rest.{untold, sight_left, is_left, left, number_of, rest}
+use Rattle.cstn_history.specs.Rest.{untold, sight_left, is_left, left, number_left, rest}
 use Rattle.cstn_history.proofs.Lists.{place_found, place_back}
 use Rattle.cstn_history.proofs.Settled.{allows_true, allows_back, some_or_none, settles_allows}
 
@@ -44,7 +44,7 @@ old m h k = slice_index_or (left m h) k 0
 
 module _ (m : Labelled) (h : History) (fresh : ℕ) (good : IsLabelled m) (known : IsHistory m h) where
   abbrev new : ℕ → ℕ
-  new = number_of m h
+  new = number_left m h
 
   pub left_coming : (x : ℕ) → h.done x ≡ None → IsAllowed h (completed_label m x) → is_left m h x ≡ true
   left_coming zero e all = refl

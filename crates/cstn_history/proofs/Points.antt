@@ -28,7 +28,7 @@ use Rattle.cstn_lift.specs.Handed.{HasPoints}
 use Rattle.cstn_lift.proofs.Built.{point_added, points_long, reaction_set, reaction_told, reaction_untold}
 use Rattle.cstn_lift.proofs.LoweredLemmas.{observer_found, observer_back}
 use Rattle.cstn_history.specs.Histories.{History, IsHistory, IsInTime}
-use Rattle.cstn_history.specs.Rest.{sight_left, is_left, left, left_upto, number_of, constraint_left, reaction_after, reaction_by}
+use Rattle.cstn_history.specs.Rest.{sight_left, is_left, left, left_upto, number_left, constraint_left, reaction_after, reaction_by}
 use Rattle.cstn_history.specs.Handed.{bared}
 use Rattle.cstn_history.proofs.Lists.{passing_next}
 use Rattle.cstn_history.proofs.Places.{old, old_stands, sight_at, sees_back, count_left, observes_left}
@@ -53,11 +53,11 @@ left_turn m h points new x b so_far test is =
     one false = refl
 
 pub numbers_turn : (m : Labelled) (h : History) (numbers new : List ℕ) (points : List NodeId) (x n : ℕ) → new ≡ numbers ++ n ∷ [] →
-    numbers ≡ map (number_of m h) (range_with_len 0 x) → map number points ≡ left_upto m h x → n ≡ length points → new ≡ map (number_of m h) (range_with_len 0 (x + 1))
+    numbers ≡ map (number_left m h) (range_with_len 0 x) → map number points ≡ left_upto m h x → n ≡ length points → new ≡ map (number_left m h) (range_with_len 0 (x + 1))
 numbers_turn m h numbers new points x n more so_far are is =
-    let at : n ≡ number_of m h x = is ∙ sym (length-map points number) ∙ ap length are in
-    more ∙ ap (λ l. l ++ n ∷ []) so_far ∙ ap (λ k. map (number_of m h) (range_with_len 0 x) ++ k ∷ []) at
-    ∙ sym (map-range_with_len_more (number_of m h) 0 x x (omega arith))
+    let at : n ≡ number_left m h x = is ∙ sym (length-map points number) ∙ ap length are in
+    more ∙ ap (λ l. l ++ n ∷ []) so_far ∙ ap (λ k. map (number_left m h) (range_with_len 0 x) ++ k ∷ []) at
+    ∙ sym (map-range_with_len_more (number_left m h) 0 x x (omega arith))
 
 -- the next constraint, where it is left
 pub kept_turn : (m : Labelled) (h : History) (cs kept new : List Constraint) (i : ℕ) (c : Constraint) (d : Option Constraint) → i < length cs →
@@ -146,7 +146,7 @@ module _ (parts : LabelledParts) (h : History) (good : IsLabelled (the_labelled 
           ∙ ap (λ b. if false || not b then 1 else reaction_after m h p x (h.done x)) gone
       | inl stays ↦
           let there = observes_left m h 0 good known x p (observer_back m.base x p at) untold stays in
-          absurd (none (number_of m h x) (record { what = there.what }))
+          absurd (none (number_left m h x) (record { what = there.what }))
     ]
   ]
 

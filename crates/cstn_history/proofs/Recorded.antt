@@ -20,7 +20,7 @@ use Rattle.cstn_lift.proofs.LoweredLemmas.{observer_back, observer_found}
 use Rattle.cstn_label.specs.OnLetters.{IsOnLetters}
 use Rattle.cstn_history.specs.Histories.{IsTimelyHistory, History, IsHistory, IsInTime, IsObservedAt, SettlesMark, Settles}
 use Rattle.cstn_history.specs.Read.{HistoryParts, the_history, IsKeptFor}
-use Rattle.cstn_history.specs.Facts.{FactRefusal, Past, OutOfRange, settles, is_beyond, now_refusal, again_refusal, done_refusal, since, observed_since, again_told, told_after, told_refusal, latest_expected, again_expected, expected_after, expected_refusal, at_now, with_done, with_told, with_expected}
+use Rattle.cstn_history.specs.Facts.{FactRefusal, Past, OutOfRange, settles, is_beyond, now_refusal, again_refusal, done_refusal, since, observed_since, again_told, told_after, told_refusal, latest_expected, again_expected, expected_after, expected_refusal, at_now, with_done, with_told, with_expected, wait_refusal, ruled_out, ready_refusal, with_ready}
 use Rattle.cstn_history.proofs.Settled.{settles_absent}
 use Rattle.cstn_history.proofs.Told.{settles_back}
 
@@ -57,16 +57,24 @@ module _ {T : Type 0} (f : ℕ → Option T) (x : ℕ) (v : T) where
   put_kept y w none e = put_other y (λ same. let at = subst (λ z. f z ≡ Some w) same e in cc) ∙ e
 
 -- a list in which an entry was set
-pub set_is : {T : Type 0} → (xs : List (Option T)) (x : ℕ) (v : T) → x < length xs → (y : ℕ) →
-    slice_index_or (slice_set xs x (Some v)) y None ≡ cond (y == x) (Some v) (slice_index_or xs y None)
-set_is {T} xs x v inside y = elim (cases_eq y x) [
+pub set_is : {T : Type 0} → (xs : List T) (x : ℕ) (v d : T) → x < length xs → (y : ℕ) →
+    slice_index_or (slice_set xs x v) y d ≡ cond (y == x) v (slice_index_or xs y d)
+set_is {T} xs x v d inside y = elim (cases_eq y x) [
   | inl same ↦
-      let there : slice_index_or (slice_set xs x (Some v)) x None ≡ Some v = get_or-set_same xs x (Some v) None inside in
-      ap (λ z. slice_index_or (slice_set xs x (Some v)) z None) same ∙ there ∙ sym (put_there (λ z. slice_index_or xs z None) x v y same)
+      let there : slice_index_or (slice_set xs x v) x d ≡ v = get_or-set_same xs x v d inside in
+      ap (λ z. slice_index_or (slice_set xs x v) z d) same ∙ there ∙ sym (ap (λ b. cond b v (slice_index_or xs y d)) (eq-eqb y x same))
   | inr other ↦
-      let there : slice_index_or (slice_set xs x (Some v)) y None ≡ slice_index_or xs y None = get_or-set_other xs x y (Some v) None other in
-      there ∙ sym (put_other (λ z. slice_index_or xs z None) x v y other)
+      let there : slice_index_or (slice_set xs x v) y d ≡ slice_index_or xs y d = get_or-set_other xs x y v d other in
+      there ∙ sym (ap (λ b. cond b v (slice_index_or xs y d)) (ne_eqb y x other))
 ]
+
+-- when time-points are ready, once that of x was set
+module _ (ready : ℕ → ℕ) (x t : ℕ) where
+  pub ready_there : (y : ℕ) → y ≡ x → cond (y == x) t (ready y) ≡ t
+  ready_there y e = ap (λ b. cond b t (ready y)) (eq-eqb y x e)
+
+  pub ready_other : (y : ℕ) → (y ≡ x → ⊥) → cond (y == x) t (ready y) ≡ ready y
+  ready_other y e = ap (λ b. cond b t (ready y)) (ne_eqb y x e)
 
 module _ (m : Labelled) (h : History) (known : IsHistory m h) (timely : IsInTime m h) where
   -- time passes
@@ -86,10 +94,11 @@ module _ (m : Labelled) (h : History) (known : IsHistory m h) (timely : IsInTime
         told = λ p v is. let o = known.told p v is in (o.0, record { observer = o.1.observer; observes = o.1.observes; done = o.1.done });
         expected = λ p u is. let o = known.expected p u is in (o.0, o.1, record { observer = o.2.observer; observes = o.2.observes; done = o.2.done });
         settled = known.settled;
+        ready = known.ready;
       }
 
   pub now_in_time : (t : ℕ) → now_refusal h t ≡ None → IsInTime m (at_now h t)
-  now_in_time t e = record { now = (now_free t e).1; expected = timely.expected; origin = timely.origin }
+  now_in_time t e = record { now = (now_free t e).1; expected = timely.expected; origin = timely.origin; ready = timely.ready }
 
 module _ (m : Labelled) (good : IsLabelled m) (h : History) (known : IsHistory m h) (timely : IsInTime m h) where
   full_below : (x : ℕ) → IsOnLetters (completed_label m x)
@@ -141,6 +150,7 @@ module _ (m : Labelled) (good : IsLabelled m) (h : History) (known : IsHistory m
         | inl new ↦ subst (λ z. Settles h (completed_label m z)) (sym new.0) settled_here
         | inr old ↦ known.settled y u old
       ];
+      ready = known.ready;
     }
 
     pub done_in_time : IsInTime m (with_done h t x)
@@ -148,6 +158,7 @@ module _ (m : Labelled) (good : IsLabelled m) (h : History) (known : IsHistory m
       now = (let low = timely.now in let upto = in_range in omega arith);
       expected = timely.expected;
       origin = timely.origin;
+      ready = timely.ready;
     }
 
     pub done_inside : x < count m.base
@@ -195,6 +206,7 @@ module _ (m : Labelled) (good : IsLabelled m) (h : History) (known : IsHistory m
       ];
       expected = λ q u is. let o = known.expected q u is in (o.0, o.1, record { observer = o.2.observer; observes = o.2.observes; done = o.2.done });
       settled = λ y u is q. marks_settled y q (known.settled y u is);
+      ready = known.ready;
     }
 
     pub told_in_time : IsInTime m (with_told h t p v)
@@ -202,6 +214,7 @@ module _ (m : Labelled) (good : IsLabelled m) (h : History) (known : IsHistory m
       now = (let low = timely.now in let upto = told_in_range in omega arith);
       expected = timely.expected;
       origin = timely.origin;
+      ready = timely.ready;
     }
 
   pub latest_upto : (o : Option ℕ) → latest_expected o ≤ most_deadline
@@ -253,6 +266,7 @@ module _ (m : Labelled) (good : IsLabelled m) (h : History) (known : IsHistory m
         | inr old ↦ let o = known.expected q u old in (o.0, o.1, record { observer = o.2.observer; observes = o.2.observes; done = o.2.done })
       ];
       settled = known.settled;
+      ready = known.ready;
     }
 
     pub expected_in_time : IsInTime m (with_expected h t p)
@@ -270,6 +284,37 @@ module _ (m : Labelled) (good : IsLabelled m) (h : History) (known : IsHistory m
             omega arith
         | inr old ↦ timely.origin q u old o
       ];
+      ready = timely.ready;
+    }
+
+  -- a time-point is ready at a moment
+  module _ (t x : ℕ) (e : ready_refusal m h t x ≡ None) where
+    ready_in_range : t ≤ most_deadline
+    ready_in_range = not_beyond t (passed (is_beyond t) _ _ e).0
+
+    pub ready_inside : x < count m.base
+    ready_inside = leb-false (count m.base) x (passed (nat_le (count m.base) x) _ _ (passed (is_beyond t) _ _ e).1).0
+
+    pub ready_history : IsHistory m (with_ready h t x)
+    ready_history = record {
+      origin = known.origin;
+      inside = known.inside;
+      past = known.past;
+      told = λ q w is. let o = known.told q w is in (o.0, record { observer = o.1.observer; observes = o.1.observes; done = o.1.done });
+      expected = λ q u is. let o = known.expected q u is in (o.0, o.1, record { observer = o.2.observer; observes = o.2.observes; done = o.2.done });
+      settled = known.settled;
+      ready = λ y past. ready_other h.ready x t y (λ same. let here = ready_inside in omega arith) ∙ known.ready y past;
+    }
+
+    pub ready_in_time : IsInTime m (with_ready h t x)
+    ready_in_time = record {
+      now = timely.now;
+      expected = timely.expected;
+      origin = timely.origin;
+      ready = λ y. elim (cases_eq y x) [
+        | inl same ↦ let at = ready_there h.ready x t y same in let upto = ready_in_range in omega arith
+        | inr other ↦ let at = ready_other h.ready x t y other in let upto = timely.ready y in omega arith
+      ];
     }
 
 -- the same of the program's history
@@ -283,10 +328,11 @@ module _ (m : Labelled) (good : IsLabelled m) (q : HistoryParts) (kept : IsKeptF
       let here = done_inside m good h kept.history kept.in_time t x e in
       let long = kept.one_each in
       let is : with_done h t x ≡ the_history (record q { time = max q.time t; done = slice_set q.done x (Some t) }) =
-      ap (λ f. record (with_done h t x) { done = f }) (fun_ext (λ y. sym (set_is q.done x t (omega arith) y))) in
+      ap (λ f. record (with_done h t x) { done = f }) (fun_ext (λ y. sym (set_is q.done x (Some t) None (omega arith) y))) in
       record {
         one_each = length-set q.done x (Some t) ∙ kept.one_each;
         wide = kept.wide;
+        ready_each = kept.ready_each;
         history = subst (IsHistory m) is (done_history m good h kept.history kept.in_time t x e);
         in_time = subst (IsInTime m) is (done_in_time m good h kept.history kept.in_time t x e);
       }
@@ -300,6 +346,7 @@ module _ (m : Labelled) (good : IsLabelled m) (q : HistoryParts) (kept : IsKeptF
       record {
         one_each = kept.one_each;
         wide = kept.wide;
+        ready_each = kept.ready_each;
         history = subst (IsHistory m) is (told_history m good h kept.history kept.in_time t p.index v e);
         in_time = subst (IsInTime m) is (told_in_time m good h kept.history kept.in_time t p.index v e);
       }
@@ -309,12 +356,27 @@ module _ (m : Labelled) (good : IsLabelled m) (q : HistoryParts) (kept : IsKeptF
   kept_expected t p e =
       let inside : p.index < length q.expected = (let letter = p.in_range in let wide = kept.wide in omega arith) in
       let is : with_expected h t p.index ≡ the_history (record q { expected = slice_set q.expected p.index (Some t) }) =
-      ap (λ f. record (with_expected h t p.index) { expected = f }) (fun_ext (λ r. sym (set_is q.expected p.index t inside r))) in
+      ap (λ f. record (with_expected h t p.index) { expected = f }) (fun_ext (λ r. sym (set_is q.expected p.index (Some t) None inside r))) in
       record {
         one_each = kept.one_each;
         wide = length-set q.expected p.index (Some t) ∙ kept.wide;
+        ready_each = kept.ready_each;
         history = subst (IsHistory m) is (expected_history m good h kept.history kept.in_time t p.index e);
         in_time = subst (IsInTime m) is (expected_in_time m good h kept.history kept.in_time t p.index e);
+      }
+
+  pub kept_ready : (t x : ℕ) → ready_refusal m h t x ≡ None → IsKeptFor m (record q { ready = slice_set q.ready x t })
+  kept_ready t x e =
+      let inside = ready_inside m good h kept.history kept.in_time t x e in
+      let wide = kept.ready_each in
+      let is : with_ready h t x ≡ the_history (record q { ready = slice_set q.ready x t }) =
+      ap (λ f. record (with_ready h t x) { ready = f }) (fun_ext (λ y. sym (set_is q.ready x t 0 (omega arith) y))) in
+      record {
+        one_each = kept.one_each;
+        wide = kept.wide;
+        ready_each = length-set q.ready x t ∙ kept.ready_each;
+        history = subst (IsHistory m) is (ready_history m good h kept.history kept.in_time t x e);
+        in_time = subst (IsInTime m) is (ready_in_time m good h kept.history kept.in_time t x e);
       }
 
 pub kept_now : (m : Labelled) (q : HistoryParts) → IsKeptFor m q → (t : ℕ) → now_refusal (the_history q) t ≡ None →
@@ -322,6 +384,7 @@ pub kept_now : (m : Labelled) (q : HistoryParts) → IsKeptFor m q → (t : ℕ)
 kept_now m q kept t e = record {
   one_each = kept.one_each;
   wide = kept.wide;
+  ready_each = kept.ready_each;
   history = now_history m (the_history q) kept.history kept.in_time t e;
   in_time = now_in_time m (the_history q) kept.history kept.in_time t e;
 }
@@ -335,6 +398,9 @@ now_passes h t low high =
     ap (λ b. if b then Some (Past h.now) else if is_beyond t then Some (OutOfRange t) else None) (le-ltb t h.now low)
     ∙ ap (λ b. if b then Some (OutOfRange t) else None) high
 
+pub ready_free : (m : Labelled) (h : History) (t x : ℕ) → is_beyond t ≡ false → wait_refusal m h x ≡ None → ready_refusal m h t x ≡ None
+ready_free m h t x high free = ap (λ b. if b then Some (OutOfRange t) else wait_refusal m h x) high ∙ free
+
 pub timely_now : (m : Labelled) (h : History) (t : ℕ) → IsHistory m h → IsInTime m h → now_refusal h t ≡ None → IsTimelyHistory m (at_now h t)
 timely_now m h t known timely e = record { history = now_history m h known timely t e; in_time = now_in_time m h known timely t e }
 
@@ -347,3 +413,6 @@ module _ (m : Labelled) (h : History) (good : IsLabelled m) (known : IsHistory m
 
   pub timely_expected : (t p : ℕ) → expected_refusal m h t p ≡ None → IsTimelyHistory m (with_expected h t p)
   timely_expected t p e = record { history = expected_history m good h known timely t p e; in_time = expected_in_time m good h known timely t p e }
+
+  pub timely_ready : (t x : ℕ) → ready_refusal m h t x ≡ None → IsTimelyHistory m (with_ready h t x)
+  timely_ready t x e = record { history = ready_history m good h known timely t x e; in_time = ready_in_time m good h known timely t x e }

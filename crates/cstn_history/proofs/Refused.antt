@@ -10,7 +10,7 @@ use Rattle.cstn_lift.specs.WellFormed.{IsLabelled}
 use Rattle.cstn_lift.specs.Faults.{HasLiftFault, IsLiftRefusal, lift_number}
 use Rattle.cstn_history.specs.declared.errors.RestError.{RestError}
 use Rattle.cstn_history.specs.declared.errors.RestError.TheVariants.{TooManyConstraints}
-use Rattle.cstn_history.specs.Handed.{rest_number, IsRestRefusal, HasRoom}
+use Rattle.cstn_history.specs.Handed.{rest_number, IsRestRefusal, HasFewConstraints}
 
 pub lift_refused : (m : Labelled) → IsLabelled m →
     ((n : Labelled) (e : LiftError) → IsLabelled n → length (lowered n).constraints ≤ most_constraints → HasLiftFault n e → ⊥) →
@@ -27,7 +27,7 @@ lift_refused m good faultless e r refusal memory many = elim (cases_eq (lift_num
   ]
 ]
 
-pub lift_has_room : (m : Labelled) → length m.base.constraints ≤ most_constraints → ((e : LiftError) → HasLiftFault m e → ⊥) → HasRoom m
+pub lift_has_room : (m : Labelled) → length m.base.constraints ≤ most_constraints → ((e : LiftError) → HasLiftFault m e → ⊥) → HasFewConstraints m
 lift_has_room m few faultless = elim (cases_lt most_constraints (length (lowered m).constraints)) [
   | inl long ↦ absurd (faultless TooMany long)
   | inr short ↦ record { base = few; lowered = short }

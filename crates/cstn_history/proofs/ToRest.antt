@@ -16,9 +16,9 @@ use Rattle.cstn_lift.specs.Completion.{completed_label, full_label}
 use Rattle.cstn_lift.specs.WellFormed.{IsLabelled}
 use Rattle.cstn_lift.specs.Strategies.{IsExecuted, IsInForce, IsKnownExecuted, IsLabelledStrategy}
 use Rattle.cstn_lift.proofs.Equivalent.{full_from, full_to}
-use Rattle.cstn_history.specs.Histories.{History, IsHistory, known_at, IsAllowed}
+use Rattle.cstn_history.specs.Histories.{History, IsHistory, known_at, IsAllowed, soonest}
 use Rattle.cstn_history.specs.Continuations.{Continues, IsKnownAfter}
-use Rattle.cstn_history.specs.Rest.{sight_left, is_left, number_of, end_left, moment_done, moved, bare, moment_watched, late, watched, coming, rest}
+use Rattle.cstn_history.specs.Rest.{sight_left, is_left, number_left, end_left, moment_done, moved, bare, moment_watched, late, watched, coming, rest}
 use Rattle.cstn_history.proofs.Settled.{some_or_none, as_told, told_agrees, told_same, holds_left, holds_back, holds_allows, settles_holds}
 use Rattle.cstn_history.proofs.Places.{old, left_coming, left_watching, left_allows, old_new, old_stands, old_origin, observes_left, sees_left, sees_back}
 use Rattle.cstn_history.proofs.Labels.{completed_new}
@@ -70,12 +70,12 @@ limit_other m zero other = absurd (other refl)
 limit_other m (suc x) other = refl
 
 pub executed_left : (m : Labelled) (h : History) (fresh : ℕ) (good : IsLabelled m) (known : IsHistory m h) (s : Scenario) (x : ℕ) →
-    x < count m.base → is_left m h x ≡ true → IsExecuted m (as_told h s) x → IsExecuted (rest m h fresh) s (number_of m h x)
+    x < count m.base → is_left m h x ≡ true → IsExecuted m (as_told h s) x → IsExecuted (rest m h fresh) s (number_left m h x)
 executed_left m h fresh good known s x here left e =
     subst (Holds s) (sym (completed_new m h fresh good known x here left)) (holds_left h (completed_label m x) s e)
 
 pub executed_back : (m : Labelled) (h : History) (fresh : ℕ) (good : IsLabelled m) (known : IsHistory m h) (s : Scenario) (x : ℕ) →
-    x < count m.base → is_left m h x ≡ true → IsExecuted (rest m h fresh) s (number_of m h x) → IsExecuted m (as_told h s) x
+    x < count m.base → is_left m h x ≡ true → IsExecuted (rest m h fresh) s (number_left m h x) → IsExecuted m (as_told h s) x
 executed_back m h fresh good known s x here left e =
     holds_back h (completed_label m x) s (left_allows m h fresh good known x left)
     (subst (Holds s) (completed_new m h fresh good known x here left) e)
@@ -96,7 +96,7 @@ module _ (m : Labelled) (h : History) (fresh : ℕ) (good : IsLabelled m) (known
   to_rest s k = from_old s (old m h k)
 
   pub at_coming : (s : Scenario) (x : ℕ) → x < count m.base → is_left m h x ≡ true → h.done x ≡ None →
-      to_rest s (number_of m h x) ≡ table (as_told h s) x
+      to_rest s (number_left m h x) ≡ table (as_told h s) x
   at_coming s x here left none =
       ap (from_old s) (old_new m h fresh good known x here left)
       ∙ stand_coming m h (table (as_told h s) x) x (h.done x) (sight_left m h x) none
@@ -107,7 +107,7 @@ module _ (m : Labelled) (h : History) (fresh : ℕ) (good : IsLabelled m) (known
       ∙ stand_origin m h (table (as_told h s) 0) 0 (h.done 0) (sight_left m h 0) known.origin
 
   at_watched : (s : Scenario) (x t p : ℕ) → suc x < count m.base → is_left m h (suc x) ≡ true → h.done (suc x) ≡ Some t →
-      sight_left m h (suc x) ≡ Some p → to_rest s (number_of m h (suc x)) ≡ moment_watched m h p t
+      sight_left m h (suc x) ≡ Some p → to_rest s (number_left m h (suc x)) ≡ moment_watched m h p t
   at_watched s x t p here left done sees =
       ap (from_old s) (old_new m h fresh good known (suc x) here left)
       ∙ stand_watched m h (table (as_told h s) (suc x)) x t p (h.done (suc x)) (sight_left m h (suc x)) done sees
@@ -169,7 +169,7 @@ module _ (m : Labelled) (h : History) (fresh : ℕ) (good : IsLabelled m) (known
       let at = at_watched s j t p here left done (sees_left m h (suc j) p o none) in
       let reacts = reaction_done m h fresh good j t p o none left done in
       record {
-        observer = number_of m h (suc j);
+        observer = number_left m h (suc j);
         observes = observes_left m h fresh good known (suc j) p o none left;
         executed = executed_left m h fresh good known s (suc j) here left (done_executed m h known s (suc j) t done);
         passed = omega arith;
@@ -183,7 +183,7 @@ module _ (m : Labelled) (h : History) (fresh : ℕ) (good : IsLabelled m) (known
       let at = at_coming s j here left coming in
       let reacts = reaction_coming m h fresh good j p o none left coming in
       record {
-        observer = number_of m h j;
+        observer = number_left m h j;
         observes = observes_left m h fresh good known j p o none left;
         executed = executed_left m h fresh good known s j here left e;
         passed = omega arith;
@@ -249,10 +249,10 @@ module _ (m : Labelled) (h : History) (fresh : ℕ) (good : IsLabelled m) (known
   meets_coming s e has force =
       let w = coming_from m h e has in
       let x = w.point in
-      let d = bare (number_of m h x) 0 (pos 0 -ℤ pos h.now) in
-      let there = subst (Holds s) (bare_full m h fresh good known (number_of m h x) (pos 0 -ℤ pos h.now)) (subst (IsInForce R s) (sym w.is) force) in
+      let d = bare (number_left m h x) 0 (pos 0 -ℤ pos (soonest h x)) in
+      let there = subst (Holds s) (bare_full m h fresh good known (number_left m h x) (pos 0 -ℤ pos (soonest h x))) (subst (IsInForce R s) (sym w.is) force) in
       let seen = executed_back m h fresh good known s x w.here w.left there in
-      let later = goes.from_now (as_told h s) x (told_agrees h s) w.here w.coming seen in
+      let later = goes.from_soonest (as_told h s) x (told_agrees h s) w.here w.coming seen in
       let at = at_coming s x w.here w.left w.coming in
       let origin = at_origin s in
       subst (λ d. Meets (to_rest s) d) w.is (omega (arith, ints))

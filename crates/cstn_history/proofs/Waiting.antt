@@ -13,7 +13,7 @@ use Rattle.cstn_lift.specs.WellFormed.{IsLabelled}
 use Rattle.cstn_lift.specs.Strategies.{IsExecuted, IsInForce, IsKnownExecuted, IsLabelledStrategy, IsLabelledConsistent}
 use Rattle.cstn_history.specs.Histories.{History, IsHistory}
 use Rattle.cstn_history.specs.Continuations.{CanWait}
-use Rattle.cstn_history.specs.Rest.{is_left, number_of, bare, rest, with_constraint, rest_waiting}
+use Rattle.cstn_history.specs.Rest.{is_left, number_left, bare, rest, with_constraint, rest_waiting}
 use Rattle.cstn_history.proofs.Settled.{as_told, told_itself, told_agrees}
 use Rattle.cstn_history.proofs.Edited.{completed_new}
 use Rattle.cstn_history.proofs.Forces.{bare_full}
@@ -97,18 +97,18 @@ module _ (R : Labelled) (d : Constraint) where
 module _ (m : Labelled) (h : History) (fresh x t : ℕ) (good : IsLabelled m) (known : IsHistory m h) (here : x < count m.base) (none : h.done x ≡ None)
     (left : is_left m h x ≡ true) where
   abbrev k : ℕ
-  k = number_of m h x
+  k = number_left m h x
 
   abbrev wait : Constraint
-  wait = bare (number_of m h x) 0 (pos 0 -ℤ pos t)
+  wait = bare (number_left m h x) 0 (pos 0 -ℤ pos t)
 
   force_executed : (s : Scenario) → IsInForce (rest m h fresh) s wait → IsExecuted m (as_told h s) x
   force_executed s force =
-      executed_back m h fresh good known s x here left (subst (Holds s) (bare_full m h fresh good known (number_of m h x) (pos 0 -ℤ pos t)) force)
+      executed_back m h fresh good known s x here left (subst (Holds s) (bare_full m h fresh good known (number_left m h x) (pos 0 -ℤ pos t)) force)
 
   executed_force : (s : Scenario) → IsExecuted m (as_told h s) x → IsInForce (rest m h fresh) s wait
   executed_force s e =
-      subst (Holds s) (sym (bare_full m h fresh good known (number_of m h x) (pos 0 -ℤ pos t))) (executed_left m h fresh good known s x here left e)
+      subst (Holds s) (sym (bare_full m h fresh good known (number_left m h x) (pos 0 -ℤ pos t))) (executed_left m h fresh good known s x here left e)
 
   waits : CanWait m h x t → IsLabelledConsistent (rest_waiting m h fresh x t)
   waits c = (

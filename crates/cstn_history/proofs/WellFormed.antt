@@ -23,8 +23,8 @@ use Rattle.cstn_lift.proofs.CompletionLemmas.{completed_contains, completed_comp
 use Rattle.cstn_lift.proofs.FullLemmas.{full_within}
 use Rattle.cstn_lift.proofs.Equivalent.{full_from, full_to}
 use Rattle.cstn_lift.proofs.ListLemmas.{numbered_ascending}
-use Rattle.cstn_history.specs.Histories.{History, IsHistory, IsInTime, known_at, or_at, mark_left, label_left, IsAllowed}
-use Rattle.cstn_history.specs.Rest.{left, cut, value_left, is_left, number_of, end_left, moved, constraint_left, bare, late, watched, coming, added, moment_watched, rest}
+use Rattle.cstn_history.specs.Histories.{History, IsHistory, IsInTime, known_at, or_at, mark_left, label_left, IsAllowed, soonest}
+use Rattle.cstn_history.specs.Rest.{left, value_cut, value_left, is_left, number_left, end_left, moved, constraint_left, bare, late, watched, coming, added, moment_watched, rest}
 use Rattle.cstn_history.proofs.Lists.{place, passing_yes, passing_no}
 use Rattle.cstn_history.proofs.Settled.{some_or_none, marked_left, left_untold, allows_within}
 use Rattle.cstn_history.proofs.Places.{old, left_coming, left_watching, left_allows, old_stands, new_inside, observes_left, observes_back, label_at, count_left, sees_back}
@@ -124,7 +124,7 @@ module _ (m : Labelled) (h : History) (fresh : ℕ) (good : IsLabelled m) (known
       let a = observes_back m h fresh good known k p o in
       let b = observes_back m h fresh good known l p q in
       let same = good.base.network.one_observer (old m h k) (old m h l) p a.2 b.2 in
-      sym (old_stands m h fresh good known k a.0).2 ∙ ap (number_of m h) same ∙ (old_stands m h fresh good known l b.0).2
+      sym (old_stands m h fresh good known k a.0).2 ∙ ap (number_left m h) same ∙ (old_stands m h fresh good known l b.0).2
 
   few_points : count R.base ≤ most_time_points
   few_points =
@@ -165,7 +165,7 @@ module _ (m : Labelled) (h : History) (fresh : ℕ) (good : IsLabelled m) (known
       let also : IsMarked (completed m b) p = λ e. marked.1 (mark_within_absent (a p) (completed m b p) (inside p) e) in
       let wider = full_within m good (completed m b) (completed_complete m b) o.0 p o.1 also in
       let left = observer_left m h fresh good known o.0 p o.1 marked.0 (allows_within h (completed_label m o.0) (completed m b) wider all) in
-      (number_of m h o.0, observes_left m h fresh good known o.0 p o.1 marked.0 left)
+      (number_left m h o.0, observes_left m h fresh good known o.0 p o.1 marked.0 left)
 
   -- what is left of a constraint is a constraint of the rest
   end_inside : (x : ℕ) → x < count m.base → IsAllowed h (completed_label m x) → end_left m h x < count R.base
@@ -194,7 +194,7 @@ module _ (m : Labelled) (h : History) (fresh : ℕ) (good : IsLabelled m) (known
   bare_there k l id most from to = record { from = from; to = to; plain = λ p. tt; observed = λ p there. absurd (there refl) }
 
   -- an added constraint, under any id
-  new_there : (x : ℕ) → x < count m.base → is_left m h x ≡ true → number_of m h x < count R.base
+  new_there : (x : ℕ) → x < count m.base → is_left m h x ≡ true → number_left m h x < count R.base
   new_there x here left = new_inside m h fresh good known x here left
 
   late_there : (e : Constraint) (id : ℕ) → Contains (late m h) e → IsConstraint R.base (record e { id = id }) × IsValue e.most
@@ -215,7 +215,7 @@ module _ (m : Labelled) (h : History) (fresh : ℕ) (good : IsLabelled m) (known
       let w = watched_from m h e has in
       let sees = sees_back m h (suc w.point) w.prop w.sees in
       let left = left_watching m h fresh good known (suc w.point) w.moment w.prop w.done sees.0 sees.1 in
-      let k = number_of m h (suc w.point) in
+      let k = number_left m h (suc w.point) in
       let inside = new_there (suc w.point) w.here left in
       let upto = watched_upto m h w.prop w.moment in
       let soon = good.base.in_time in
@@ -230,10 +230,11 @@ module _ (m : Labelled) (h : History) (fresh : ℕ) (good : IsLabelled m) (known
   coming_there e id has =
       let w = coming_from m h e has in
       let soon = timely.now in
+      let upto = timely.ready w.point in
       subst (λ d. IsConstraint R.base (record d { id = id }) × IsValue d.most) w.is
-      (bare_there (number_of m h w.point) 0 id (pos 0 -ℤ pos h.now) (new_there w.point w.here w.left) some_points, (omega (arith, ints), omega (arith, ints)))
+      (bare_there (number_left m h w.point) 0 id (pos 0 -ℤ pos (soonest h w.point)) (new_there w.point w.here w.left) some_points, (omega (arith, ints), omega (arith, ints)))
 
-  cut_value : (v : ℤ) → IsValue (cut v)
+  cut_value : (v : ℤ) → IsValue (value_cut v)
   cut_value v = (omega (arith, ints, clamps), omega (arith, ints, clamps))
 
   each_there : (d : Constraint) → Contains R.base.constraints d → IsConstraint R.base d × IsValue d.most

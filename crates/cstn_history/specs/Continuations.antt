@@ -6,7 +6,7 @@ use Rattle.cstn_net.specs.Networks.{Constraint, Observes, count, limit}
 use Rattle.cstn_net.specs.Strategies.{Schedule, Table, Meets}
 use Rattle.cstn_lift.specs.Labelled.{Labelled}
 use Rattle.cstn_lift.specs.Strategies.{IsExecuted, IsInForce}
-use Rattle.cstn_history.specs.Histories.{History, IsObservedAt, AgreesWith, known_at}
+use Rattle.cstn_history.specs.Histories.{History, IsObservedAt, AgreesWith, known_at, soonest}
 
 -- the outcome of p was told
 abbrev pub IsTold : History → ℕ → Type 0
@@ -31,12 +31,14 @@ abbrev pub IsKnownAfter : Labelled → History → Scenario → Schedule → ℕ
 IsKnownAfter m h s at t p = IsTold h p ⊎ (IsDoneKnown m h t p ⊎ IsComingKnown m h s at t p)
 
 -- A table continues a history where the following holds in each scenario that agrees with it. What is done stands at its moment,
--- within its limit, and what else is executed comes from `now` on, within its limit. Each constraint that is in force is met.
+-- within its limit, and what else is executed comes from `now` on and when it is ready, within its limit. Each constraint that is in
+-- force is met.
 -- What isn't done is executed at the same moment in each scenario that agrees with the history and with what is known then.
 pub record Continues (m : Labelled) (h : History) (table : Table) : Type 0 where
   pub done : (s : Scenario) (x t : ℕ) → AgreesWith h s → h.done x ≡ Some t → table s x ≡ t
   pub in_time : (s : Scenario) (x t : ℕ) → AgreesWith h s → h.done x ≡ Some t → t ≤ limit m.base x
-  pub from_now : (s : Scenario) (x : ℕ) → AgreesWith h s → x < count m.base → h.done x ≡ None → IsExecuted m s x → h.now ≤ table s x
+  pub from_soonest : (s : Scenario) (x : ℕ) → AgreesWith h s → x < count m.base → h.done x ≡ None → IsExecuted m s x →
+      soonest h x ≤ table s x
   pub within : (s : Scenario) (x : ℕ) → AgreesWith h s → x < count m.base → h.done x ≡ None → IsExecuted m s x →
       table s x ≤ limit m.base x
   pub meets : (s : Scenario) (c : Constraint) → AgreesWith h s → Contains m.base.constraints c → IsInForce m s c → Meets (table s) c

@@ -41,6 +41,7 @@ happened now moments told expected = record {
   done = λ x. slice_index_or moments x None;
   told = told;
   expected = expected;
+  ready = λ x. 0;
 }
 
 -- nothing is said of any proposition but 34

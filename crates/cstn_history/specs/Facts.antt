@@ -10,11 +10,11 @@ use Rattle.cstn_lift.specs.Labelled.{Labelled}
 use Rattle.cstn_lift.specs.Completion.{completed_label}
 use Rattle.cstn_lift.specs.Lowered.{observer_of}
 use Rattle.cstn_label.specs.Tests.{fits}
-use Rattle.cstn_history.specs.Histories.{History}
+use Rattle.cstn_history.specs.Histories.{History, allows}
 
 -- Why a fact is refused. F1: the moment that it is to be now has passed. F2: the moment is out of range. F3: no time-point has the
--- number. F4: the time-point was done, at this moment. F5: what was told doesn't decide that the time-point is executed. F6: no
--- time-point that is done observes the proposition. F7: the proposition was told, with this value.
+-- number. F4: the time-point was done, at this moment. F5: what was told doesn't decide that the time-point is executed, or rules it
+-- out. F6: no time-point that is done observes the proposition. F7: the proposition was told, with this value.
 pub data FactRefusal : Type 0 where
   Past : (now : ℕ) → FactRefusal
   OutOfRange : (moment : ℕ) → FactRefusal
@@ -96,11 +96,24 @@ expected_after m h t p (Some u) = again_expected m h t p u (h.told p)
 abbrev pub expected_refusal : Labelled → History → ℕ → ℕ → Option FactRefusal
 expected_refusal m h t p = expected_after m h t p (observed_since m h p)
 
+-- F4, where the time-point was done at this moment, and F5, where it is ruled out
+abbrev pub ruled_out : Labelled → History → ℕ → Option ℕ → Option FactRefusal
+ruled_out m h x (Some u) = Some (Done x u)
+ruled_out m h x None = if not (allows h (completed_label m x)) then Some (Undecided x) else None
+
+-- F3 to F5: why the time-point doesn't wait
+abbrev pub wait_refusal : Labelled → History → ℕ → Option FactRefusal
+wait_refusal m h x = if nat_le (count m.base) x then Some (NoSuch x) else ruled_out m h x (h.done x)
+
+-- F2 to F5: why the time-point can't be ready at this moment
+abbrev pub ready_refusal : Labelled → History → ℕ → ℕ → Option FactRefusal
+ready_refusal m h t x = if is_beyond t then Some (OutOfRange t) else wait_refusal m h x
+
 -- it is t now
 abbrev pub at_now : History → ℕ → History
 at_now h t = record h { now = t }
 
--- x was done at t, which may be past
+-- x was done at t, which may be past and before it was ready
 abbrev pub with_done : History → ℕ → ℕ → History
 with_done h t x = record h { now = max h.now t; done = λ y. cond (y == x) (Some t) (h.done y) }
 
@@ -111,3 +124,7 @@ with_told h t p v = record h { now = max h.now t; told = λ q. cond (q == p) (So
 -- the outcome of p is expected at t
 abbrev pub with_expected : History → ℕ → ℕ → History
 with_expected h t p = record h { expected = λ q. cond (q == p) (Some t) (h.expected q) }
+
+-- x can't be done before t
+abbrev pub with_ready : History → ℕ → ℕ → History
+with_ready h t x = record h { ready = λ y. cond (y == x) t (h.ready y) }

@@ -14,19 +14,19 @@ use Rattle.cstn_history.specs.declared.errors.RestError.TheVariants.{TooManyCons
 use Rattle.cstn_history.specs.declared.adding.Kind.{Kind}
 use Rattle.cstn_history.specs.declared.adding.Kind.TheVariants.{Late, Watched, Coming}
 use Rattle.cstn_history.specs.Histories.{History}
-use Rattle.cstn_history.specs.Rest.{sight_left, number_of, late_one, watched_one, coming_one, rest}
+use Rattle.cstn_history.specs.Rest.{sight_left, number_left, late_one, watched_one, coming_one, rest}
 
 -- each time-point's number among those that are left
 abbrev pub AreNumbers : Labelled → History → List ℕ → Type 0
-AreNumbers m h numbers = numbers ≡ map (number_of m h) (range_with_len 0 (count m.base))
+AreNumbers m h numbers = numbers ≡ map (number_left m h) (range_with_len 0 (count m.base))
 
 -- these constraints, under ids from `fresh` on
 abbrev pub HasAdded : ℕ → List TheConstraint → List Constraint → Type 0
 HasAdded fresh cs out = map the_constraint out ≡ numbered fresh cs
 
 -- these constraints come behind all that were added before
-abbrev pub Adds : ℕ → List Constraint → List Constraint → List TheConstraint → Type 0
-Adds fresh old new more = (cs : List TheConstraint) → HasAdded fresh cs old → HasAdded fresh (cs ++ more) new
+abbrev pub AreAddedBehind : ℕ → List Constraint → List Constraint → List TheConstraint → Type 0
+AreAddedBehind fresh old new more = (cs : List TheConstraint) → HasAdded fresh cs old → HasAdded fresh (cs ++ more) new
 
 -- the constraints of one kind that are added for x
 abbrev pub added_for : Labelled → History → Kind → ℕ → List TheConstraint
@@ -64,6 +64,6 @@ IsRestRefusal m e = (rest_number e ≡ 0)
     ⊎ ((e ≡ TooManyConstraints) × ((most_constraints < length m.base.constraints) ⊎ (most_constraints < length (lowered m).constraints)))
 
 -- neither the labelled network nor its lowered network has too many constraints
-pub record HasRoom (m : Labelled) : Type 0 where
+pub record HasFewConstraints (m : Labelled) : Type 0 where
   pub base : length m.base.constraints ≤ most_constraints
   pub lowered : length (lowered m).constraints ≤ most_constraints

@@ -1,5 +1,5 @@
 -- What has happened while a labelled network was carried out: its history.
-use Rattle.std.specs.Prelude.{ℕ, zero, suc, ◌≡◌, ◌+◌, ◌<◌, ◌≤◌, Bool, true, Option, None, Some, List}
+use Rattle.std.specs.Prelude.{ℕ, zero, suc, ◌≡◌, ◌+◌, ◌<◌, ◌≤◌, max, Bool, true, Option, None, Some, List}
 use Rattle.std.specs.Option.{is_some}
 use Rattle.std.specs.List.{list_all, range_with_len}
 use Rattle.cstn_label.specs.declared.marks.Mark.{Mark}
@@ -12,12 +12,14 @@ use Rattle.cstn_lift.specs.Labelled.{Labelled}
 use Rattle.cstn_lift.specs.Completion.{completed_label}
 
 -- what is before `now` is over; `done` has the moment of each time-point that is done; `told` has the value of each proposition
--- whose outcome was told; `expected` has the moment at which an outcome is expected, where it isn't expected after the reaction
+-- whose outcome was told; `expected` has the moment at which an outcome is expected, where it isn't expected after the reaction;
+-- `ready` has the moment before which a time-point that isn't done can't be done, and 0 where none is known
 pub record History : Type 0 where
   pub now : ℕ
   pub done : ℕ → Option ℕ
   pub told : ℕ → Option Bool
   pub expected : ℕ → Option ℕ
+  pub ready : ℕ → ℕ
 
 -- the origin is done at 0
 abbrev pub origin_alone : ℕ → Option ℕ
@@ -26,7 +28,11 @@ origin_alone (suc x) = None
 
 -- nothing has happened yet
 abbrev pub nothing_yet : History
-nothing_yet = record { now = 0; done = origin_alone; told = λ p. None; expected = λ p. None }
+nothing_yet = record { now = 0; done = origin_alone; told = λ p. None; expected = λ p. None; ready = λ x. 0 }
+
+-- the moment before which a time-point that isn't done can't be done: it is past, or the time-point isn't ready
+abbrev pub soonest : History → ℕ → ℕ
+soonest h x = max h.now (h.ready x)
 
 -- the time-point is done
 abbrev pub is_done : History → ℕ → Bool
@@ -61,6 +67,7 @@ pub record IsHistory (m : Labelled) (h : History) : Type 0 where
   pub told : (p : ℕ) (v : Bool) → h.told p ≡ Some v → (t : ℕ) × IsObservedAt m h p t
   pub expected : (p e : ℕ) → h.expected p ≡ Some e → (t : ℕ) × (t < e) × IsObservedAt m h p t
   pub settled : (x t : ℕ) → h.done x ≡ Some t → Settles h (completed_label m x)
+  pub ready : (x : ℕ) → count m.base ≤ x → h.ready x ≡ 0
 
 -- a history with all numbers in range: moments up to 1,000,000, and, since a reaction is 1,000 ticks at most, up to 1,000 where
 -- an outcome of the origin is expected
@@ -68,6 +75,7 @@ pub record IsInTime (m : Labelled) (h : History) : Type 0 where
   pub now : h.now ≤ most_deadline
   pub expected : (p e : ℕ) → h.expected p ≡ Some e → e ≤ most_deadline
   pub origin : (p e : ℕ) → h.expected p ≡ Some e → Observes m.base 0 p → e ≤ most_reaction
+  pub ready : (x : ℕ) → h.ready x ≤ most_deadline
 
 -- a history with all numbers in range
 pub record IsTimelyHistory (m : Labelled) (h : History) : Type 0 where
@@ -113,11 +121,13 @@ label_left h a = λ p. mark_left (h.told p) (a p)
 abbrev pub edited : Labelled → ℕ → List Constraint → Labelled
 edited m deadline cs = record m { base = record m.base { deadline = deadline; constraints = cs } }
 
--- the later history has a later `now`, or more done at moments from the earlier `now` on; nothing else is changed
+-- the later history has a later `now`, or time-points that are ready later, or more done at moments from which it could be; nothing else
+-- is changed
 pub record GoesOn (h later : History) : Type 0 where
   pub now : h.now ≤ later.now
   pub kept : (x t : ℕ) → h.done x ≡ Some t → later.done x ≡ Some t
-  pub more : (x t : ℕ) → h.done x ≡ None → later.done x ≡ Some t → h.now ≤ t
+  pub more : (x t : ℕ) → h.done x ≡ None → later.done x ≡ Some t → soonest h x ≤ t
+  pub ready : (x : ℕ) → later.done x ≡ None → h.ready x ≤ later.ready x
   pub told : (p : ℕ) → later.told p ≡ h.told p
   pub expected : (p : ℕ) → later.expected p ≡ h.expected p
 
@@ -127,3 +137,4 @@ pub record IsToldMore (h later : History) : Type 0 where
   pub done : (x : ℕ) → later.done x ≡ h.done x
   pub told : (p : ℕ) (v : Bool) → h.told p ≡ Some v → later.told p ≡ Some v
   pub expected : (p : ℕ) → later.expected p ≡ h.expected p
+  pub ready : (x : ℕ) → later.ready x ≡ h.ready x

@@ -8,3 +8,5 @@ pub mod Handed
 pub mod Examples
 -- How the program's history is read.
 pub mod Read
+-- A further time-point.
+pub mod Steps

@@ -10,12 +10,14 @@ use Rattle.cstn_history.specs.Histories.{History, IsHistory, IsInTime}
 use Rattle.cstn_history.specs.Facts.{FactRefusal, Past, OutOfRange, NoSuch, Done, Undecided, NotObserved, Told}
 
 -- what contracts see of a history: the moment that it is now, the moment of each time-point that is done, what was told, and,
--- for each of the 52 propositions, the moment at which its outcome is expected, if it is
+-- for each of the 52 propositions, the moment at which its outcome is expected, if it is, and the moment at which each time-point is
+-- ready
 pub record HistoryParts : Type 0 where
   pub time : ℕ
   pub done : List (Option ℕ)
   pub told : Known
   pub expected : List (Option ℕ)
+  pub ready : List ℕ
 
 -- the history that the parts stand for
 abbrev pub the_history : HistoryParts → History
@@ -24,6 +26,7 @@ the_history h = record {
   done = λ x. slice_index_or h.done x None;
   told = known_value h.told;
   expected = λ p. slice_index_or h.expected p None;
+  ready = λ x. slice_index_or h.ready x 0;
 }
 
 -- a history of the labelled network as the program keeps it, with a place for each time-point and each proposition and with all
@@ -31,6 +34,7 @@ the_history h = record {
 pub record IsKeptFor (m : Labelled) (h : HistoryParts) : Type 0 where
   pub one_each : length h.done ≡ count m.base
   pub wide : length h.expected ≡ 52
+  pub ready_each : length h.ready ≡ count m.base
   pub history : IsHistory m (the_history h)
   pub in_time : IsInTime m (the_history h)
 

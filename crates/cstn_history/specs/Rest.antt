@@ -9,7 +9,7 @@ use Rattle.cstn_net.specs.Networks.{Constraint, count, limit}
 use Rattle.cstn_lift.specs.Labelled.{Labelled, label_of}
 use Rattle.cstn_lift.specs.Completion.{completed_label, full_label}
 use Rattle.cstn_lift.specs.Lowered.{observer_of, numbered}
-use Rattle.cstn_history.specs.Histories.{History, is_done, is_told, known_at, allows, label_left}
+use Rattle.cstn_history.specs.Histories.{History, is_done, is_told, known_at, soonest, allows, label_left}
 
 -- the proposition, where it isn't told
 abbrev pub untold : History → Option ℕ → Option ℕ
@@ -36,20 +36,20 @@ abbrev pub left : Labelled → History → List ℕ
 left m h = left_upto m h (count m.base)
 
 -- the number of x among the time-points that are left
-abbrev pub number_of : Labelled → History → ℕ → ℕ
-number_of m h x = length (left_upto m h x)
+abbrev pub number_left : Labelled → History → ℕ → ℕ
+number_left m h x = length (left_upto m h x)
 
 -- the end of a constraint that was at x: the origin where x is done
 abbrev pub end_left : Labelled → History → ℕ → ℕ
-end_left m h x = if is_done h x then 0 else number_of m h x
+end_left m h x = if is_done h x then 0 else number_left m h x
 
 -- the moment at which x is done, and 0 where it isn't
 abbrev pub moment_done : History → ℕ → ℕ
 moment_done h x = unwrap_or (h.done x) 0
 
 -- the value, cut to the range of values
-abbrev pub cut : ℤ → ℤ
-cut most = int_max least_value (int_min (pos most_value) most)
+abbrev pub value_cut : ℤ → ℤ
+value_cut most = int_max least_value (int_min (pos most_value) most)
 
 -- the value of a constraint between its ends when those that are done are put at the origin
 abbrev pub value_left : History → Constraint → ℤ
@@ -61,7 +61,7 @@ moved m h c = record {
   id = c.id;
   from = end_left m h c.from;
   to = end_left m h c.to;
-  most = cut (value_left h c);
+  most = value_cut (value_left h c);
   label = label_left h c.label;
 }
 
@@ -104,14 +104,14 @@ abbrev pub watched_one : Labelled → History → ℕ → Option ℕ → Option 
 watched_one m h zero t p = []
 watched_one m h (suc x) None p = []
 watched_one m h (suc x) (Some t) None = []
-watched_one m h (suc x) (Some t) (Some p) = stands_at (number_of m h (suc x)) (moment_watched m h p t)
+watched_one m h (suc x) (Some t) (Some p) = stands_at (number_left m h (suc x)) (moment_watched m h p t)
 
--- x isn't before now, where it is left and isn't done
+-- x isn't before now and when it is ready, where it is left and isn't done
 abbrev pub coming_one : Labelled → History → ℕ → List Constraint
 coming_one m h x =
-    if nat_lt 0 h.now && is_left m h x && not (is_done h x) then bare (number_of m h x) 0 (pos 0 -ℤ pos h.now) ∷ [] else []
+    if nat_lt 0 (soonest h x) && is_left m h x && not (is_done h x) then bare (number_left m h x) 0 (pos 0 -ℤ pos (soonest h x)) ∷ [] else []
 
--- for what was done above its limit, for what is watched, and for what is before now, each in ascending number
+-- for what was done above its limit, for what is watched, and for what isn't done, each in ascending number
 abbrev pub late : Labelled → History → List Constraint
 late m h = flat_map (λ x. late_one m x (h.done x)) (range_with_len 0 (count m.base))
 
@@ -159,4 +159,4 @@ with_constraint m c = record m { base = record m.base { constraints = m.base.con
 
 -- what is left, in which x is at t or later
 abbrev pub rest_waiting : Labelled → History → ℕ → ℕ → ℕ → Labelled
-rest_waiting m h fresh x t = with_constraint (rest m h fresh) (bare (number_of m h x) 0 (pos 0 -ℤ pos t))
+rest_waiting m h fresh x t = with_constraint (rest m h fresh) (bare (number_left m h x) 0 (pos 0 -ℤ pos t))

@@ -4,7 +4,7 @@ ghost use Rattle.cstn_net.specs.Networks.{count};
 ghost use Rattle.cstn_lift.specs.Read.{the_labelled};
 ghost use Rattle.cstn_history.specs.Rest.{bare, added};
 ghost use Rattle.cstn_history.specs.Read.{the_history, IsKeptFor};
-ghost use Rattle.cstn_history.specs.Handed.{AreNumbers, HasAdded, Adds, added_for, added_for_all};
+ghost use Rattle.cstn_history.specs.Handed.{AreNumbers, HasAdded, AreAddedBehind, added_for, added_for_all};
 
 use crate::histories::History;
 use crate::leaving::{is_left, moment_watched, sight_left};
@@ -13,7 +13,7 @@ use cstn_lift::Labelled;
 use cstn_net::Constraint;
 use std::alloc::{AllocError, Global};
 
-/// Why a constraint is added: a time-point was done above its limit, is watched, or isn't to be before now.
+/// Why a constraint is added: a time-point was done above its limit, is watched, or isn't to be before now or before it is ready.
 #[derive(Clone, Copy, Debug, PartialEq, Eq)]
 pub enum Kind {
     Late,
@@ -55,7 +55,8 @@ fn add_kind(
     requires numbers { AreNumbers (the_labelled network.now) (the_history history.now) numbers.now }
     requires room { fresh ≤ 4294000000 }
     requires few { length added.old.items ≤ 4096 }
-    ensures added { IfOk result (λ _. Adds fresh added.old.items added.new.items (added_for_all (the_labelled network.now) (the_history history.now) kind)) }
+    ensures added { IfOk result (λ _. AreAddedBehind fresh added.old.items added.new.items
+        (added_for_all (the_labelled network.now) (the_history history.now) kind)) }
     ensures few { IfOk result (λ _. length added.new.items ≤ length added.old.items + 2048) }
 {
     for x in 0..network.base().count() {
@@ -79,7 +80,8 @@ fn add_one(
     requires numbers { AreNumbers (the_labelled network.now) (the_history history.now) numbers.now }
     requires room { fresh ≤ 4294000000 }
     requires few { length added.old.items ≤ 10000 }
-    ensures added { IfOk result (λ _. Adds fresh added.old.items added.new.items (added_for (the_labelled network.now) (the_history history.now) kind x.0)) }
+    ensures added { IfOk result (λ _. AreAddedBehind fresh added.old.items added.new.items
+        (added_for (the_labelled network.now) (the_history history.now) kind x.0)) }
     ensures few { IfOk result (λ _. length added.new.items ≤ length added.old.items + 2) }
 {
     match kind {
@@ -101,7 +103,7 @@ fn add_late(
     requires kept { IsKeptFor (the_labelled network.now) history.now }
     requires room { fresh ≤ 4294000000 }
     requires few { length added.old.items ≤ 10000 }
-    ensures added { IfOk result (λ _. Adds fresh added.old.items added.new.items
+    ensures added { IfOk result (λ _. AreAddedBehind fresh added.old.items added.new.items
         (added_for (the_labelled network.now) (the_history history.now) Kind.Late x.0)) }
     ensures few { IfOk result (λ _. length added.new.items ≤ length added.old.items + 2) }
 {
@@ -131,7 +133,7 @@ fn add_watched(
     requires numbers { AreNumbers (the_labelled network.now) (the_history history.now) numbers.now }
     requires room { fresh ≤ 4294000000 }
     requires few { length added.old.items ≤ 10000 }
-    ensures added { IfOk result (λ _. Adds fresh added.old.items added.new.items
+    ensures added { IfOk result (λ _. AreAddedBehind fresh added.old.items added.new.items
         (added_for (the_labelled network.now) (the_history history.now) Kind.Watched x.0)) }
     ensures few { IfOk result (λ _. length added.new.items ≤ length added.old.items + 2) }
 {
@@ -151,7 +153,7 @@ fn add_watched(
     Ok(())
 }
 
-// Adds the constraint by which a time-point that isn't done isn't before now.
+// Adds the constraint by which a time-point that isn't done isn't before now or before it is ready.
 fn add_coming(
     added: &mut Vec<Constraint>,
     network: &Labelled,
@@ -165,13 +167,13 @@ fn add_coming(
     requires numbers { AreNumbers (the_labelled network.now) (the_history history.now) numbers.now }
     requires room { fresh ≤ 4294000000 }
     requires few { length added.old.items ≤ 10000 }
-    ensures added { IfOk result (λ _. Adds fresh added.old.items added.new.items
+    ensures added { IfOk result (λ _. AreAddedBehind fresh added.old.items added.new.items
         (added_for (the_labelled network.now) (the_history history.now) Kind.Coming x.0)) }
     ensures few { IfOk result (λ _. length added.new.items ≤ length added.old.items + 2) }
 {
-    let now = history.now();
-    if now > 0 && is_left(network, history, x) && history.done(x).is_none() {
-        add_bare(added, fresh, numbers[x.index()], 0, -(now as i32))?;
+    let soonest = history.soonest(x);
+    if soonest > 0 && is_left(network, history, x) && history.done(x).is_none() {
+        add_bare(added, fresh, numbers[x.index()], 0, -(soonest as i32))?;
     }
     Ok(())
 }
@@ -186,7 +188,7 @@ fn add_bare(
 ) -> Result<(), AllocError>
     requires room { fresh ≤ 4294000000 }
     requires few { length added.old.items ≤ 100000 }
-    ensures added { IfOk result (λ _. Adds fresh added.old.items added.new.items (bare from to most ∷ [])) }
+    ensures added { IfOk result (λ _. AreAddedBehind fresh added.old.items added.new.items (bare from to most ∷ [])) }
     ensures few { IfOk result (λ _. length added.new.items ≡ length added.old.items + 1) }
 {
     let id = fresh + added.len() as u32;

@@ -18,7 +18,7 @@ pub enum FactError {
     /// F4: the time-point is done already, at `moment`.
     #[error("the time-point {} was done at {moment}", node.0)]
     Done { node: NodeId, moment: u32 },
-    /// F5: what is told doesn't decide that the completed label of the time-point holds.
+    /// F5: what is told doesn't decide that the completed label of the time-point holds, or, where it is to wait, rules it out.
     #[error("what is told doesn't decide that the time-point {} is executed", node.0)]
     Undecided { node: NodeId },
     /// F6: no time-point that is done observes the proposition.
@@ -38,4 +38,15 @@ pub enum RestError {
     /// Memory was refused.
     #[error("out of memory")]
     Memory(AllocError),
+}
+
+impl From<AllocError> for RestError {
+    ghost use Rattle.std.specs.Prelude.{◌≡◌};
+    ghost use Rattle.cstn_history.specs.declared.errors.RestError.TheVariants.{Memory};
+
+    ghost from_gives = { λ x e. e ≡ Memory x };
+
+    fn from(error: AllocError) -> RestError {
+        RestError::Memory(error)
+    }
 }

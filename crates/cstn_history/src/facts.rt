@@ -8,8 +8,8 @@ ghost use Rattle.cstn_lift.specs.WellFormed.{IsLabelled};
 ghost use Rattle.cstn_lift.specs.Read.{the_labelled};
 ghost use Rattle.cstn_lift.specs.Lowered.{observer_of};
 ghost use Rattle.cstn_history.specs.Read.{the_history, IsKeptFor, the_fact_refusal, refusal_of};
-ghost use Rattle.cstn_history.specs.Facts.{now_refusal, done_refusal, told_refusal, expected_refusal, observed_since, latest_expected, is_beyond};
-ghost use Rattle.cstn_history.specs.Facts.{at_now, with_done, with_told, with_expected};
+ghost use Rattle.cstn_history.specs.Facts.{now_refusal, done_refusal, told_refusal, expected_refusal, wait_refusal, ready_refusal, observed_since, latest_expected, is_beyond};
+ghost use Rattle.cstn_history.specs.Facts.{at_now, with_done, with_told, with_expected, with_ready};
 
 use crate::completion::completed;
 use crate::errors::FactError;
@@ -37,8 +37,8 @@ impl History {
         Ok(())
     }
 
-    /// Records that a time-point was done at this moment, in ticks, which may be past; where it is above now, it is that moment
-    /// now. Refused with the first that applies of `OutOfRange`, `NoSuch`, `Done` and `Undecided`.
+    /// Records that a time-point was done at this moment, in ticks, which may be past or before it was ready; where it is above now,
+    /// it is that moment now. Refused with the first that applies of `OutOfRange`, `NoSuch`, `Done` and `Undecided`.
     pub fn execute(&mut self, network: &Labelled, moment: u32, x: NodeId) -> Result<(), FactError>
         requires kept { IsKeptFor (the_labelled network.now) self.old }
         ensures refused { refusal_of result ≡ done_refusal (the_labelled network.now) (the_history self.old) moment x.0 }
@@ -92,6 +92,51 @@ impl History {
         }
         self.expected[p.index as usize] = Some(moment);
         Ok(())
+    }
+
+    /// Records that a time-point can't be done before this moment, in ticks, whatever was recorded of this before; 0 takes it back.
+    /// Refused with the first that applies of `OutOfRange`, `NoSuch`, `Done` and, where it is ruled out, `Undecided`.
+    pub fn make_ready(
+        &mut self,
+        network: &Labelled,
+        moment: u32,
+        x: NodeId,
+    ) -> Result<(), FactError>
+        requires kept { IsKeptFor (the_labelled network.now) self.old }
+        ensures refused { refusal_of result ≡ ready_refusal (the_labelled network.now) (the_history self.old) moment x.0 }
+        ensures recorded { OnOk result (the_history self.new ≡ with_ready (the_history self.old) moment x.0) }
+        ensures same { OnErr result (self.new ≡ self.old) }
+        ensures kept { IsKeptFor (the_labelled network.now) self.new }
+    {
+        if is_beyond(moment) {
+            return Err(FactError::OutOfRange { moment });
+        }
+        if let Some(refusal) = self.wait_refusal(network, x) {
+            return Err(refusal);
+        }
+        self.ready[x.index()] = moment;
+        Ok(())
+    }
+
+    /// Why a time-point doesn't wait: the first that applies of `NoSuch`, `Done` and, where it is ruled out, `Undecided`; none where it
+    /// may still be done.
+    pub fn wait_refusal(&self, network: &Labelled, x: NodeId) -> Option<FactError>
+        requires kept { IsKeptFor (the_labelled network.now) self.now }
+        ensures refusal { option_map the_fact_refusal result ≡ wait_refusal (the_labelled network.now) (the_history self.now) x.0 }
+        ensures labelled { IsLabelled (the_labelled network.now) }
+    {
+        let base = network.base();
+        if x.0 >= base.count() {
+            return Some(FactError::NoSuch { node: x });
+        }
+        if let Some(moment) = self.done(x) {
+            return Some(FactError::Done { node: x, moment });
+        }
+        if self.allows(completed(network, network.label(x))) {
+            None
+        } else {
+            Some(FactError::Undecided { node: x })
+        }
     }
 
     // Why a time-point can't be done at this moment.

@@ -1,9 +1,9 @@
-ghost use Rattle.std.specs.Prelude.{ℕ, ◌≡◌, ◌<◌, ◌≤◌, ◌==◌, length, None, IfOk, if◌then◌else◌};
+ghost use Rattle.std.specs.Prelude.{ℕ, ◌≡◌, ◌<◌, ◌≤◌, ◌==◌, length, None, IfOk, replicate, if◌then◌else◌};
 ghost use Rattle.cstn_label.specs.Read.{marks, known_value};
 ghost use Rattle.cstn_net.specs.Limits.{most_deadline};
 ghost use Rattle.cstn_net.specs.Networks.{count};
 ghost use Rattle.cstn_lift.specs.Read.{the_labelled};
-ghost use Rattle.cstn_history.specs.Histories.{nothing_yet, allows, mark_left, label_left};
+ghost use Rattle.cstn_history.specs.Histories.{nothing_yet, soonest, allows, mark_left, label_left};
 ghost use Rattle.cstn_history.specs.Read.{the_history, IsKeptFor};
 ghost use Rattle.cstn_history.specs.Facts.{settles};
 
@@ -13,13 +13,15 @@ use std::alloc::{AllocError, Global};
 use std::marker::Model;
 
 /// What has happened while a labelled network was carried out: the moments of the time-points that are done, the outcomes that
-/// were told, and those that are expected at another moment than after their reaction. What is before `now` is over.
+/// were told, those that are expected at another moment than after their reaction, and the moments before which time-points can't be
+/// done. What is before `now` is over.
 #[derive(Drop)]
 pub struct History {
     pub(crate) time: u32,
     pub(crate) done: Vec<Option<u32>>,
     pub(crate) told: Known,
     pub(crate) expected: [Option<u32>; 52],
+    pub(crate) ready: Vec<u32>,
 }
 
 impl Model for History {
@@ -29,7 +31,7 @@ impl Model for History {
 
     ghost Value = { HistoryParts };
 
-    ghost view = { λ h. record { time = h.time; done = h.done.items; told = h.told; expected = h.expected } };
+    ghost view = { λ h. record { time = h.time; done = h.done.items; told = h.told; expected = h.expected; ready = h.ready.items } };
 
     ghost invariant = { λ h. h.time ≤ most_deadline };
 }
@@ -41,6 +43,7 @@ impl History {
         ensures kept { IfOk result (λ h. IsKeptFor (the_labelled network.now) h) }
     {
         let count = network.base().count() as usize;
+        let ready = zeros(alloc, count)?;
         let mut done = Vec::with_capacity(alloc, count)?;
         done.resize(count, None)?;
         done[0] = Some(0);
@@ -49,6 +52,7 @@ impl History {
             done,
             told: Known::nothing(),
             expected: [None; 52],
+            ready,
         })
     }
 
@@ -57,11 +61,13 @@ impl History {
         ensures equal { IfOk result (λ h. h ≡ self.now) }
     {
         let done = Vec::from_slice(alloc, &self.done)?;
+        let ready = Vec::from_slice(alloc, &self.ready)?;
         Ok(History {
             time: self.time,
             done,
             told: self.told,
             expected: self.expected,
+            ready,
         })
     }
 
@@ -93,6 +99,14 @@ impl History {
         ensures expected { result ≡ (the_history self.now).expected p.index }
     {
         self.expected[p.index as usize]
+    }
+
+    /// The moment before which a time-point that isn't done can't be done, in ticks: it is past, or the time-point isn't ready.
+    pub fn soonest(&self, x: NodeId) -> u32
+        requires { x.0 < length self.now.ready }
+        ensures soonest { result ≡ soonest (the_history self.now) x.0 }
+    {
+        self.time.max(self.ready[x.index()])
     }
 
     /// Whether what was told contradicts no mark of the label.
@@ -137,4 +151,13 @@ impl History {
             None => self.allows(label),
         }
     }
+}
+
+// As many zeros.
+fn zeros(alloc: Global, count: usize) -> Result<Vec<u32>, AllocError>
+    ensures { IfOk result (λ v. v.items ≡ replicate count 0) }
+{
+    let mut zeros = Vec::with_capacity(alloc, count)?;
+    zeros.resize(count, 0)?;
+    Ok(zeros)
 }

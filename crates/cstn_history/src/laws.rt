@@ -16,8 +16,9 @@ ghost use Rattle.cstn_label.specs.OnLetters.{IsOnLetters};
 ghost use Rattle.cstn_history.specs.Histories.{History, IsHistory, IsInTime, IsTimelyHistory, AgreesWith, Settles, IsAllowed, allows};
 ghost use Rattle.cstn_history.specs.Histories.{label_left, GoesOn, IsToldMore, edited, nothing_yet};
 ghost use Rattle.cstn_history.specs.Continuations.{Continues, Can, IsLeastNow, IsQuietBefore, IsAlwaysAt, IsNamed, IsEventful, IsNext, IsLeastTable, CanWait};
-ghost use Rattle.cstn_history.specs.Rest.{is_left, number_of, rest, rest_waiting};
-ghost use Rattle.cstn_history.specs.Facts.{settles, now_refusal, done_refusal, told_refusal, expected_refusal, at_now, with_done, with_told, with_expected};
+ghost use Rattle.cstn_history.specs.Rest.{is_left, number_left, rest, rest_waiting};
+ghost use Rattle.cstn_history.specs.Facts.{settles, now_refusal, done_refusal, told_refusal, expected_refusal, ready_refusal, at_now, with_done, with_told};
+ghost use Rattle.cstn_history.specs.Facts.{with_expected, with_ready};
 ghost use Rattle.cstn_history.specs.Handed.{HasAllLeft, bared};
 
 /// The rest decides: a history can go on exactly where the labelled network of what is left is consistent. In each scenario that
@@ -26,7 +27,7 @@ ghost use Rattle.cstn_history.specs.Handed.{HasAllLeft, bared};
 pub fn rest_decides()
     ensures can { (m : Labelled) (h : History) (fresh : ℕ) → IsLabelled m → IsHistory m h → (Can m h ↔ IsLabelledConsistent (rest m h fresh)) }
     ensures least { (m : Labelled) (h : History) (fresh : ℕ) (s : Scenario) (x t : ℕ) → IsLabelled m → IsHistory m h → AgreesWith h s
-        → x < count m.base → h.done x ≡ None → IsExecuted m s x → (IsLeastNow m h s x t ↔ IsLabelledLeast (rest m h fresh) s (number_of m h x) t) }
+        → x < count m.base → h.done x ≡ None → IsExecuted m s x → (IsLeastNow m h s x t ↔ IsLabelledLeast (rest m h fresh) s (number_left m h x) t) }
 {}
 
 /// Where it has at most 16,384 constraints, what is left is a labelled network, in which a time-point's completed label is that of
@@ -36,19 +37,25 @@ pub fn rest_is_labelled()
     ensures labelled { (m : Labelled) (h : History) (fresh : ℕ) → IsLabelled m → IsHistory m h → IsInTime m h
         → All (λ c. c.id < fresh) m.base.constraints → length (rest m h fresh).base.constraints ≤ most_constraints → IsLabelled (rest m h fresh) }
     ensures completed { (m : Labelled) (h : History) (fresh x : ℕ) → IsLabelled m → IsHistory m h → x < count m.base
-        → IsTrue (is_left m h x) → completed_label (rest m h fresh) (number_of m h x) ≡ label_left h (completed_label m x) }
+        → IsTrue (is_left m h x) → completed_label (rest m h fresh) (number_left m h x) ≡ label_left h (completed_label m x) }
     ensures executed { (m : Labelled) (h : History) (fresh x : ℕ) (s : Scenario) → IsLabelled m → IsHistory m h → x < count m.base
-        → AgreesWith h s → IsTrue (is_left m h x) → (IsExecuted m s x ↔ IsExecuted (rest m h fresh) s (number_of m h x)) }
+        → AgreesWith h s → IsTrue (is_left m h x) → (IsExecuted m s x ↔ IsExecuted (rest m h fresh) s (number_left m h x)) }
     ensures gone { (m : Labelled) (h : History) (x : ℕ) (s : Scenario) → IsLabelled m → IsHistory m h → AgreesWith h s
         → h.done x ≡ None → IsExecuted m s x → IsTrue (is_left m h x) }
 {}
 
-/// Time and steps only narrow: with a later `now`, or with more done from `now` on, a table that continues the later history
-/// continues the earlier one. What is told only leaves cases out: a table that continues a history still does once more is told.
+/// Time, steps and what is ready later only narrow: with a later `now`, with time-points that are ready later, or with more done from the
+/// moments on from which it could be, a table that continues the later history continues the earlier one. What is told only leaves cases
+/// out: a table that continues a history still does once more is told.
 pub fn histories_narrow()
     ensures time_and_steps { (m : Labelled) (h later : History) (table : Table) → IsLabelled m → IsHistory m h → IsHistory m later
         → GoesOn h later → Continues m later table → Continues m h table }
     ensures told { (m : Labelled) (h later : History) (table : Table) → IsToldMore h later → Continues m h table → Continues m later table }
+{}
+
+/// A history that can go on still can with a time-point that isn't done before t exactly where the time-point can wait until t.
+pub fn ready_ones_wait()
+    ensures { (m : Labelled) (h : History) (t x : ℕ) → x < count m.base → h.done x ≡ None → Can m h → (Can m (with_ready h t x) ↔ CanWait m h x t) }
 {}
 
 /// Whoever follows a table that continues a history stays on it, where nothing that isn't done comes before t in it: when time
@@ -123,6 +130,8 @@ pub fn facts_make_histories()
         → told_refusal m h t p ≡ None → IsTimelyHistory m (with_told h t p v) }
     ensures expected { (m : Labelled) (h : History) (t p : ℕ) → IsLabelled m → IsHistory m h → IsInTime m h
         → expected_refusal m h t p ≡ None → IsTimelyHistory m (with_expected h t p) }
+    ensures ready { (m : Labelled) (h : History) (t x : ℕ) → IsLabelled m → IsHistory m h → IsInTime m h
+        → ready_refusal m h t x ≡ None → IsTimelyHistory m (with_ready h t x) }
 {}
 
 /// A builder that has the time-points that are left, each with what it observes and its reaction, and no constraints yet was

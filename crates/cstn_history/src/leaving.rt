@@ -8,7 +8,7 @@ ghost use Rattle.cstn_net.specs.Read.{prop_number, the_constraint, IsInRange};
 ghost use Rattle.cstn_lift.specs.Completion.{full_label};
 ghost use Rattle.cstn_lift.specs.Read.{the_labelled};
 ghost use Rattle.cstn_history.specs.Histories.{allows, known_at};
-ghost use Rattle.cstn_history.specs.Rest.{sight_left, is_left, end_left, moment_done, value_left, cut, is_over, constraint_left, awaited_at};
+ghost use Rattle.cstn_history.specs.Rest.{sight_left, is_left, end_left, moment_done, value_left, value_cut, is_over, constraint_left, awaited_at};
 ghost use Rattle.cstn_history.specs.Rest.{reaction_watched, moment_watched};
 ghost use Rattle.cstn_history.specs.Read.{the_history, IsKeptFor};
 ghost use Rattle.cstn_history.specs.Handed.{AreNumbers};
@@ -175,7 +175,7 @@ fn is_possible(network: &Labelled, history: &History, c: &Constraint) -> bool
 
 // The value, cut to the range of values.
 fn cut(value: i32) -> i32
-    ensures { result ≡ cut value }
+    ensures { result ≡ value_cut value }
 {
     value.min(MAX_MOST).max(-MAX_MOST)
 }

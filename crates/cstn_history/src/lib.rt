@@ -9,6 +9,7 @@ mod histories;
 mod laws;
 mod leaving;
 mod rests;
+mod steps;
 
 pub use completion::completed;
 pub use errors::{FactError, RestError};
@@ -20,3 +21,4 @@ pub use laws::{
 };
 pub use leaving::known_at;
 pub use rests::{numbers_left, rest};
+pub use steps::{stepped, steps_keep_histories};

@@ -11,7 +11,7 @@ ghost use Rattle.cstn_lift.specs.Read.{the_labelled};
 ghost use Rattle.cstn_lift.specs.WellFormed.{IsLabelled};
 ghost use Rattle.cstn_history.specs.Rest.{left, constraints_left, reaction_after, rest};
 ghost use Rattle.cstn_history.specs.Read.{the_history, IsKeptFor};
-ghost use Rattle.cstn_history.specs.Handed.{AreNumbers, HasLeft, HasAllLeft, bared, rest_number, IsBaseRefusal, IsRestRefusal, HasRoom};
+ghost use Rattle.cstn_history.specs.Handed.{AreNumbers, HasLeft, HasAllLeft, bared, rest_number, IsBaseRefusal, IsRestRefusal, HasFewConstraints};
 
 use crate::adding::added;
 use crate::errors::RestError;
@@ -25,14 +25,19 @@ use cstn_net::{
 };
 use std::alloc::{AllocError, Global};
 
-// The time-points that are left, and the number of each time-point among them.
+/// The time-points that are left, and the number of each time-point among them.
 #[derive(Drop)]
-struct Left {
-    points: Vec<NodeId>,
+pub(crate) struct Left {
+    pub(crate) points: Vec<NodeId>,
     numbers: Vec<u16>,
 }
 
-fn left_of(alloc: Global, network: &Labelled, history: &History) -> Result<Left, AllocError>
+/// The time-points that are left.
+pub(crate) fn left_of(
+    alloc: Global,
+    network: &Labelled,
+    history: &History,
+) -> Result<Left, AllocError>
     requires kept { IsKeptFor (the_labelled network.now) history.now }
     ensures points { IfOk result (λ l. map (λ x. x.0) l.points.items ≡ left (the_labelled network.now) (the_history history.now)) }
     ensures numbers { IfOk result (λ l. AreNumbers (the_labelled network.now) (the_history history.now) l.numbers.items) }
@@ -99,8 +104,8 @@ fn push_some(kept: &mut Vec<Constraint>, c: Option<Constraint>) -> Result<(), Al
     Ok(())
 }
 
-// The labels that are left.
-fn labels_left(
+/// The labels that are left.
+pub(crate) fn labels_left(
     alloc: Global,
     network: &Labelled,
     history: &History,
@@ -142,8 +147,8 @@ fn points_left(
     }
 }
 
-// The refusal that a builder's error stands for, which is want of memory.
-fn error_of(error: NetError) -> RestError
+/// The refusal that a builder's error stands for, which is want of memory.
+pub(crate) fn error_of(error: NetError) -> RestError
     ensures memory { net_number error ≡ 0 → rest_number result ≡ 0 }
 {
     match error {
@@ -152,8 +157,8 @@ fn error_of(error: NetError) -> RestError
     }
 }
 
-// Adds the time-points that are left, with what they observe and their reactions.
-fn add_points(
+/// Adds the time-points that are left, with what they observe and their reactions.
+pub(crate) fn add_points(
     builder: &mut Builder,
     network: &Labelled,
     history: &History,
@@ -212,8 +217,8 @@ fn reaction_left(network: &Labelled, history: &History, x: NodeId, p: Prop) -> u
     }
 }
 
-// Puts these constraints in behind those of the network.
-fn insert_all(net: &mut Network, more: &[Constraint])
+/// Puts these constraints in behind those of the network.
+pub(crate) fn insert_all(net: &mut Network, more: &[Constraint])
     requires room { length more.now ≤ net.old.spare }
     requires fit { AreConstraintsFor (the_network net.old) (map the_constraint (net.old.constraints ++ more.now)) }
     ensures inserted { net.new.constraints ≡ net.old.constraints ++ more.now }
@@ -282,7 +287,7 @@ pub fn rest(
     ensures labelled { IfOk result (λ l. IsLabelled (the_labelled l)) }
 
     // Unless memory is refused, it is refused exactly where there are too many constraints.
-    ensures few { IfOk result (λ _. HasRoom (rest (the_labelled network.now) (the_history history.now) fresh)) }
+    ensures few { IfOk result (λ _. HasFewConstraints (rest (the_labelled network.now) (the_history history.now) fresh)) }
     ensures refused { IfErr result (IsRestRefusal (rest (the_labelled network.now) (the_history history.now) fresh)) }
 {
     labelled_networks_have_no_fault();
@@ -305,8 +310,8 @@ pub fn rest(
     }
 }
 
-// The refusal that a fault stands for, which is want of memory or that there are too many constraints.
-fn refusal_of(fault: LiftError) -> RestError
+/// The refusal that a fault stands for, which is want of memory or that there are too many constraints.
+pub(crate) fn refusal_of(fault: LiftError) -> RestError
     ensures memory { lift_number fault ≡ 0 → rest_number result ≡ 0 }
     ensures constraints { lift_number fault ≢ 0 → result ≡ RestError.TooManyConstraints }
 {

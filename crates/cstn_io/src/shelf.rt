@@ -1,7 +1,7 @@
 // A shelf of files, of which one is read at a time.
 ghost use Rattle.std.specs.Prelude.{◌≡◌, ◌<◌, ◌≤◌, ◌+◌, ℕ, List, [], Option, Bool, length, is_some, IsTrue, OnOk, OnErr};
 ghost use Rattle.cstn_io.specs.Causes.{HasCause, HasChoiceCause};
-ghost use Rattle.cstn_io.specs.Contents.{Takes, Chooses, named, taken_after};
+ghost use Rattle.cstn_io.specs.Contents.{Takes, Chooses, named_if_told, taken_after};
 ghost use Rattle.cstn_io.specs.Asked.{asked_after};
 
 use crate::Failed;
@@ -68,7 +68,7 @@ pub trait Shelf {
     fn choose(&mut self, name: &str) -> Result<(), ChooseError>
         requires { IsTrue (may_ask self.old name.now) }
         ensures chosen { OnOk result (IsTrue (is_chosen self.new)) }
-        ensures named { OnOk result (chosen self.new ≡ named (files self.old) name.now) }
+        ensures named { OnOk result (chosen self.new ≡ named_if_told (files self.old) name.now) }
         ensures bytes { OnOk result (Chooses (files self.old) name.now (left self.new)) }
         ensures taken { OnOk result (taken self.new ≡ 0) }
         ensures refused_chosen { OnErr result (is_chosen self.new ≡ is_chosen self.old) }

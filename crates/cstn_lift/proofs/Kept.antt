@@ -12,7 +12,7 @@ use Rattle.cstn_lift.specs.Labelled.{Labelled}
 use Rattle.cstn_lift.specs.Completion.{completed, completed_label, full_label}
 use Rattle.cstn_lift.specs.WellFormed.{IsLabelled}
 use Rattle.cstn_lift.specs.Lowered.{is_plain, observer_of, with_full_label, full_constraints, guard, guards_of, guards_with, guards}
-use Rattle.cstn_lift.specs.Kept.{IsConstraintOf, IsKept, IsLowered, IsFull, IsGuard}
+use Rattle.cstn_lift.specs.Kept.{IsConstraintOf, IsKeptConstraint, IsLowered, IsFull, IsGuard}
 use Rattle.cstn_lift.proofs.ListLemmas.{numbered_contains}
 use Rattle.cstn_lift.proofs.LoweredLemmas.{plain_true, plain_back, only, completed_at, guard_is, observer_back}
 use Rattle.cstn_lift.proofs.Equivalent.{full_observed}
@@ -51,12 +51,12 @@ module _ (m : Labelled) (good : IsLabelled m) where
   pub full_both : (d : Constraint) → Contains (full_constraints m) d ↔ IsFull m d
   full_both d = (full_from_kept d, kept_from_full d)
 
-  plain_kept : (c : Constraint) → IsConstraintOf m c → IsPlain (full_label m c) → IsKept m c
+  plain_kept : (c : Constraint) → IsConstraintOf m c → IsPlain (full_label m c) → IsKeptConstraint m c
   plain_kept c has plain =
       let d = record c { label = full_label m c } in
       Contains-append_left (full_constraints m) (guards m) d (kept_from_full d (c, has, plain, refl))
 
-  kept_lowered : (c : Constraint) → IsKept m c → IsLowered m c
+  kept_lowered : (c : Constraint) → IsKeptConstraint m c → IsLowered m c
   kept_lowered c has = numbered_contains 0 (full_constraints m ++ guards m) (record c { label = full_label m c }) has
 
   lowered_plain : (c : Constraint) → IsLowered m c → IsPlain (full_label m c)
@@ -65,7 +65,7 @@ module _ (m : Labelled) (good : IsLabelled m) where
       (plain_and_observed m good d (only m good d has)).0
 
   -- a constraint is kept exactly where its full label is plain
-  pub kept_both : (c : Constraint) → IsConstraintOf m c → IsKept m c ↔ IsPlain (full_label m c)
+  pub kept_both : (c : Constraint) → IsConstraintOf m c → IsKeptConstraint m c ↔ IsPlain (full_label m c)
   kept_both c has = (λ kept. lowered_plain c (kept_lowered c kept), plain_kept c has)
 
   -- a constraint is in the lowered network exactly where its full label is plain

@@ -5,7 +5,7 @@ use Rattle.cstn_label.specs.declared.marks.Mark.{Mark}
 use Rattle.cstn_label.specs.declared.marks.Mark.TheVariants.{Absent, Yes, No, Unknown}
 use Rattle.cstn_label.specs.Labels.{Label, empty}
 use Rattle.cstn_net.specs.Networks.{Constraint}
-use Rattle.cstn_net.specs.Examples.{only, both}
+use Rattle.cstn_net.specs.Examples.{only_mark, both}
 use Rattle.cstn_lift.specs.Labelled.{Labelled}
 use Rattle.cstn_lift.specs.Completion.{completed_label}
 use Rattle.cstn_lift.specs.Lowered.{is_plain, guards_of, lowered}
@@ -14,21 +14,21 @@ abbrev pub shape : Constraint → ℕ × ℕ × ℕ × ℤ × Mark × Mark
 shape c = (c.id, c.from, c.to, c.most, c.label 0, c.label 1)
 
 abbrev pub late : Labelled
-late = record { base = record { deadline = 10; observes = None ∷ (Some 0 ∷ (None ∷ [])); reaction = λ p. 1; constraints = record { id = 4; from = 2; to = 0; most = negsuc 4; label = empty } ∷ [] }; labels = empty ∷ (empty ∷ (only Yes ∷ [])) }
+late = record { base = record { deadline = 10; observes = None ∷ (Some 0 ∷ (None ∷ [])); reaction = λ p. 1; constraints = record { id = 4; from = 2; to = 0; most = negsuc 4; label = empty } ∷ [] }; labels = empty ∷ (empty ∷ (only_mark Yes ∷ [])) }
 
 pub late_row : map shape (lowered late).constraints ≡ (0, 2, 0, negsuc 4, Yes, Absent) ∷ ((1, 2, 1, negsuc 0, Yes, Absent) ∷ [])
 unfolding is_plain guards_of
 late_row = refl
 
 abbrev pub circle : Labelled
-circle = record { base = record { deadline = 10; observes = None ∷ (Some 0 ∷ (Some 1 ∷ [])); reaction = λ p. 3; constraints = [] }; labels = empty ∷ (both Absent Yes ∷ (only Yes ∷ [])) }
+circle = record { base = record { deadline = 10; observes = None ∷ (Some 0 ∷ (Some 1 ∷ [])); reaction = λ p. 3; constraints = [] }; labels = empty ∷ (both Absent Yes ∷ (only_mark Yes ∷ [])) }
 
 circle_row : completed_label circle 1 0 ≡ Yes
 circle_row = refl
 
 -- P observes p, Q has the label p and observes q, and X has the label q!p: X is never executed
 abbrev pub never : Labelled
-never = record { base = record { deadline = 10; observes = None ∷ (Some 0 ∷ (Some 1 ∷ (None ∷ []))); reaction = λ p. 3; constraints = record { id = 0; from = 3; to = 2; most = pos 1; label = empty } ∷ [] }; labels = empty ∷ (empty ∷ (only Yes ∷ (both No Yes ∷ []))) }
+never = record { base = record { deadline = 10; observes = None ∷ (Some 0 ∷ (Some 1 ∷ (None ∷ []))); reaction = λ p. 3; constraints = record { id = 0; from = 3; to = 2; most = pos 1; label = empty } ∷ [] }; labels = empty ∷ (empty ∷ (only_mark Yes ∷ (both No Yes ∷ []))) }
 
 never_row : completed_label never 3 0 ≡ Unknown
 never_row = refl

@@ -13,8 +13,8 @@ abbrev pub IsConstraintOf : Labelled → Constraint → Type 0
 IsConstraintOf m c = Contains m.base.constraints c
 
 -- the constraint with its full label is among those that are numbered to make the lowered network
-abbrev pub IsKept : Labelled → Constraint → Type 0
-IsKept m c = Contains (full_constraints m ++ guards m) (record c { label = full_label m c })
+abbrev pub IsKeptConstraint : Labelled → Constraint → Type 0
+IsKeptConstraint m c = Contains (full_constraints m ++ guards m) (record c { label = full_label m c })
 
 -- the constraint with its full label is in the lowered network, under some id
 abbrev pub IsLowered : Labelled → Constraint → Type 0

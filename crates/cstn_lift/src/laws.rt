@@ -11,7 +11,7 @@ ghost use Rattle.cstn_lift.specs.Labelled.{Labelled, HasNoLabels, label_of};
 ghost use Rattle.cstn_lift.specs.Completion.{IsCompleteLabel, IsPlainAndComplete, completed, completed_label, full_label};
 ghost use Rattle.cstn_lift.specs.WellFormed.{IsLabelled};
 ghost use Rattle.cstn_lift.specs.Lowered.{lowered, numbered, observer_of, is_plain, full_constraints, guards_of, guards};
-ghost use Rattle.cstn_lift.specs.Kept.{IsOpenIn, IsKnownIn, IsConstraintOf, IsKept, IsLowered, IsFull, IsGuard};
+ghost use Rattle.cstn_lift.specs.Kept.{IsOpenIn, IsKnownIn, IsConstraintOf, IsKeptConstraint, IsLowered, IsFull, IsGuard};
 ghost use Rattle.cstn_lift.specs.Strategies.{IsExecuted, IsLabelledStrategy, IsLabelledConsistent, IsLabelledLeast, IsEquivalent, AreDefaulted, AreTwins};
 ghost use Rattle.cstn_lift.specs.Strategies.{HasLabelledLeasts};
 ghost use Rattle.cstn_lift.specs.Scenarios.{IsOwn, own, IsLabelledStrategyOnObserved, IsLabelledLeastOnObserved, AreAlike};
@@ -126,7 +126,7 @@ pub fn lowest_lift_fault_is_one()
 /// is kept, and so in the lowered network, exactly where its full label is plain. What is kept has its full label.
 pub fn plain_constraints_are_kept()
     ensures plain { (m : Labelled) (c : Constraint) → IsLabelled m → IsConstraintOf m c → (IsTrue (is_plain (full_label m c)) ↔ IsPlain (full_label m c)) }
-    ensures kept { (m : Labelled) (c : Constraint) → IsLabelled m → IsConstraintOf m c → (IsKept m c ↔ IsPlain (full_label m c)) }
+    ensures kept { (m : Labelled) (c : Constraint) → IsLabelled m → IsConstraintOf m c → (IsKeptConstraint m c ↔ IsPlain (full_label m c)) }
     ensures lowered { (m : Labelled) (c : Constraint) → IsLabelled m → IsConstraintOf m c → (IsLowered m c ↔ IsPlain (full_label m c)) }
     ensures full { (m : Labelled) (d : Constraint) → IsLabelled m → (Contains (full_constraints m) d ↔ IsFull m d) }
 {}

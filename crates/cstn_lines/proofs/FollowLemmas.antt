@@ -19,12 +19,12 @@ use Rattle.cstn_text.specs.PrintedLabels.{printed_label}
 use Rattle.cstn_text.proofs.CutLemmas.{cut_joined}
 use Rattle.cstn_text.proofs.PartLemmas.{name_part}
 use Rattle.cstn_text.proofs.PrintedNameLemmas.{name_back, name_printed}
-use Rattle.cstn_text.specs.Parts.{Parts, parts_at, joined}
+use Rattle.cstn_text.specs.Parts.{SplitText, parts_at, joined}
 use Rattle.cstn_text.proofs.SplitLemmas.{parts_cut, parts_open, parts_joined}
 use Rattle.cstn_text.proofs.ReadingLemmas.{part_free, part_back, within_back, within_said, u32_back}
 use Rattle.cstn_lines.specs.LiveLines.{cut_at_space, prop_read, truth_read, printed_truth}
 use Rattle.cstn_lines.specs.EditLines.{Edit, added, removed, changed, asked, edited_read, IsEdit, printed_edit}
-use Rattle.cstn_lines.specs.FollowLines.{Follow, done_at, came_at, now_at, awaited_at, edits, ends_by, asks_next, asks_by, asks_blame, asks_rest, each_name_read, names_read, done_read, outcome_read, came_read, awaited_read, followed_read, follow_read, IsFollow, printed_follow, IsTextOf}
+use Rattle.cstn_lines.specs.FollowLines.{Follow, done_at, came_at, now_at, awaited_at, ready_at, edits, ends_by, asks_next, asks_by, asks_blame, asks_rest, each_name_read, names_read, done_read, outcome_read, came_read, awaited_read, ready_read, followed_read, follow_read, IsFollow, printed_follow, IsTextOf}
 use Rattle.cstn_lines.proofs.LiveLemmas.{joined_cut, letter_is_part, prop_only, truth_back, truth_only}
 use Rattle.cstn_lines.proofs.EditLemmas.{number_cut, spaced, add_back, change_back, id_back, edited_only}
 use Rattle.cstn_label.proofs.LetterLemmas.{letter_back}
@@ -35,14 +35,14 @@ use Rattle.cstn_label.proofs.LetterLemmas.{letter_back}
 abbrev pub after_names : List (List ℕ) → Option (List (List ℕ)) → Option (List (List ℕ))
 after_names names others = option_map (λ more. names ++ more) others
 
-abbrev in_parts : List (List ℕ) → Parts → Option (List (List ℕ))
+abbrev in_parts : List (List ℕ) → SplitText → Option (List (List ℕ))
 in_parts names parts = after_names names (each_name_read parts.0 parts.1)
 
 module _ (names : List (List ℕ)) (left : List ℕ) where
   pub names_on_read : (part rest name : List ℕ) → cut_at 32 left ≡ Some (part, rest) → name_read part ≡ Some name →
       after_names names (names_read left) ≡ after_names (names ++ name ∷ []) (names_read rest)
   names_on_read part rest name is read =
-      ap {A = Parts} (in_parts names) (parts_cut 32 left part rest is)
+      ap {A = SplitText} (in_parts names) (parts_cut 32 left part rest is)
       ∙ ap (λ o. after_names names (option_and_then (λ n. option_map (λ more. n ∷ more) (names_read rest)) o)) read
       ∙ one (names_read rest)
     where
@@ -52,17 +52,17 @@ module _ (names : List (List ℕ)) (left : List ℕ) where
 
   pub names_wrong : (part rest : List ℕ) → cut_at 32 left ≡ Some (part, rest) → name_read part ≡ None → after_names names (names_read left) ≡ None
   names_wrong part rest is read =
-      ap {A = Parts} (in_parts names) (parts_cut 32 left part rest is)
+      ap {A = SplitText} (in_parts names) (parts_cut 32 left part rest is)
       ∙ ap (λ o. after_names names (option_and_then (λ n. option_map (λ more. n ∷ more) (names_read rest)) o)) read
 
   pub names_last : (name : List ℕ) → cut_at 32 left ≡ None → name_read left ≡ Some name → after_names names (names_read left) ≡ Some (names ++ name ∷ [])
   names_last name is read =
-      ap {A = Parts} (in_parts names) (parts_open 32 left is)
+      ap {A = SplitText} (in_parts names) (parts_open 32 left is)
       ∙ ap (λ o. after_names names (option_map (λ n. n ∷ []) o)) read
 
   pub names_last_wrong : cut_at 32 left ≡ None → name_read left ≡ None → after_names names (names_read left) ≡ None
   names_last_wrong is read =
-      ap {A = Parts} (in_parts names) (parts_open 32 left is)
+      ap {A = SplitText} (in_parts names) (parts_open 32 left is)
       ∙ ap (λ o. after_names names (option_map (λ n. n ∷ []) o)) read
 
 pub nothing_before : (o : Option (List (List ℕ))) → after_names [] o ≡ o
@@ -87,12 +87,12 @@ names_back : (name : List ℕ) (names : List (List ℕ)) → All IsName (name �
 names_back name [] are =
     let is : IsName name = All-head IsName name [] are in
     ap names_read (append-nil (printed_name name))
-    ∙ ap {A = Parts} (λ p. each_name_read p.0 p.1) (parts_whole (printed_name name) (part_free 32 (printed_name name) (omega arith) (name_part name is.some)))
+    ∙ ap {A = SplitText} (λ p. each_name_read p.0 p.1) (parts_whole (printed_name name) (part_free 32 (printed_name name) (omega arith) (name_part name is.some)))
     ∙ ap (option_map (λ n. n ∷ [])) (name_back name is)
 names_back name (other ∷ names) are =
     let is : IsName name = All-head IsName name (other ∷ names) are in
     let rest = printed_name other ++ more_names names in
-    ap {A = Parts} (λ p. each_name_read p.0 p.1) (parts_cut 32 (printed_name name ++ 32 ∷ rest) (printed_name name) rest (part_back (printed_name name) rest (name_part name is.some)))
+    ap {A = SplitText} (λ p. each_name_read p.0 p.1) (parts_cut 32 (printed_name name ++ 32 ∷ rest) (printed_name name) rest (part_back (printed_name name) rest (name_part name is.some)))
     ∙ ap (option_and_then (λ n. option_map (λ more. n ∷ more) (names_read rest))) (name_back name is)
     ∙ ap (option_map (λ more. name ∷ more)) (names_back other names (All-tail IsName name (other ∷ names) are))
 
@@ -118,6 +118,12 @@ awaited_back t p small letter =
     ap (option_and_then (λ parts. option_and_then (λ m. option_map (awaited_at m) (prop_read parts.1)) (u32_read parts.0))) (number_cut t (letter_of p ∷ []) small)
     ∙ ap (option_and_then (λ m. option_map (awaited_at m) (prop_read (letter_of p ∷ [])))) (u32_back t small)
     ∙ ap (option_map (awaited_at t)) (letter_back p letter)
+
+ready_back : (t : ℕ) (name : List ℕ) → t < 2 ^ 32 → IsName name → ready_read (printed_number t ++ 32 ∷ printed_name name) ≡ Some (ready_at t name)
+ready_back t name small is =
+    ap (option_and_then (λ parts. option_and_then (λ m. option_map (ready_at m) (name_read parts.1)) (u32_read parts.0))) (number_cut t (printed_name name) small)
+    ∙ ap (option_and_then (λ m. option_map (ready_at m) (name_read (printed_name name)))) (u32_back t small)
+    ∙ ap (option_map (ready_at t)) (name_back name is)
 
 -- none of the words that stand alone begins a line that has a space
 abbrev Stands : List ℕ → Type 0
@@ -154,6 +160,7 @@ follow_back (done_at t (name ∷ names)) is =
 follow_back (came_at t p value) is = word_back (codes "saw") (printed_number t ++ 32 ∷ letter_of p ∷ 32 ∷ printed_truth value) (refl, refl, refl, refl) refl ∙ came_back t p value is.0 is.1
 follow_back (now_at t) is = word_back (codes "now") (printed_number t) (refl, refl, refl, refl) refl ∙ ap (option_map now_at) (u32_back t is)
 follow_back (awaited_at t p) is = word_back (codes "await") (printed_number t ++ 32 ∷ letter_of p ∷ []) (refl, refl, refl, refl) refl ∙ awaited_back t p is.0 is.1
+follow_back (ready_at t name) is = word_back (codes "expect") (printed_number t ++ 32 ∷ printed_name name) (refl, refl, refl, refl) refl ∙ ready_back t name is.0 is.1
 follow_back (edits edit) is = edit_line_back edit is
 follow_back (ends_by ticks) is =
     word_back (codes "deadline") (printed_number ticks) (refl, refl, refl, refl) refl
@@ -242,6 +249,16 @@ awaited_only rest line is =
     let whole : rest ≡ printed_number t.0 ++ 32 ∷ letter_of p.0 ∷ [] = moment_then rest parts.0.0 parts.0.1 t.0 parts.1 moment.0 ∙ ap (λ (bs : List ℕ). printed_number t.0 ++ 32 ∷ bs) (sym letter.0) in
     same_line (awaited_at t.0 p.0) line _ p.2 (ap (λ (bs : List ℕ). codes "await" ++ 32 ∷ bs) whole, (moment.1, letter.1))
 
+ready_only : (rest : List ℕ) (line : Follow) → ready_read rest ≡ Some line → IsWritten line (codes "expect" ++ 32 ∷ rest)
+ready_only rest line is =
+    let parts = then_read (cut_at_space rest) (λ parts. option_and_then (λ t. option_map (ready_at t) (name_read parts.1)) (u32_read parts.0)) line is in
+    let t = then_read (u32_read parts.0.0) (λ t. option_map (ready_at t) (name_read parts.0.1)) line parts.2 in
+    let name = map_read (name_read parts.0.1) (ready_at t.0) line t.2 in
+    let moment = moment_only parts.0.0 t.0 t.1 in
+    let its = name_printed parts.0.1 name.0 name.1 in
+    let whole : rest ≡ printed_number t.0 ++ 32 ∷ printed_name name.0 = moment_then rest parts.0.0 parts.0.1 t.0 parts.1 moment.0 ∙ ap (λ (bs : List ℕ). printed_number t.0 ++ 32 ∷ bs) (sym its.0) in
+    same_line (ready_at t.0 name.0) line _ name.2 (ap (λ (bs : List ℕ). codes "expect" ++ 32 ∷ bs) whole, (moment.1, its.1))
+
 deadline_only : (rest : List ℕ) (line : Follow) → option_map ends_by (number_within 0 most_deadline rest) ≡ Some line → IsWritten line (codes "deadline" ++ 32 ∷ rest)
 deadline_only rest line is =
     let ticks = map_read (number_within 0 most_deadline rest) ends_by line is in
@@ -262,23 +279,24 @@ edit_of_only word rest line is =
 
 followed_only : (word rest : List ℕ) (line : Follow) → followed_read (word, rest) ≡ Some line → IsWritten line (word ++ 32 ∷ rest)
 followed_only word rest line is =
-    at (bytes_eq word (codes "did")) (bytes_eq word (codes "saw")) (bytes_eq word (codes "now")) (bytes_eq word (codes "await")) (bytes_eq word (codes "deadline")) (bytes_eq word (codes "by"))
-    refl refl refl refl refl refl is
+    at (bytes_eq word (codes "did")) (bytes_eq word (codes "saw")) (bytes_eq word (codes "now")) (bytes_eq word (codes "await")) (bytes_eq word (codes "expect"))
+    (bytes_eq word (codes "deadline")) (bytes_eq word (codes "by")) refl refl refl refl refl refl refl is
   where
     spelled : (bytes : List ℕ) → bytes_eq word bytes ≡ true → IsWritten line (bytes ++ 32 ∷ rest) → IsWritten line (word ++ 32 ∷ rest)
     spelled bytes same written = subst (λ (w : List ℕ). IsWritten line (w ++ 32 ∷ rest)) (sym ((bytes_eq-Decides word bytes).0 same)) written
 
-    at : (did saw now await deadline by : Bool) → did ≡ bytes_eq word (codes "did") → saw ≡ bytes_eq word (codes "saw") → now ≡ bytes_eq word (codes "now") → await ≡ bytes_eq word (codes "await") → deadline ≡ bytes_eq word (codes "deadline") → by ≡ bytes_eq word (codes "by")
+    at : (did saw now await expect deadline by : Bool) → did ≡ bytes_eq word (codes "did") → saw ≡ bytes_eq word (codes "saw") → now ≡ bytes_eq word (codes "now") → await ≡ bytes_eq word (codes "await") → expect ≡ bytes_eq word (codes "expect") → deadline ≡ bytes_eq word (codes "deadline") → by ≡ bytes_eq word (codes "by")
         → (if did then done_read rest else if saw then came_read rest else if now then option_map now_at (u32_read rest) else if await then awaited_read rest
-        else if deadline then option_map ends_by (number_within 0 most_deadline rest) else if by then option_map asks_by (name_read rest) else option_map edits (edited_read (word, rest))) ≡ Some line
+        else if expect then ready_read rest else if deadline then option_map ends_by (number_within 0 most_deadline rest) else if by then option_map asks_by (name_read rest) else option_map edits (edited_read (word, rest))) ≡ Some line
         → IsWritten line (word ++ 32 ∷ rest)
-    at true saw now await deadline by a b c d e f said = spelled (codes "did") (sym a) (done_only rest line said)
-    at false true now await deadline by a b c d e f said = spelled (codes "saw") (sym b) (came_only rest line said)
-    at false false true await deadline by a b c d e f said = spelled (codes "now") (sym c) (now_only rest line said)
-    at false false false true deadline by a b c d e f said = spelled (codes "await") (sym d) (awaited_only rest line said)
-    at false false false false true by a b c d e f said = spelled (codes "deadline") (sym e) (deadline_only rest line said)
-    at false false false false false true a b c d e f said = spelled (codes "by") (sym f) (by_only rest line said)
-    at false false false false false false a b c d e f said = edit_of_only word rest line said
+    at true saw now await expect deadline by a b c d e f g said = spelled (codes "did") (sym a) (done_only rest line said)
+    at false true now await expect deadline by a b c d e f g said = spelled (codes "saw") (sym b) (came_only rest line said)
+    at false false true await expect deadline by a b c d e f g said = spelled (codes "now") (sym c) (now_only rest line said)
+    at false false false true expect deadline by a b c d e f g said = spelled (codes "await") (sym d) (awaited_only rest line said)
+    at false false false false true deadline by a b c d e f g said = spelled (codes "expect") (sym e) (ready_only rest line said)
+    at false false false false false true by a b c d e f g said = spelled (codes "deadline") (sym f) (deadline_only rest line said)
+    at false false false false false false true a b c d e f g said = spelled (codes "by") (sym g) (by_only rest line said)
+    at false false false false false false false a b c d e f g said = edit_of_only word rest line said
 
 follow_written : (text : List ℕ) (line : Follow) → follow_read text ≡ Some line → IsWritten line text
 follow_written text line is =

@@ -6,7 +6,7 @@ use Rattle.std.proofs.lemmas.Slice.Eq.{bytes_eq-Decides}
 use Rattle.cstn_facts.proofs.Options.{then_read, map_read}
 use Rattle.cstn_text.specs.Numbers.{printed_number}
 use Rattle.cstn_text.proofs.CutLemmas.{cut_joined}
-use Rattle.cstn_lines.specs.LiveLines.{Live, cut_at_space, live_read, IsLive, printed_live}
+use Rattle.cstn_lines.specs.LiveLines.{Live, cut_at_space, live_read, IsLiveLine, printed_live}
 use Rattle.cstn_lines.specs.EditLines.{id_read}
 use Rattle.cstn_lines.specs.HostLines.{Hosted, opened, put_on, closed, opened_read, put_on_read, hosted_read, host_read, IsHosted, printed_hosted}
 use Rattle.cstn_lines.proofs.LiveLemmas.{joined_cut, live_back, live_only}
@@ -24,7 +24,7 @@ opened_back id file small also =
     ∙ ap (option_and_then (λ i. option_map (opened i) (id_read (printed_number file)))) (id_back id small)
     ∙ ap (option_map (opened id)) (id_back file also)
 
-put_on_back : (id : ℕ) (line : Live) → id < 2 ^ 32 → IsLive line → put_on_read (printed_number id ++ 32 ∷ printed_live line) ≡ Some (put_on id line)
+put_on_back : (id : ℕ) (line : Live) → id < 2 ^ 32 → IsLiveLine line → put_on_read (printed_number id ++ 32 ∷ printed_live line) ≡ Some (put_on id line)
 put_on_back id line small live =
     ap (option_and_then with_live) (number_cut id (printed_live line) small)
     ∙ ap (option_and_then (λ i. option_map (put_on i) (live_read (printed_live line)))) (id_back id small)

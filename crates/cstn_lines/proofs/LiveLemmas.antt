@@ -9,7 +9,7 @@ use Rattle.cstn_label.specs.Letters.{letter_of, prop_of}
 use Rattle.cstn_text.specs.Numbers.{number_read, printed_number}
 use Rattle.cstn_text.proofs.CutLemmas.{cut_back, cut_joined}
 use Rattle.cstn_text.proofs.NumberLemmas.{number_back, number_printed}
-use Rattle.cstn_lines.specs.LiveLines.{Live, moment_at, seen, due_now, cut_at_space, moment_read, prop_read, truth_read, seen_read, operands_read, live_read, IsLive, printed_truth, printed_live}
+use Rattle.cstn_lines.specs.LiveLines.{Live, moment_at, seen, due_now, cut_at_space, moment_read, prop_read, truth_read, seen_read, operands_read, live_read, IsLiveLine, printed_truth, printed_live}
 use Rattle.cstn_label.proofs.LetterLemmas.{letter_back}
 
 -- a word without a space, then a space and more bytes, are cut at that space
@@ -47,14 +47,14 @@ seen_back p value small =
     ∙ ap (option_and_then (λ q. option_map (seen q) (truth_read (printed_truth value)))) (letter_back p small)
     ∙ ap (option_map (seen p)) (truth_back value)
 
-pub live_back : (line : Live) → IsLive line → live_read (printed_live line) ≡ Some line
+pub live_back : (line : Live) → IsLiveLine line → live_read (printed_live line) ≡ Some line
 live_back (moment_at t) small = word_back (codes "moment") (printed_number t) refl refl ∙ moment_back t small
 live_back (seen p value) small = word_back (codes "see") (letter_of p ∷ 32 ∷ printed_truth value) refl refl ∙ seen_back p value small
 live_back due_now is = refl
 
 -- the text is the one of the line, which is one that a text can say
 abbrev IsText : Live → List ℕ → Type 0
-IsText line text = (printed_live line ≡ text) × IsLive line
+IsText line text = (printed_live line ≡ text) × IsLiveLine line
 
 same_line : (a b : Live) (text : List ℕ) → Some a ≡ Some b → IsText a text → IsText b text
 same_line a b text e is = subst (λ (line : Live). IsText line text) (just a b e) is
@@ -120,7 +120,7 @@ operands_only word rest line is = at (bytes_eq word (codes "moment")) (bytes_eq 
     at false true is isnt e = subst (λ (w : List ℕ). IsText line (w ++ 32 ∷ rest)) (sym ((bytes_eq-Decides word (codes "see")).0 (sym isnt))) (seen_only rest line e)
     at false false is isnt e = absurd (cc)
 
-pub live_only : (text : List ℕ) (line : Live) → live_read text ≡ Some line → (printed_live line ≡ text) × IsLive line
+pub live_only : (text : List ℕ) (line : Live) → live_read text ≡ Some line → (printed_live line ≡ text) × IsLiveLine line
 live_only text line is = at (bytes_eq text (codes "due")) refl is
   where
     apart : (parts : Option (List ℕ × List ℕ)) → parts ≡ cut_at_space text → option_and_then operands_read parts ≡ Some line → IsText line text
@@ -131,5 +131,5 @@ live_only text line is = at (bytes_eq text (codes "due")) refl is
     at true due e = same_line due_now line text e (sym ((bytes_eq-Decides text (codes "due")).0 (sym due)), tt)
     at false due e = apart (cut_at_space text) refl e
 
-pub live_is : (text : List ℕ) (line : Live) → live_read text ≡ Some line → IsLive line
+pub live_is : (text : List ℕ) (line : Live) → live_read text ≡ Some line → IsLiveLine line
 live_is text line is = (live_only text line is).1

@@ -6,7 +6,7 @@ use Rattle.std.proofs.Math.Seq.{take-append-add}
 use Rattle.std.proofs.lemmas.Grind.{common_steps}
 use Rattle.cstn_io.specs.Contents.{after_bytes}
 use Rattle.cstn_lines.specs.Pieces.{lines_of, whole_lines, heard_lines, IsCut, HasNoEnd, is_past, between}
-use Rattle.cstn_lines.specs.Steps.{LinesState, heard_line, HandsOut, IsOver, HasWrongLine, IsBroken, IsPast, Steps, ReadsOn}
+use Rattle.cstn_lines.specs.Steps.{LinesState, heard_line, HandsOut, IsOver, HasWrongLine, IsBroken, IsPast, LineSteps, ReadsOn}
 use Rattle.cstn_lines.specs.declared.lines.Next.{Next}
 use Rattle.cstn_lines.proofs.PieceLemmas.{cut_lines, cut_whole, open_whole, last_line, long_line, some_line, take_between, drop_between, between_none}
 use Rattle.cstn_lines.proofs.EndedLemmas.{none_ended, cut_ended, last_ended, long_ended, some_ended}
@@ -171,12 +171,12 @@ filled kept xs piece post rest told now f n len inside some fits is step =
     ∙ ap (λ ys. ys ++ take n piece) is in
     (take n piece, all, step, omega (arith, length-take n piece))
 
-pub steps_from : (bytes kept : List ℕ) (count n : ℕ) (after : LinesState) (next : Next) → kept ≡ bytes → n ≡ count → Steps kept n after next → Steps bytes count after next
-steps_from bytes kept count n after next is at steps = subst (λ (x : List ℕ). Steps x count after next) is (subst (λ (k : ℕ). Steps kept k after next) at steps)
+pub steps_from : (bytes kept : List ℕ) (count n : ℕ) (after : LinesState) (next : Next) → kept ≡ bytes → n ≡ count → LineSteps kept n after next → LineSteps bytes count after next
+steps_from bytes kept count n after next is at steps = subst (λ (x : List ℕ). LineSteps x count after next) is (subst (λ (k : ℕ). LineSteps kept k after next) at steps)
 
 -- a step that took no byte is one over what was kept
-pub steps_kept : (kept : List ℕ) (count : ℕ) (after : LinesState) (next : Next) → Steps kept count after next → Steps (kept ++ []) count after next
-steps_kept kept count after next steps = subst (λ (x : List ℕ). Steps x count after next) (sym (append-nil kept)) steps
+pub steps_kept : (kept : List ℕ) (count : ℕ) (after : LinesState) (next : Next) → LineSteps kept count after next → LineSteps (kept ++ []) count after next
+steps_kept kept count after next steps = subst (λ (x : List ℕ). LineSteps x count after next) (sym (append-nil kept)) steps
 
 -- a failed read takes nothing, and what is kept has no LF
 pub broken : (bytes kept more all : List ℕ) (count n : ℕ) (after : LinesState) → HasNoEnd kept → after.kept ≡ kept ++ more → more ≡ [] → after.kept ≡ bytes ++ all → n ≡ count → after.count ≡ n → after.ended ≡ false → IsBroken (bytes ++ all) count after

@@ -2,7 +2,7 @@
 use Rattle.std.specs.Prelude.{ℕ, ◌^◌, ◌<◌, ◌++◌, if◌then◌else◌, List, ◌∷◌, Option, None, codes, bytes_eq}
 use Rattle.std.specs.Option.{option_map, option_and_then}
 use Rattle.cstn_text.specs.Numbers.{printed_number}
-use Rattle.cstn_lines.specs.LiveLines.{Live, the_live, cut_at_space, live_read, IsLive, printed_live}
+use Rattle.cstn_lines.specs.LiveLines.{Live, the_live, cut_at_space, live_read, IsLiveLine, printed_live}
 use Rattle.cstn_lines.specs.EditLines.{id_read}
 use Rattle.cstn_lines.specs.declared.hosts.HostLine.{HostLine}
 use Rattle.cstn_lines.specs.declared.hosts.HostLine.TheVariants.{Open, On, Close}
@@ -41,7 +41,7 @@ host_read bytes = option_and_then hosted_read (cut_at_space bytes)
 -- the numbers are below 2^32, and the live line is one that a text can say
 abbrev pub IsHosted : Hosted → Type 0
 IsHosted (opened id file) = (id < 2 ^ 32) × (file < 2 ^ 32)
-IsHosted (put_on id line) = (id < 2 ^ 32) × IsLive line
+IsHosted (put_on id line) = (id < 2 ^ 32) × IsLiveLine line
 IsHosted (closed id) = id < 2 ^ 32
 
 -- the text of a host line: its parts, with one space between

@@ -48,10 +48,10 @@ abbrev pub live_read : List ℕ → Option Live
 live_read bytes = if bytes_eq bytes (codes "due") then Some due_now else option_and_then operands_read (cut_at_space bytes)
 
 -- the moment is below 2^32, and the proposition is one of the 52
-abbrev pub IsLive : Live → Type 0
-IsLive (moment_at t) = t < 2 ^ 32
-IsLive (seen p value) = p < 52
-IsLive due_now = Unit {0}
+abbrev pub IsLiveLine : Live → Type 0
+IsLiveLine (moment_at t) = t < 2 ^ 32
+IsLiveLine (seen p value) = p < 52
+IsLiveLine due_now = Unit {0}
 
 abbrev pub printed_truth : Bool → List ℕ
 printed_truth true = codes "true"

@@ -17,9 +17,9 @@ lines_of [] = []
 lines_of (b ∷ bs) = if b == 10 then [] ∷ lines_of bs else onto b (lines_of bs)
 
 -- the lines, each with its LF
-abbrev pub joined : List (List ℕ) → List ℕ
-joined [] = []
-joined (line ∷ lines) = line ++ 10 ∷ joined lines
+abbrev pub lines_joined : List (List ℕ) → List ℕ
+lines_joined [] = []
+lines_joined (line ∷ lines) = line ++ 10 ∷ lines_joined lines
 
 -- the lines with this byte at the front of the first one; no lines stay no lines
 abbrev pub onto_some : ℕ → List (List ℕ) → List (List ℕ)

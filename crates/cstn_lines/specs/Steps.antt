@@ -61,11 +61,11 @@ pub record IsBroken (bytes : List ℕ) (count : ℕ) (after : LinesState) : Type
   pub ended : after.ended ≡ false
 
 -- what the answer of a step means for these bytes, which come after `count` lines
-abbrev pub Steps : List ℕ → ℕ → LinesState → Next → Type 0
-Steps bytes count after (Line number) = HandsOut bytes count after number
-Steps bytes count after End = IsOver bytes count after
-Steps bytes count after (Wrong number) = HasWrongLine bytes count after number
-Steps bytes count after Fault = IsBroken bytes count after
+abbrev pub LineSteps : List ℕ → ℕ → LinesState → Next → Type 0
+LineSteps bytes count after (Line number) = HandsOut bytes count after number
+LineSteps bytes count after End = IsOver bytes count after
+LineSteps bytes count after (Wrong number) = HasWrongLine bytes count after number
+LineSteps bytes count after Fault = IsBroken bytes count after
 
 -- The reads of a step that reads; `before` and `after` count those of the source. Each but the last took a byte or more, and
 -- before the last one the kept line had no LF and was neither too long nor too late. So no read comes after one that took

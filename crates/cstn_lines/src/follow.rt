@@ -7,7 +7,7 @@ ghost use Rattle.cstn_text.specs.Numbers.{number_within};
 ghost use Rattle.cstn_text.specs.PrintedNames.{name_read};
 ghost use Rattle.cstn_lines.specs.EditLines.{edited_read};
 ghost use Rattle.cstn_lines.specs.FollowLines.{the_follow, now_at, edits, ends_by, asks_by, names_read, done_read, outcome_read, came_read};
-ghost use Rattle.cstn_lines.specs.FollowLines.{awaited_read, followed_read, follow_read, IsNaming};
+ghost use Rattle.cstn_lines.specs.FollowLines.{awaited_read, ready_read, followed_read, follow_read, IsNaming};
 
 use crate::edits::{EditLine, NameText, read_edited, read_name_text};
 use crate::live::{cut_at_space, read_prop, read_truth};
@@ -27,6 +27,8 @@ pub enum FollowLine {
     Now { t: u32 },
     /// `await T P`, with T as in `did`, and P an ASCII letter.
     Await { t: u32, prop: Prop },
+    /// `expect T NAME`, with T as in `did`, and a printed name.
+    Expect { t: u32, name: NameText },
     /// A line of an edit session: `add FROM TO W LABEL`, `remove ID`, `change ID W` or `check`.
     Edit(EditLine),
     /// `deadline N`, with N in ticks, a number of at most 1,000,000.
@@ -42,8 +44,8 @@ pub enum FollowLine {
 }
 
 /// The line that these bytes are, without its LF: exactly a form of `FollowLine`, with one space between the parts and no
-/// other. None where they are no such line. Fails for want of memory alone, and only at a line that begins with `did`, `by`
-/// or `add`.
+/// other. None where they are no such line. Fails for want of memory alone, and only at a line that begins with `did`, `expect`,
+/// `by` or `add`.
 pub fn read_follow(alloc: Global, bytes: &[u8]) -> Result<Option<FollowLine>, AllocError>
     ensures read { IfOk result (λ line. option_map the_follow line ≡ follow_read bytes.now) }
     ensures memory { OnErr result (IsNaming bytes.now) }
@@ -72,7 +74,8 @@ fn read_followed(
     operands: &[u8],
 ) -> Result<Option<FollowLine>, AllocError>
     ensures read { IfOk result (λ line. option_map the_follow line ≡ followed_read (word.now, operands.now)) }
-    ensures memory { OnErr result ((bytes_eq word.now (codes "did") || bytes_eq word.now (codes "by") || bytes_eq word.now (codes "add")) ≡ true) }
+    ensures memory { OnErr result ((bytes_eq word.now (codes "did") || bytes_eq word.now (codes "expect") || bytes_eq word.now (codes "by")
+        || bytes_eq word.now (codes "add")) ≡ true) }
 {
     if word == b"did".as_slice() {
         return read_did(alloc, operands);
@@ -85,6 +88,9 @@ fn read_followed(
     }
     if word == b"await".as_slice() {
         return Ok(read_await(operands));
+    }
+    if word == b"expect".as_slice() {
+        return read_expect(alloc, operands);
     }
     if word == b"deadline".as_slice() {
         return Ok(read_deadline(operands));
@@ -176,6 +182,21 @@ fn read_await(bytes: &[u8]) -> Option<FollowLine>
     let t = read_moment(moment)?;
     let prop = read_prop(letter)?;
     Some(FollowLine::Await { t, prop })
+}
+
+fn read_expect(alloc: Global, bytes: &[u8]) -> Result<Option<FollowLine>, AllocError>
+    ensures { IfOk result (λ line. option_map the_follow line ≡ ready_read bytes.now) }
+{
+    let Some((moment, name)) = cut_at_space(bytes) else {
+        return Ok(None);
+    };
+    let Some(t) = read_moment(moment) else {
+        return Ok(None);
+    };
+    match read_name_text(alloc, name)? {
+        Some(name) => Ok(Some(FollowLine::Expect { t, name })),
+        None => Ok(None),
+    }
 }
 
 fn read_deadline(bytes: &[u8]) -> Option<FollowLine>

@@ -1,17 +1,17 @@
 //! Laws of lines. The calls do nothing: their contracts are the laws.
 ghost use Rattle.std.specs.Prelude.{◌≡◌, ◌⊎◌, ◌++◌, [], ◌∷◌, ℕ, List, Some};
-ghost use Rattle.cstn_lines.specs.Pieces.{lines_of, joined};
+ghost use Rattle.cstn_lines.specs.Pieces.{lines_of, lines_joined};
 ghost use Rattle.cstn_lines.specs.EditLines.{Edit, IsEdit, IsTextOf, edit_read, printed_edit};
 ghost use Rattle.cstn_lines.specs.FollowLines.{Follow, IsFollow, IsTextOf as IsTextOfFollow, follow_read, printed_follow};
 ghost use Rattle.cstn_lines.specs.HostLines.{Hosted, IsHosted, host_read, printed_hosted};
-ghost use Rattle.cstn_lines.specs.LiveLines.{Live, IsLive, live_read, printed_live};
+ghost use Rattle.cstn_lines.specs.LiveLines.{Live, IsLiveLine, live_read, printed_live};
 
 /// Each live line has one text.
 #[tactic(auto, using(crate::proofs::LiveLemmas::live_back, crate::proofs::LiveLemmas::live_only, crate::proofs::LiveLemmas::live_is))]
 pub fn live_lines_have_one_text()
-    ensures back { (line : Live) → IsLive line → live_read (printed_live line) ≡ Some line }
+    ensures back { (line : Live) → IsLiveLine line → live_read (printed_live line) ≡ Some line }
     ensures only { (text : List ℕ) (line : Live) → live_read text ≡ Some line → printed_live line ≡ text }
-    ensures live { (text : List ℕ) (line : Live) → live_read text ≡ Some line → IsLive line }
+    ensures live { (text : List ℕ) (line : Live) → live_read text ≡ Some line → IsLiveLine line }
 {}
 
 /// What is printed of an edit line is read again as the same line. What is read as an edit line is the text of
@@ -43,5 +43,5 @@ pub fn host_lines_have_one_text()
 /// The lines of some bytes, each with its LF, are these bytes, but for the last LF, which they may lack.
 #[tactic(auto, using(crate::proofs::PieceLemmas::joined_lines))]
 pub fn joined_lines_are_the_bytes()
-    ensures { (bs : List ℕ) → (joined (lines_of bs) ≡ bs) ⊎ (joined (lines_of bs) ≡ bs ++ 10 ∷ []) }
+    ensures { (bs : List ℕ) → (lines_joined (lines_of bs) ≡ bs) ⊎ (lines_joined (lines_of bs) ≡ bs ++ 10 ∷ []) }
 {}

@@ -4,7 +4,7 @@ ghost use Rattle.std.specs.Prelude.{IfNone, OnOk, OnErr, MatchResult};
 ghost use Rattle.cstn_io.specs.Causes.{Rose, HasCause};
 ghost use Rattle.cstn_io.specs.Contents.{after_bytes, IsAtEnd};
 ghost use Rattle.cstn_lines.specs.Pieces.{IsCut, HasEnd, HasNoEnd, between};
-ghost use Rattle.cstn_lines.specs.Steps.{LinesState, Steps, ReadsOn, IsPast, wrong_at};
+ghost use Rattle.cstn_lines.specs.Steps.{LinesState, LineSteps, ReadsOn, IsPast, wrong_at};
 
 use crate::places::first_place;
 use cstn_io::{Failed, Source};
@@ -129,7 +129,7 @@ impl Lines {
     // too long or too late, and none where more bytes are wanted.
     fn cut(&mut self) -> Option<Next>
         ensures past { IsPast self.old → (result ≡ Some (wrong_at (self.old.count + 1))) × (self.new ≡ self.old) }
-        ensures steps { IfSome result (Steps self.old.kept self.old.count self.new) }
+        ensures steps { IfSome result (LineSteps self.old.kept self.old.count self.new) }
         ensures some { IfSome result (λ _. 0 < length self.old.kept) }
         ensures same { IfNone result (self.new ≡ self.old) }
         ensures none { IfNone result (HasNoEnd self.old.kept) }
@@ -158,7 +158,7 @@ impl Lines {
     fn hand_out(&mut self, len: usize) -> Next
         requires cut { IsCut self.old.kept len }
         requires count { self.old.count < 2 ^ 24 }
-        ensures steps { Steps self.old.kept self.old.count self.new result }
+        ensures steps { LineSteps self.old.kept self.old.count self.new result }
         ensures ended { self.new.ended ≡ self.old.ended }
         ensures line { result ≡ Next.Line (self.old.count + 1) }
     {
@@ -176,7 +176,7 @@ impl Lines {
         requires short { length self.old.kept ≤ 4096 }
         requires count { 0 < length self.old.kept → self.old.count < 2 ^ 24 }
         requires ended { self.old.ended ≡ true }
-        ensures steps { Steps self.old.kept self.old.count self.new result }
+        ensures steps { LineSteps self.old.kept self.old.count self.new result }
         ensures ended { self.new.ended ≡ true }
         ensures again { self.old.kept ≡ [] → (result ≡ Next.End) × (self.new ≡ self.old) }
         ensures fault { result ≢ Next.Fault }
@@ -233,7 +233,7 @@ impl Lines {
         requires ended { self.old.ended ≡ false }
         ensures steps { (taken : List ℕ) × (S.left source.old ≡ after_bytes taken (S.left source.new))
             × ReadsOn self.old.kept self.old.count taken (S.reads source.old) (S.reads source.new)
-            × Steps (self.old.kept ++ taken) self.old.count self.new result }
+            × LineSteps (self.old.kept ++ taken) self.old.count self.new result }
         ensures ended { self.new.ended ≡ true → IsAtEnd (S.left source.new) }
         ensures later { S.faults source.old ≤ S.faults source.new }
         ensures fault { result ≡ Next.Fault → Rose (S.faults source.old) (S.faults source.new) }
@@ -255,7 +255,7 @@ impl Lines {
     /// `Wrong` each step says the same again.
     pub fn step<S: Source>(&mut self, source: &mut S) -> Next
         ensures steps { (taken : List ℕ) × (S.left source.old ≡ after_bytes taken (S.left source.new)) × (self.old.ended ≡ true → taken ≡ [])
-            × Steps (self.old.kept ++ taken) self.old.count self.new result }
+            × LineSteps (self.old.kept ++ taken) self.old.count self.new result }
 
         ensures stays { self.old.ended ≡ true → self.new.ended ≡ true }
         ensures ended { (self.old.ended ≡ true → IsAtEnd (S.left source.old)) → self.new.ended ≡ true → IsAtEnd (S.left source.new) }
@@ -266,7 +266,7 @@ impl Lines {
         ensures reads { (source.new ≡ source.old)
             ⊎ ((taken : List ℕ) × (S.left source.old ≡ after_bytes taken (S.left source.new))
             × ReadsOn self.old.kept self.old.count taken (S.reads source.old) (S.reads source.new)
-            × Steps (self.old.kept ++ taken) self.old.count self.new result) }
+            × LineSteps (self.old.kept ++ taken) self.old.count self.new result) }
 
         ensures end_again { self.old.ended ≡ true → self.old.kept ≡ [] → (result ≡ Next.End) × (self.new ≡ self.old) }
         ensures wrong_again { IsPast self.old → (result ≡ wrong_at (self.old.count + 1)) × (self.new ≡ self.old) }

@@ -4,13 +4,13 @@ use Rattle.std.specs.Prelude.{slice_get}
 use Rattle.std.proofs.lemmas.Bool.{cases_Bool, cases_lt}
 use Rattle.std.proofs.lemmas.List.{take_more_set, drop-set-lt, length-set}
 use Rattle.std.proofs.lemmas.Option.{none-some, slice_get_within}
-use Rattle.cstn_log.specs.Cuts.{is_marked, rank, chosen_from, chosen}
+use Rattle.cstn_log.specs.Cuts.{is_place_marked, rank, chosen_from, chosen}
 use Rattle.cstn_facts.proofs.Places.{drop_step}
 
-pub rank_marked : (marks : List Bool) (k : ℕ) → is_marked marks k ≡ true → rank marks (suc k) ≡ rank marks k + 1
+pub rank_marked : (marks : List Bool) (k : ℕ) → is_place_marked marks k ≡ true → rank marks (suc k) ≡ rank marks k + 1
 rank_marked marks k h = rw h refl
 
-pub rank_unmarked : (marks : List Bool) (k : ℕ) → is_marked marks k ≡ false → rank marks (suc k) ≡ rank marks k
+pub rank_unmarked : (marks : List Bool) (k : ℕ) → is_place_marked marks k ≡ false → rank marks (suc k) ≡ rank marks k
 rank_unmarked marks k h = let e : rank marks (suc k) ≡ rank marks k + 0 = rw h refl in omega (arith, e)
 
 pub rank_grows : (marks : List Bool) (i k : ℕ) → i ≤ k → rank marks i ≤ rank marks k
@@ -19,13 +19,13 @@ rank_grows marks i (suc k) h = elim (cases_lt k i) [
   | inl last ↦ let e : i ≡ suc k = omega arith in subst (λ m. rank marks m ≤ rank marks (suc k)) (sym e) (omega arith)
   | inr upto ↦
       let below = rank_grows marks i k upto in
-      elim (cases_Bool (is_marked marks k)) [
+      elim (cases_Bool (is_place_marked marks k)) [
         | inl t ↦ let e = rank_marked marks k t in omega arith
         | inr f ↦ let e = rank_unmarked marks k f in omega arith
       ]
 ]
 
-pub rank_less : (marks : List Bool) (i k : ℕ) → is_marked marks i ≡ true → i < k → rank marks i < rank marks k
+pub rank_less : (marks : List Bool) (i k : ℕ) → is_place_marked marks i ≡ true → i < k → rank marks i < rank marks k
 rank_less marks i k h less =
     let e = rank_marked marks i h in
     let grows = rank_grows marks (suc i) k (omega arith) in
@@ -37,7 +37,7 @@ rank_between marks i zero = let e : i + 0 ≡ i = omega arith in rw e (omega ari
 rank_between marks i (suc k) =
     let e : i + suc k ≡ suc (i + k) = omega arith in
     let below = rank_between marks i k in
-    elim (cases_Bool (is_marked marks (i + k))) [
+    elim (cases_Bool (is_place_marked marks (i + k))) [
       | inl t ↦ let up = rank_marked marks (i + k) t in rw e (omega (arith, up, below))
       | inr f ↦ let up = rank_unmarked marks (i + k) f in rw e (omega (arith, up, below))
     ]
@@ -59,16 +59,16 @@ rank_same marks n k all upto = from (difference k n upto)
         let between : rank marks n ≤ rank marks k + d.0 = subst (λ m. rank marks m ≤ rank marks k + d.0) (sym d.1) (rank_between marks k d.0) in
         omega (arith, rank_upto marks k, between, d.1, all)
 
-pub all_marked : (marks : List Bool) (n k : ℕ) → rank marks n ≡ n → k < n → is_marked marks k ≡ true
-all_marked marks n k all less = elim (cases_Bool (is_marked marks k)) [
+pub all_marked : (marks : List Bool) (n k : ℕ) → rank marks n ≡ n → k < n → is_place_marked marks k ≡ true
+all_marked marks n k all less = elim (cases_Bool (is_place_marked marks k)) [
   | inl t ↦ t
   | inr f ↦ absurd (omega (arith, rank_unmarked marks k f, rank_same marks n k all (omega arith), rank_same marks n (suc k) all (omega arith)))
 ]
 
-pub chosen_marked : {X : Type 0} (marks : List Bool) (k : ℕ) (x : X) (xs : List X) → is_marked marks k ≡ true → chosen_from marks k (x ∷ xs) ≡ x ∷ chosen_from marks (suc k) xs
+pub chosen_marked : {X : Type 0} (marks : List Bool) (k : ℕ) (x : X) (xs : List X) → is_place_marked marks k ≡ true → chosen_from marks k (x ∷ xs) ≡ x ∷ chosen_from marks (suc k) xs
 chosen_marked marks k x xs h = rw h refl
 
-pub chosen_unmarked : {X : Type 0} (marks : List Bool) (k : ℕ) (x : X) (xs : List X) → is_marked marks k ≡ false → chosen_from marks k (x ∷ xs) ≡ chosen_from marks (suc k) xs
+pub chosen_unmarked : {X : Type 0} (marks : List Bool) (k : ℕ) (x : X) (xs : List X) → is_place_marked marks k ≡ false → chosen_from marks k (x ∷ xs) ≡ chosen_from marks (suc k) xs
 chosen_unmarked marks k x xs h = rw h refl
 
 length_from : {X : Type 0} (marks : List Bool) (k : ℕ) (xs : List X) → length (chosen_from marks k xs) + rank marks k ≡ rank marks (k + length xs)
@@ -76,7 +76,7 @@ length_from marks k [] = let e : k + 0 ≡ k = omega arith in rw e (omega arith)
 length_from marks k (x ∷ xs) =
     let rest = length_from marks (suc k) xs in
     let e : k + suc (length xs) ≡ suc k + length xs = omega arith in
-    elim (cases_Bool (is_marked marks k)) [
+    elim (cases_Bool (is_place_marked marks k)) [
       | inl t ↦
           let up = rank_marked marks k t in
           rw (chosen_marked marks k x xs t, e) (omega (arith, rest, up))
@@ -94,15 +94,15 @@ length_chosen marks xs =
 
 -- a marked value stands at its rank
 forward : {X : Type 0} (marks : List Bool) (xs : List X) (i k n d : ℕ) (e : X) → n ≡ i + k → slice_get xs i ≡ Some e →
-    is_marked marks n ≡ true → rank marks n ≡ d + rank marks k → slice_get (chosen_from marks k xs) d ≡ Some e
+    is_place_marked marks n ≡ true → rank marks n ≡ d + rank marks k → slice_get (chosen_from marks k xs) d ≡ Some e
 forward marks [] i k n d e at there h r = absurd (none-some e there)
 forward marks (x ∷ xs) zero k n d e at there h r =
     let here : n ≡ k = omega arith in
-    let h_k : is_marked marks k ≡ true = subst (λ m. is_marked marks m ≡ true) here h in
+    let h_k : is_place_marked marks k ≡ true = subst (λ m. is_place_marked marks m ≡ true) here h in
     let r_k : rank marks k ≡ d + rank marks k = subst (λ m. rank marks m ≡ d + rank marks k) here r in
     let first : d ≡ 0 = omega arith in
     rw (chosen_marked marks k x xs h_k, first) there
-forward marks (x ∷ xs) (suc i) k n zero e at there h r = elim (cases_Bool (is_marked marks k)) [
+forward marks (x ∷ xs) (suc i) k n zero e at there h r = elim (cases_Bool (is_place_marked marks k)) [
   | inl t ↦
       let up = rank_marked marks k t in
       let upto = rank_grows marks (suc k) n (omega arith) in
@@ -111,7 +111,7 @@ forward marks (x ∷ xs) (suc i) k n zero e at there h r = elim (cases_Bool (is_
       let up = rank_unmarked marks k f in
       rw (chosen_unmarked marks k x xs f) (forward marks xs i (suc k) n zero e (omega arith) there h (omega arith))
 ]
-forward marks (x ∷ xs) (suc i) k n (suc d) e at there h r = elim (cases_Bool (is_marked marks k)) [
+forward marks (x ∷ xs) (suc i) k n (suc d) e at there h r = elim (cases_Bool (is_place_marked marks k)) [
   | inl t ↦
       let up = rank_marked marks k t in
       rw (chosen_marked marks k x xs t) (forward marks xs i (suc k) n d e (omega arith) there h (omega arith))
@@ -126,7 +126,7 @@ record Comes {X : Type 0} (marks : List Bool) (xs : List X) (k d : ℕ) (e : X) 
   n : ℕ
   sum : n ≡ i + k
   there : slice_get xs i ≡ Some e
-  still : is_marked marks n ≡ true
+  still : is_place_marked marks n ≡ true
   place : rank marks n ≡ d + rank marks k
 
 -- what comes from the rest of the list comes from the list
@@ -140,7 +140,7 @@ comes_on marks x xs k d c e up b =
 backward : {X : Type 0} (marks : List Bool) (xs : List X) (k d : ℕ) (e : X) → slice_get (chosen_from marks k xs) d ≡ Some e →
     Comes marks xs k d e
 backward marks [] k d e h = absurd (none-some e h)
-backward marks (x ∷ xs) k zero e h = elim (cases_Bool (is_marked marks k)) [
+backward marks (x ∷ xs) k zero e h = elim (cases_Bool (is_place_marked marks k)) [
   | inl t ↦
       record { i = 0; n = k; sum = omega arith; there = rw (chosen_marked marks k x xs t) at h; still = t; place = omega arith }
   | inr n ↦
@@ -148,7 +148,7 @@ backward marks (x ∷ xs) k zero e h = elim (cases_Bool (is_marked marks k)) [
       comes_on marks x xs k zero zero e (omega arith)
       (backward marks xs (suc k) zero e (rw (chosen_unmarked marks k x xs n) at h))
 ]
-backward {X = X} marks (x ∷ xs) k (suc d) e h = elim (cases_Bool (is_marked marks k)) [
+backward {X = X} marks (x ∷ xs) k (suc d) e h = elim (cases_Bool (is_place_marked marks k)) [
   | inl t ↦
       let g : slice_get (x ∷ chosen_from marks (suc k) xs) (suc d) ≡ Some e = rw (chosen_marked marks k x xs t) at h in
       let up = rank_marked marks k t in
@@ -161,17 +161,17 @@ backward {X = X} marks (x ∷ xs) k (suc d) e h = elim (cases_Bool (is_marked ma
 
 -- what stands at a place of the chosen ones
 pub chosen_comes : {X : Type 0} (marks : List Bool) (xs : List X) (d : ℕ) (e : X) → slice_get (chosen marks xs) d ≡ Some e →
-    (i : ℕ) × (slice_get xs i ≡ Some e) × (is_marked marks i ≡ true) × (rank marks i ≡ d)
+    (i : ℕ) × (slice_get xs i ≡ Some e) × (is_place_marked marks i ≡ true) × (rank marks i ≡ d)
 chosen_comes marks xs d e at =
     let c = backward marks xs 0 d e at in
     let same : c.n ≡ c.i = omega (arith, c.sum) in
-    let still = subst (λ m. is_marked marks m ≡ true) same c.still in
+    let still = subst (λ m. is_place_marked marks m ≡ true) same c.still in
     let place = subst (λ m. rank marks m ≡ d + 0) same c.place in
     (c.i, c.there, still, omega (arith, place))
 
 -- where a marked value goes
 pub chosen_goes : {X : Type 0} (marks : List Bool) (xs : List X) (i : ℕ) (e : X) → slice_get xs i ≡ Some e →
-    is_marked marks i ≡ true → slice_get (chosen marks xs) (rank marks i) ≡ Some e
+    is_place_marked marks i ≡ true → slice_get (chosen marks xs) (rank marks i) ≡ Some e
 chosen_goes marks xs i e there h = forward marks xs i 0 i (rank marks i) e (omega arith) there h (omega arith)
 
 all_from : {X : Type 0} (marks : List Bool) (k n : ℕ) (xs : List X) → rank marks n ≡ n → k + length xs ≤ n → chosen_from marks k xs ≡ xs
@@ -210,7 +210,7 @@ pub record IsChoosing {X : Type 0} (marks : List Bool) (old new : List X) (k cou
 pub choosing_none : {X : Type 0} (marks : List Bool) (old : List X) → IsChoosing marks old old 0 0
 choosing_none marks old = record { size = refl; count_is = refl; ahead = refl; reach = refl }
 
-pub choosing_marked : {X : Type 0} (marks : List Bool) (old new : List X) (k count : ℕ) (x : X) → IsChoosing marks old new k count → slice_get new k ≡ Some x → is_marked marks k ≡ true → IsChoosing marks old (set new count x) (suc k) (count + 1)
+pub choosing_marked : {X : Type 0} (marks : List Bool) (old new : List X) (k count : ℕ) (x : X) → IsChoosing marks old new k count → slice_get new k ≡ Some x → is_place_marked marks k ≡ true → IsChoosing marks old (set new count x) (suc k) (count + 1)
 choosing_marked marks old new k count x is there h =
     let upto : count ≤ k = omega (arith, is.count_is, rank_upto marks k) in
     let inside : count < length new = omega (arith, upto, slice_get_within new k x there) in
@@ -225,7 +225,7 @@ choosing_marked marks old new k count x is there h =
       reach = rw more (append_assoc (take count new) (x ∷ []) (chosen_from marks (suc k) rest) ∙ ap (λ ys. take count new ++ ys) (sym here) ∙ is.reach);
     }
 
-pub choosing_unmarked : {X : Type 0} (marks : List Bool) (old new : List X) (k count : ℕ) → IsChoosing marks old new k count → is_marked marks k ≡ false → IsChoosing marks old new (suc k) count
+pub choosing_unmarked : {X : Type 0} (marks : List Bool) (old new : List X) (k count : ℕ) → IsChoosing marks old new k count → is_place_marked marks k ≡ false → IsChoosing marks old new (suc k) count
 choosing_unmarked {X = X} marks old new k count is h = record {
   size = is.size;
   count_is = omega (arith, is.count_is, rank_unmarked marks k h);

@@ -9,48 +9,48 @@ use Rattle.cstn_net.specs.Networks.{Network}
 use Rattle.cstn_rules.specs.declared.entries.Why.{Why}
 use Rattle.cstn_rules.specs.declared.entries.Why.TheVariants.{Base, Chain, Wait}
 use Rattle.cstn_rules.specs.Derivations.{Entry, IsEarlier, Follows, IsDerivation}
-use Rattle.cstn_log.specs.Cuts.{is_marked, rank, renumbered, moved, chosen_from, chosen, cut_from, cut, PremisesBelow, PremisesMarked, AllEarlier, IsClosedUnder}
+use Rattle.cstn_log.specs.Cuts.{is_place_marked, rank, renumbered, moved_premises, chosen_from, chosen, cut_from, cut, PremisesBelow, PremisesMarked, AllEarlier, IsClosedUnder}
 use Rattle.cstn_facts.proofs.Places.{get_map}
 use Rattle.cstn_log.proofs.ChoiceLemmas.{rank_less, rank_same, chosen_marked, chosen_unmarked, length_chosen, chosen_comes, chosen_goes, chosen_all}
 
-pub cut_marked : (marks : List Bool) (k : ℕ) (x : Entry) (xs : List Entry) → is_marked marks k ≡ true →
-    cut_from marks k (x ∷ xs) ≡ moved marks x ∷ cut_from marks (suc k) xs
+pub cut_marked : (marks : List Bool) (k : ℕ) (x : Entry) (xs : List Entry) → is_place_marked marks k ≡ true →
+    cut_from marks k (x ∷ xs) ≡ moved_premises marks x ∷ cut_from marks (suc k) xs
 cut_marked marks k x xs h = rw h refl
 
-pub cut_unmarked : (marks : List Bool) (k : ℕ) (x : Entry) (xs : List Entry) → is_marked marks k ≡ false →
+pub cut_unmarked : (marks : List Bool) (k : ℕ) (x : Entry) (xs : List Entry) → is_place_marked marks k ≡ false →
     cut_from marks k (x ∷ xs) ≡ cut_from marks (suc k) xs
 cut_unmarked marks k x xs h = rw h refl
 
 -- a cut list has the chosen entries, moved
-pub cut_chosen : (marks : List Bool) (k : ℕ) (es : List Entry) → cut_from marks k es ≡ map (moved marks) (chosen_from marks k es)
+pub cut_chosen : (marks : List Bool) (k : ℕ) (es : List Entry) → cut_from marks k es ≡ map (moved_premises marks) (chosen_from marks k es)
 cut_chosen marks k [] = refl
-cut_chosen marks k (x ∷ xs) = elim (cases_Bool (is_marked marks k)) [
+cut_chosen marks k (x ∷ xs) = elim (cases_Bool (is_place_marked marks k)) [
   | inl t ↦ rw (cut_marked marks k x xs t, chosen_marked marks k x xs t, cut_chosen marks (suc k) xs) refl
   | inr f ↦ rw (cut_unmarked marks k x xs f, chosen_unmarked marks k x xs f, cut_chosen marks (suc k) xs) refl
 ]
 
 -- a cut list has as many entries as places are marked
 pub length_cut : (marks : List Bool) (steps : List Entry) → length (cut marks steps) ≡ rank marks (length steps)
-length_cut marks steps = ap length (cut_chosen marks 0 steps) ∙ length-map (chosen marks steps) (moved marks) ∙ length_chosen marks steps
+length_cut marks steps = ap length (cut_chosen marks 0 steps) ∙ length-map (chosen marks steps) (moved_premises marks) ∙ length_chosen marks steps
 
 -- what stands at a place of the cut list
 pub comes : (marks : List Bool) (steps : List Entry) (d : ℕ) (f : Entry) → slice_get (cut marks steps) d ≡ Some f →
-    (i : ℕ) × (e : Entry) × (slice_get steps i ≡ Some e) × (is_marked marks i ≡ true) × (rank marks i ≡ d) × (f ≡ moved marks e)
+    (i : ℕ) × (e : Entry) × (slice_get steps i ≡ Some e) × (is_place_marked marks i ≡ true) × (rank marks i ≡ d) × (f ≡ moved_premises marks e)
 comes marks steps d f at =
-    let got = get_map (moved marks) (chosen marks steps) d f (rw (cut_chosen marks 0 steps) at at) in
+    let got = get_map (moved_premises marks) (chosen marks steps) d f (rw (cut_chosen marks 0 steps) at at) in
     let c = chosen_comes marks steps d got.0 got.1 in
     (c.0, got.0, c.1, c.2, c.3, sym got.2)
 
 -- where a marked entry goes
 pub goes : (marks : List Bool) (steps : List Entry) (i : ℕ) (e : Entry) → slice_get steps i ≡ Some e →
-    is_marked marks i ≡ true → slice_get (cut marks steps) (rank marks i) ≡ Some (moved marks e)
+    is_place_marked marks i ≡ true → slice_get (cut marks steps) (rank marks i) ≡ Some (moved_premises marks e)
 goes marks steps i e there h =
-    rw (cut_chosen marks 0 steps) (slice_get-map (moved marks) (chosen marks steps) (rank marks i) ∙ rw (chosen_goes marks steps i e there h) refl)
+    rw (cut_chosen marks 0 steps) (slice_get-map (moved_premises marks) (chosen marks steps) (rank marks i) ∙ rw (chosen_goes marks steps i e there h) refl)
 
 -- a list of which all entries are marked is cut to itself
 pub cut_all : (marks : List Bool) (steps : List Entry) → AllEarlier steps → rank marks (length steps) ≡ length steps → cut marks steps ≡ steps
 cut_all marks steps all whole =
-    cut_chosen marks 0 steps ∙ ap (map (moved marks)) (chosen_all marks steps whole) ∙ unmoved steps (λ k e there. moved_same e k (all.below k e there) (omega (arith, slice_get_within steps k e there)))
+    cut_chosen marks 0 steps ∙ ap (map (moved_premises marks)) (chosen_all marks steps whole) ∙ unmoved steps (λ k e there. moved_same e k (all.below k e there) (omega (arith, slice_get_within steps k e there)))
   where
     of_rule : Bound → Why → Entry
     of_rule b w = record { bound = b; why = w }
@@ -60,20 +60,20 @@ cut_all marks steps all whole =
     renumbered_same (Chain id i) k low upto = ap (Chain id) (rank_same marks (length steps) i whole (omega (arith, low, upto)))
     renumbered_same (Wait i j) k low upto = rw (rank_same marks (length steps) i whole (omega (arith, low.0, upto)), rank_same marks (length steps) j whole (omega (arith, low.1, upto))) refl
 
-    moved_same : (e : Entry) (k : ℕ) → PremisesBelow k e.why → k ≤ length steps → moved marks e ≡ e
+    moved_same : (e : Entry) (k : ℕ) → PremisesBelow k e.why → k ≤ length steps → moved_premises marks e ≡ e
     moved_same e k low upto = ap (of_rule e.bound) (renumbered_same e.why k low upto)
 
-    unmoved : (es : List Entry) → ((k : ℕ) (e : Entry) → slice_get es k ≡ Some e → moved marks e ≡ e) → map (moved marks) es ≡ es
+    unmoved : (es : List Entry) → ((k : ℕ) (e : Entry) → slice_get es k ≡ Some e → moved_premises marks e ≡ e) → map (moved_premises marks) es ≡ es
     unmoved [] same = refl
     unmoved (e ∷ es) same = rw (same 0 e refl, unmoved es (λ k f there. same (suc k) f there)) refl
 
 module _ (net : Network) (marks : List Bool) (steps : List Entry) (derivation : IsDerivation net steps)
     (closed : IsClosedUnder marks steps) where
-  earlier_cut : (k i : ℕ) (b : Bound) → is_marked marks i ≡ true → IsEarlier steps k i b →
+  earlier_cut : (k i : ℕ) (b : Bound) → is_place_marked marks i ≡ true → IsEarlier steps k i b →
       IsEarlier (cut marks steps) (rank marks k) (rank marks i) b
   earlier_cut k i b h e = record {
     before = rank_less marks i k h e.before;
-    entry = moved marks e.entry;
+    entry = moved_premises marks e.entry;
     there = goes marks steps i e.entry e.there h;
     bound = e.bound;
   }

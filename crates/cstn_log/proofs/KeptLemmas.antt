@@ -11,9 +11,9 @@ use Rattle.cstn_label.specs.Read.{marks}
 use Rattle.cstn_rules.specs.declared.entries.Entry.{Entry}
 use Rattle.cstn_pool.specs.declared.slot_id.SlotId.{SlotId}
 use Rattle.cstn_pool.specs.Slots.{value_at}
-use Rattle.cstn_minset.specs.Sets.{Entries, IsThere, IsOver, IsCovered}
+use Rattle.cstn_minset.specs.Sets.{Entries, IsThere, IsBoundOver, IsCoveredInSet}
 use Rattle.cstn_log.specs.Entries.{HasId, HasLeast, IsBoundAt, IsDominator, IsCoveredBy, IsLive}
-use Rattle.cstn_log.specs.Kept.{IsKept, IsPooled, IsTabled}
+use Rattle.cstn_log.specs.Kept.{IsLogKept, IsPooled, IsTabled}
 
 -- no id has an empty slot
 pub other_slot : (slots : List (Option (ℕ × Entry))) (births : ℕ) (entries : List Entry) (ids : List SlotId) (slot : ℕ) → IsPooled slots births entries ids → get_or slots slot None ≡ None → (k : ℕ) (id : SlotId) → slice_get ids k ≡ Some id → id.slot ≢ slot
@@ -68,7 +68,7 @@ value_held (x ∷ slots) zero birth e is = rw is (itself birth e)
 value_held (x ∷ slots) (suc s) birth e is = value_held slots s birth e is
 
 -- an entry is live where its bound is placed under its id
-pub live_there : (slots : List (Option (ℕ × Entry))) (births : ℕ) (table : Entries) (entries : List Entry) (ids : List SlotId) (nodes k : ℕ) (id : SlotId) (placed : Bool) → IsKept slots births table entries ids nodes → slice_get ids k ≡ Some id → (IsTrue placed ↔ IsThere table id) → IsTrue placed ↔ IsLive entries k
+pub live_there : (slots : List (Option (ℕ × Entry))) (births : ℕ) (table : Entries) (entries : List Entry) (ids : List SlotId) (nodes k : ℕ) (id : SlotId) (placed : Bool) → IsLogKept slots births table entries ids nodes → slice_get ids k ≡ Some id → (IsTrue placed ↔ IsThere table id) → IsTrue placed ↔ IsLive entries k
 live_there slots births table entries ids nodes k id placed is there holds = (
   λ sure.
       let at' = holds.0 sure in
@@ -79,7 +79,7 @@ live_there slots births table entries ids nodes k id placed is there holds = (
 )
 
 -- what is covered by the minimal set is covered by the list
-pub covered_there : (table : Entries) (entries : List Entry) (ids : List SlotId) (b : Bound) (covered : Bool) → IsTabled table entries ids → (IsTrue covered ↔ IsCovered table b) → IsTrue covered ↔ IsCoveredBy entries b
+pub covered_there : (table : Entries) (entries : List Entry) (ids : List SlotId) (b : Bound) (covered : Bool) → IsTabled table entries ids → (IsTrue covered ↔ IsCoveredInSet table b) → IsTrue covered ↔ IsCoveredBy entries b
 covered_there table entries ids b covered is covers = (
   λ sure. by_list (covers.0 sure),
   λ some. elim (cases_Bool covered) [
@@ -91,13 +91,13 @@ covered_there table entries ids b covered is covers = (
     clash : (t : Bool) → t ≡ false → IsTrue t → ⊥
     clash t none sure = cc
 
-    by_list : IsCovered table b → IsCoveredBy entries b
+    by_list : IsCoveredInSet table b → IsCoveredBy entries b
     by_list c =
         let f = is.placed c.0 c.1 c.2 in
-        (f.0, f.1, f.3, subst (λ (z : Bound). IsOver z b) (sym f.5) c.3)
+        (f.0, f.1, f.3, subst (λ (z : Bound). IsBoundOver z b) (sym f.5) c.3)
 
 -- the place of the id of a bound that dominates another is that of an entry which does
-pub dominator_at : (slots : List (Option (ℕ × Entry))) (births : ℕ) (table : Entries) (entries : List Entry) (ids : List SlotId) (nodes : ℕ) (id : SlotId) (b : Bound) (place : Option ℕ) → IsKept slots births table entries ids nodes → (c : Bound) × (get_or table id.slot None ≡ Some (id.birth, c)) × IsOver c b → IfSome place (λ k. slice_get ids k ≡ Some id) → IfSome place (λ k. IsDominator entries k b)
+pub dominator_at : (slots : List (Option (ℕ × Entry))) (births : ℕ) (table : Entries) (entries : List Entry) (ids : List SlotId) (nodes : ℕ) (id : SlotId) (b : Bound) (place : Option ℕ) → IsLogKept slots births table entries ids nodes → (c : Bound) × (get_or table id.slot None ≡ Some (id.birth, c)) × IsBoundOver c b → IfSome place (λ k. slice_get ids k ≡ Some id) → IfSome place (λ k. IsDominator entries k b)
 dominator_at slots births table entries ids nodes id b None is found there = there
 dominator_at slots births table entries ids nodes id b (Some k) is found there =
     let f = is.tabled.placed id.slot (id.birth, found.0) found.1 in
@@ -110,10 +110,10 @@ placed_there table entries ids id c None A is there none = absurd (let f = is.pl
 placed_there table entries ids id c (Some k) A is there none = none
 
 -- what the list doesn't cover isn't covered by the minimal set
-pub uncovered_there : (table : Entries) (entries : List Entry) (ids : List SlotId) (b : Bound) → IsTabled table entries ids → ¬ IsCoveredBy entries b → ¬ IsCovered table b
+pub uncovered_there : (table : Entries) (entries : List Entry) (ids : List SlotId) (b : Bound) → IsTabled table entries ids → ¬ IsCoveredBy entries b → ¬ IsCoveredInSet table b
 uncovered_there table entries ids b is not c =
     let f = is.placed c.0 c.1 c.2 in
-    not (f.0, f.1, f.3, subst (λ (z : Bound). IsOver z b) (sym f.5) c.3)
+    not (f.0, f.1, f.3, subst (λ (z : Bound). IsBoundOver z b) (sym f.5) c.3)
 
 -- where the births of the ids are all below a number, so are those in the minimal set
 pub born_before : (table : Entries) (entries : List Entry) (ids : List SlotId) (birth : ℕ) → IsTabled table entries ids → ((k : ℕ) (id : SlotId) → slice_get ids k ≡ Some id → id.birth < birth) → (s : ℕ) (b : ℕ × Bound) → get_or table s None ≡ Some b → b.0 < birth
@@ -141,7 +141,7 @@ tabled_empty table none = record {
 }
 
 -- a pool and a table with empty slots alone keep the list without entries
-pub kept_empty : (cap births nodes : ℕ) → IsKept (replicate cap None) births (replicate cap None) [] [] nodes
+pub kept_empty : (cap births nodes : ℕ) → IsLogKept (replicate cap None) births (replicate cap None) [] [] nodes
 kept_empty cap births nodes = record {
   pooled = record {
     held = λ k id there. absurd (none-some id there);
@@ -174,7 +174,7 @@ id_there (x ∷ xs) (suc k) h = id_there xs k (omega (arith, h))
 
 -- a live entry is in the minimal set
 pub placed_live : (slots : List (Option (ℕ × Entry))) (births : ℕ) (table : Entries) (entries : List Entry) (ids : List SlotId) (nodes k : ℕ) (e : Entry) →
-    IsKept slots births table entries ids nodes → slice_get entries k ≡ Some e → IsLive entries k →
+    IsLogKept slots births table entries ids nodes → slice_get entries k ≡ Some e → IsLive entries k →
     (id : SlotId) × (slice_get ids k ≡ Some id) × (get_or table id.slot None ≡ Some (id.birth, e.bound))
 placed_live slots births table entries ids nodes k e is there live =
     let inside = slice_get_within entries k e there in

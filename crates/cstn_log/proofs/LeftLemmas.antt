@@ -10,7 +10,7 @@ use Rattle.cstn_pool.specs.declared.slot_id.SlotId.{SlotId}
 use Rattle.cstn_pool.specs.Slots.{live_of}
 use Rattle.cstn_log.specs.Entries.{HasId, the_entries}
 use Rattle.cstn_log.specs.Kept.{AreLeft, IsPooled, renewed}
-use Rattle.cstn_log.specs.Cuts.{is_marked, rank, chosen_from, chosen, cut_from, cut}
+use Rattle.cstn_log.specs.Cuts.{is_place_marked, rank, chosen_from, chosen, cut_from, cut}
 use Rattle.cstn_facts.proofs.Places.{one_there}
 use Rattle.cstn_log.proofs.KeptLemmas.{same_place, same_slot, slot_inside}
 use Rattle.cstn_log.proofs.ChoiceLemmas.{rank_marked, rank_unmarked, rank_grows, length_chosen, chosen_comes, chosen_goes}
@@ -35,7 +35,7 @@ left_all marks ids slots = record {
 }
 
 -- the id at a marked place stays
-pub left_kept : (marks : List Bool) (ids : List SlotId) (k : ℕ) (old new : List (Option (ℕ × Entry))) → is_marked marks k ≡ true → AreLeft marks ids k old new → AreLeft marks ids (suc k) old new
+pub left_kept : (marks : List Bool) (ids : List SlotId) (k : ℕ) (old new : List (Option (ℕ × Entry))) → is_place_marked marks k ≡ true → AreLeft marks ids k old new → AreLeft marks ids (suc k) old new
 left_kept marks ids k old new h left = record {
   size = left.size;
   was = left.was;
@@ -48,7 +48,7 @@ left_kept marks ids k old new h left = record {
 }
 
 -- the id at a place that isn't marked is given back
-pub left_given : (marks : List Bool) (births : ℕ) (entries : List Entry) (ids : List SlotId) (k : ℕ) (id : SlotId) (old new : List (Option (ℕ × Entry))) → IsPooled old births entries ids → slice_get ids k ≡ Some id → is_marked marks k ≡ false → AreLeft marks ids k old new → AreLeft marks ids (suc k) old (set new id.slot None)
+pub left_given : (marks : List Bool) (births : ℕ) (entries : List Entry) (ids : List SlotId) (k : ℕ) (id : SlotId) (old new : List (Option (ℕ × Entry))) → IsPooled old births entries ids → slice_get ids k ≡ Some id → is_place_marked marks k ≡ false → AreLeft marks ids k old new → AreLeft marks ids (suc k) old (set new id.slot None)
 left_given marks births entries ids k id old new is there h left =
     let held = is.held k id there in
     let now : get_or new id.slot None ≡ Some (id.birth, held.1) = left.stays k id there (inr (omega arith)) ∙ held.3 in
@@ -74,7 +74,7 @@ left_given marks births entries ids k id old new is there h left =
     }
 
 -- the id at a place that isn't marked is none of the chosen ids
-pub none_gone : (marks : List Bool) (slots : List (Option (ℕ × Entry))) (births : ℕ) (entries : List Entry) (ids : List SlotId) (k : ℕ) (id : SlotId) → IsPooled slots births entries ids → slice_get ids k ≡ Some id → is_marked marks k ≡ false → ¬ HasId (chosen marks ids) id
+pub none_gone : (marks : List Bool) (slots : List (Option (ℕ × Entry))) (births : ℕ) (entries : List Entry) (ids : List SlotId) (k : ℕ) (id : SlotId) → IsPooled slots births entries ids → slice_get ids k ≡ Some id → is_place_marked marks k ≡ false → ¬ HasId (chosen marks ids) id
 none_gone marks slots births entries ids k id is there h has =
     let c = chosen_comes marks ids has.0 id has.1 in
     clash c.2 (rw (same_place slots births entries ids c.0 k id id is c.1 there refl) h)
@@ -92,7 +92,7 @@ module _ (marks : List Bool) (births : ℕ) (entries : List Entry) (ids : List S
     found = λ s e at.
         let f = is.found s e (left.was s e at) in
         let id : SlotId = record { slot = s; birth = e.0 } in
-        elim (cases_Bool (is_marked marks f.0)) [
+        elim (cases_Bool (is_place_marked marks f.0)) [
           | inl m ↦ (rank marks f.0, record { there = chosen_goes marks ids f.0 id f.1.there m })
           | inr u ↦ absurd (none-some e (sym (left.gone f.0 id (slice_get_within ids f.0 id f.1.there) f.1.there u) ∙ at))
         ];
@@ -112,7 +112,7 @@ renewed_cut marks entries = go 0 entries
   where
     go : (k : ℕ) (es : List Entry) → the_entries (chosen_from marks k (map (renewed marks) es)) ≡ cut_from marks k (the_entries es)
     go k [] = refl
-    go k (e ∷ es) = elim (cases_Bool (is_marked marks k)) [
+    go k (e ∷ es) = elim (cases_Bool (is_place_marked marks k)) [
       | inl t ↦ rw (t, go (suc k) es) refl
       | inr f ↦ rw (f, go (suc k) es) refl
     ]

@@ -12,7 +12,7 @@ use Rattle.cstn_rules.specs.declared.entries.Why.{Why}
 use Rattle.cstn_rules.specs.declared.entries.Why.TheVariants.{Base, Chain, Wait}
 use Rattle.cstn_pool.specs.declared.slot_id.SlotId.{SlotId}
 use Rattle.cstn_pool.specs.Slots.{Slots}
-use Rattle.cstn_log.specs.Cuts.{PremisesBelow, PremisesMarked, is_marked, rank, renumbered, replaced, chosen_from, chosen}
+use Rattle.cstn_log.specs.Cuts.{PremisesBelow, PremisesMarked, is_place_marked, rank, renumbered, replaced, chosen_from, chosen}
 use Rattle.cstn_log.specs.Lists.{Listing, IsFiled, IsSlot, AreSlots, AreApart, AreHeldIn, placed, with_held, stored_in, birth_of, id_in, ids_in}
 use Rattle.cstn_log.specs.Kept.{AreLeft, AreStored, slots_of}
 use Rattle.cstn_facts.proofs.Places.{get_left, get_more, get_map, map_same}
@@ -118,14 +118,14 @@ module _ (places new : List ℕ) (stored : List Entry) (slots : List ℕ) (slot 
 
 -- the images of chosen values are the values chosen among the images
 pub chosen_map : {X Y Z : Type 0} (marks : List Bool) (f : X → Z) (g : X → Y) (h : Y → Z) (xs : List X) →
-    ((k : ℕ) (x : X) → slice_get xs k ≡ Some x → is_marked marks k ≡ true → f x ≡ h (g x)) → map f (chosen marks xs) ≡ chosen marks (map h (map g xs))
+    ((k : ℕ) (x : X) → slice_get xs k ≡ Some x → is_place_marked marks k ≡ true → f x ≡ h (g x)) → map f (chosen marks xs) ≡ chosen marks (map h (map g xs))
 chosen_map {X = X} marks f g h xs same = go 0 xs (λ k x there marked. same k x there (let e : 0 + k ≡ k = omega arith in rw e at marked))
   where
-    go : (n : ℕ) (ys : List X) → ((k : ℕ) (x : X) → slice_get ys k ≡ Some x → is_marked marks (n + k) ≡ true → f x ≡ h (g x)) → map f (chosen_from marks n ys) ≡ chosen_from marks n (map h (map g ys))
+    go : (n : ℕ) (ys : List X) → ((k : ℕ) (x : X) → slice_get ys k ≡ Some x → is_place_marked marks (n + k) ≡ true → f x ≡ h (g x)) → map f (chosen_from marks n ys) ≡ chosen_from marks n (map h (map g ys))
     go n [] each = refl
     go n (y ∷ ys) each =
         let rest = go (suc n) ys (λ k x there marked. each (suc k) x there (let e : n + suc k ≡ suc n + k = omega arith in rw e marked)) in
-        elim (cases_Bool (is_marked marks n)) [
+        elim (cases_Bool (is_place_marked marks n)) [
           | inl t ↦
               let this = each 0 y refl (let e : n + 0 ≡ n = omega arith in rw e t) in
               rw (chosen_marked marks n y ys t, chosen_marked marks n (h (g y)) (map h (map g ys)) t, this, rest) refl
@@ -141,9 +141,9 @@ chosen_apart marks slots apart j k s one other =
 
 -- a list of which the marked entries are kept
 module _ (marks : List Bool) (places slots : List ℕ) (filed : IsFiled places slots) where
-  slot_kept : (s : ℕ) → IsSlot slots s → is_marked marks (get_or places s 0) ≡ true → IsSlot (chosen marks slots) s
+  slot_kept : (s : ℕ) → IsSlot slots s → is_place_marked marks (get_or places s 0) ≡ true → IsSlot (chosen marks slots) s
   slot_kept s slot marked =
-      let there = subst (λ n. is_marked marks n ≡ true) (slot_place places slots s filed slot) marked in
+      let there = subst (λ n. is_place_marked marks n ≡ true) (slot_place places slots s filed slot) marked in
       record { place = rank marks slot.place; there = chosen_goes marks slots slot.place s slot.there there }
 
   pub slots_kept : (why : Why) → AreSlots slots why → PremisesMarked marks (replaced places why) → AreSlots (chosen marks slots) why
@@ -152,7 +152,7 @@ module _ (marks : List Bool) (places slots : List ℕ) (filed : IsFiled places s
   slots_kept (Wait s t) are marked = (slot_kept s are.0 marked.0, slot_kept t are.1 marked.1)
 
   module _ (new : List ℕ) (refiled : IsFiled new (chosen marks slots)) where
-    rank_kept : (s : ℕ) → IsSlot slots s → is_marked marks (get_or places s 0) ≡ true → get_or new s 0 ≡ rank marks (get_or places s 0)
+    rank_kept : (s : ℕ) → IsSlot slots s → is_place_marked marks (get_or places s 0) ≡ true → get_or new s 0 ≡ rank marks (get_or places s 0)
     unfolding slot_kept
     rank_kept s slot marked =
         slot_place new (chosen marks slots) s refiled (slot_kept s slot marked) ∙ ap (rank marks) (sym (slot_place places slots s filed slot))
@@ -231,12 +231,12 @@ module _ (pool : List (Option (ℕ × Entry))) (slots : List ℕ) (slot birth : 
 
 -- the entries of chosen slots are the chosen entries
 stored_chosen : (marks : List Bool) (pool new : List (Option (ℕ × Entry))) (n : ℕ) (slots : List ℕ) → AreFull pool slots →
-    ((k s : ℕ) → slice_get slots k ≡ Some s → is_marked marks (n + k) ≡ true → get_or new s None ≡ get_or pool s None) → stored_in new (chosen_from marks n slots) ≡ chosen_from marks n (stored_in pool slots)
+    ((k s : ℕ) → slice_get slots k ≡ Some s → is_place_marked marks (n + k) ≡ true → get_or new s None ≡ get_or pool s None) → stored_in new (chosen_from marks n slots) ≡ chosen_from marks n (stored_in pool slots)
 stored_chosen marks pool new n [] full same = refl
 stored_chosen marks pool new n (s ∷ slots) full same =
     let e = some_there (get_or pool s None) (full 0 s refl) in
     let rest = stored_chosen marks pool new (suc n) slots (λ k t there. full (suc k) t there) (λ k t there marked. same (suc k) t there (let m : n + suc k ≡ suc n + k = omega arith in rw m marked)) in
-    elim (cases_Bool (is_marked marks n)) [
+    elim (cases_Bool (is_place_marked marks n)) [
       | inl t ↦
           let this : get_or new s None ≡ Some e.0 = same 0 s refl (let m : n + 0 ≡ n = omega arith in rw m t) ∙ e.1 in
           rw (e.1, chosen_marked marks n s slots t, chosen_marked marks n e.0.1 (stored_in pool slots) t, this, rest) refl
@@ -245,7 +245,7 @@ stored_chosen marks pool new n (s ∷ slots) full same =
 
 -- a list in a pool, of which the slots that aren't marked were given back
 module _ (pool new : List (Option (ℕ × Entry))) (slots : List ℕ) (marks : List Bool) (is : AreHeldIn pool slots) (left : AreLeft marks (ids_in pool slots) (length slots) pool new) where
-  same_there : (k s : ℕ) → slice_get slots k ≡ Some s → is_marked marks k ≡ true → get_or new s None ≡ get_or pool s None
+  same_there : (k s : ℕ) → slice_get slots k ≡ Some s → is_place_marked marks k ≡ true → get_or new s None ≡ get_or pool s None
   same_there k s there marked = left.stays k (id_in pool s) (slice_get-map (id_in pool) slots k ∙ rw there refl) (inl marked)
 
   pub stored_left : stored_in new (chosen marks slots) ≡ chosen marks (stored_in pool slots)

@@ -3,18 +3,18 @@ use Rattle.std.proofs.Common.{◌≡◌, inl, inr, ℕ, List, [], ◌∷◌, ◌
 use Rattle.std.specs.Prelude.{Some, slice_get}
 use Rattle.std.proofs.lemmas.Option.{slice_get_within}
 use Rattle.cstn_rules.specs.declared.entries.Entry.{Entry}
-use Rattle.cstn_minset.specs.Sets.{IsOver}
+use Rattle.cstn_minset.specs.Sets.{IsBoundOver}
 use Rattle.cstn_log.specs.Entries.{IsCoveredBy, IsLive, AllNew}
 use Rattle.cstn_facts.proofs.Places.{get_left, get_last, get_more, one_there}
 
-pub live_more : (L : List Entry) (x : Entry) (k : ℕ) (e : Entry) → slice_get L k ≡ Some e → IsLive L k → ¬ IsOver x.bound e.bound → IsLive (L ++ x ∷ []) k
+pub live_more : (L : List Entry) (x : Entry) (k : ℕ) (e : Entry) → slice_get L k ≡ Some e → IsLive L k → ¬ IsBoundOver x.bound e.bound → IsLive (L ++ x ∷ []) k
 live_more L x k e there live not = record {
   none_over = λ j a f less p q over.
       let same : a ≡ e = one_there (L ++ x ∷ []) k a e p (get_left L x k e there) in
-      let over_e : IsOver f.bound e.bound = subst (λ (z : Entry). IsOver f.bound z.bound) same over in
+      let over_e : IsBoundOver f.bound e.bound = subst (λ (z : Entry). IsBoundOver f.bound z.bound) same over in
       elim (get_more L x j f q) [
         | inl old ↦ live.none_over j e f less there old over_e
-        | inr new ↦ not (subst (λ (z : Entry). IsOver z.bound e.bound) (sym new.1) over_e)
+        | inr new ↦ not (subst (λ (z : Entry). IsBoundOver z.bound e.bound) (sym new.1) over_e)
       ];
 }
 
@@ -23,7 +23,7 @@ live_less L x k e there live = record {
   none_over = λ j a f less p q over. live.none_over j a f less (get_left L x k a p) (get_left L x j f q) over;
 }
 
-pub last_not_over : (L : List Entry) (x : Entry) (k : ℕ) (e : Entry) → slice_get L k ≡ Some e → IsLive (L ++ x ∷ []) k → ¬ IsOver x.bound e.bound
+pub last_not_over : (L : List Entry) (x : Entry) (k : ℕ) (e : Entry) → slice_get L k ≡ Some e → IsLive (L ++ x ∷ []) k → ¬ IsBoundOver x.bound e.bound
 last_not_over L x k e there live over = live.none_over (length L) e x (slice_get_within L k e there) (get_left L x k e there) (get_last L x) over
 
 pub live_last : (L : List Entry) (x : Entry) → IsLive (L ++ x ∷ []) (length L)
@@ -41,7 +41,7 @@ new_more L x all uncovered = record {
       | inr last ↦ omega (arith, slice_get_within L k f old, last.0, less)
     ]
     | inr new ↦ elim (get_more L x j e p) [
-      | inl old ↦ uncovered (j, e, old, subst (λ (z : Entry). IsOver e.bound z.bound) (sym new.1) over)
+      | inl old ↦ uncovered (j, e, old, subst (λ (z : Entry). IsBoundOver e.bound z.bound) (sym new.1) over)
       | inr last ↦ omega (arith, last.0, new.0, less)
     ]
   ];

@@ -11,9 +11,9 @@ use Rattle.cstn_label.specs.Read.{the_bound}
 use Rattle.cstn_rules.specs.declared.entries.Entry.{Entry}
 use Rattle.cstn_pool.specs.declared.slot_id.SlotId.{SlotId}
 use Rattle.cstn_pool.specs.Slots.{Slots, live_of}
-use Rattle.cstn_minset.specs.Sets.{Places, Entries, IsPlaced, IsOver, IsCovered, IsCleared}
+use Rattle.cstn_minset.specs.Sets.{Places, Entries, IsPlaced, IsBoundOver, IsCoveredInSet, IsCleared}
 use Rattle.cstn_log.specs.Entries.{IsCoveredBy, IsLive}
-use Rattle.cstn_log.specs.Kept.{IsKept, IsPooled, IsTabled, IsIdAt}
+use Rattle.cstn_log.specs.Kept.{IsLogKept, IsPooled, IsTabled, IsIdAt}
 use Rattle.cstn_facts.proofs.Places.{get_left, get_last, get_more}
 use Rattle.cstn_log.proofs.LiveLemmas.{live_more, live_less, last_not_over, live_last, new_more}
 use Rattle.cstn_log.proofs.KeptLemmas.{other_slot, unplaced}
@@ -44,7 +44,7 @@ module _ (through : IsThrough) (table cleared : Entries) (entries : List Entry) 
   placed_old s b there =
       let jd : SlotId = record { slot = s; birth = b.0 } in
       let f = is.placed s b (clear.was s b there) in
-      let not_over : ¬ IsOver x.bound f.1.bound = subst (λ (z : Bound). ¬ IsOver x.bound z) (sym f.5) (clear.none_under s b there) in
+      let not_over : ¬ IsBoundOver x.bound f.1.bound = subst (λ (z : Bound). ¬ IsBoundOver x.bound z) (sym f.5) (clear.none_under s b there) in
       (f.0, f.1, record { there = get_left ids id f.0 jd f.2.there }, get_left entries x f.0 f.1 f.3, live_more entries x f.0 f.1 f.3 f.4 not_over, f.5)
 
   live_old : (k : ℕ) (jd : SlotId) (e : Entry) → slice_get ids k ≡ Some jd → slice_get entries k ≡ Some e → IsLive (entries ++ x ∷ []) k → IsPlaced (set cleared id.slot (Some (id.birth, x.bound))) jd.slot (jd.birth, e.bound)
@@ -54,10 +54,10 @@ module _ (through : IsThrough) (table cleared : Entries) (entries : List Entry) 
       get_or-set_other cleared id.slot jd.slot (Some (id.birth, x.bound)) None (other k jd there) ∙ stays
 
   -- what the new table doesn't cover, the old one doesn't cover either
-  covered_before : (b : Bound) → ¬ IsCovered (set cleared id.slot (Some (id.birth, x.bound))) b → ¬ IsCovered table b
+  covered_before : (b : Bound) → ¬ IsCoveredInSet (set cleared id.slot (Some (id.birth, x.bound))) b → ¬ IsCoveredInSet table b
   covered_before b not c =
       let elsewhere : c.0 ≢ id.slot = λ same. none-some c.1 (sym (unplaced table entries ids id.slot is other) ∙ rw same at c.2) in
-      let stays : ¬ IsOver x.bound c.1.1 → ⊥ = λ n. not (c.0, c.1, get_or-set_other cleared id.slot c.0 (Some (id.birth, x.bound)) None elsewhere ∙ clear.kept c.0 c.1 c.2 n, c.3) in
+      let stays : ¬ IsBoundOver x.bound c.1.1 → ⊥ = λ n. not (c.0, c.1, get_or-set_other cleared id.slot c.0 (Some (id.birth, x.bound)) None elsewhere ∙ clear.kept c.0 c.1 c.2 n, c.3) in
       stays (λ over. not (id.slot, (id.birth, x.bound), get_or-set_same cleared id.slot (Some (id.birth, x.bound)) None (omega (arith, clear.size, inside)), through (the_bound x.bound) (the_bound c.1.1) (the_bound b) over c.3))
 
   pub tabled_more : IsTabled (set cleared id.slot (Some (id.birth, x.bound))) (entries ++ x ∷ []) (ids ++ id ∷ [])
@@ -67,7 +67,7 @@ module _ (through : IsThrough) (table cleared : Entries) (entries : List Entry) 
       record {
         covers = λ b not c. elim (get_more entries x c.0 c.1 c.2) [
           | inl p ↦ is.covers b (covered_before b not) (c.0, c.1, p, c.3)
-          | inr p ↦ not (id.slot, (id.birth, x.bound), here, subst (λ (z : Entry). IsOver z.bound b) (sym p.1) c.3)
+          | inr p ↦ not (id.slot, (id.birth, x.bound), here, subst (λ (z : Entry). IsBoundOver z.bound b) (sym p.1) c.3)
         ];
         placed = λ s b there. elim (placed_more cleared id.slot s (id.birth, x.bound) b wide there) [
           | inl p ↦ rw (p.0, ← p.1) (length ids, x, record { there = get_last ids id }, last_of ids entries x size, subst (λ (n : ℕ). IsLive (entries ++ x ∷ []) n) size (live_last entries x), refl)
@@ -109,8 +109,8 @@ pooled_more slots births entries ids slot x held bound is size inside free =
     }
 
 -- one more entry in the pool and in the minimal set
-pub kept_more : IsThrough → (slots : List (Option (ℕ × Entry))) (births : ℕ) (table cleared : Entries) (entries : List Entry) (ids : List SlotId) (nodes slot : ℕ) (x held : Entry) → held.bound ≡ x.bound → IsKept slots births table entries ids nodes → slot < length slots → get_or slots slot None ≡ None → IsCleared x.bound table cleared → ¬ IsCoveredBy entries x.bound → x.bound.node.0 < nodes →
-    IsKept (set slots slot (Some (births, held))) (births + 1) (set cleared slot (Some (births, x.bound))) (entries ++ x ∷ []) (ids ++ record { slot = slot; birth = births } ∷ []) nodes
+pub kept_more : IsThrough → (slots : List (Option (ℕ × Entry))) (births : ℕ) (table cleared : Entries) (entries : List Entry) (ids : List SlotId) (nodes slot : ℕ) (x held : Entry) → held.bound ≡ x.bound → IsLogKept slots births table entries ids nodes → slot < length slots → get_or slots slot None ≡ None → IsCleared x.bound table cleared → ¬ IsCoveredBy entries x.bound → x.bound.node.0 < nodes →
+    IsLogKept (set slots slot (Some (births, held))) (births + 1) (set cleared slot (Some (births, x.bound))) (entries ++ x ∷ []) (ids ++ record { slot = slot; birth = births } ∷ []) nodes
 kept_more through slots births table cleared entries ids nodes slot x held bound is inside free clear uncovered node =
     let id : SlotId = record { slot = slot; birth = births } in
     record {
@@ -130,11 +130,11 @@ abbrev the_id : ℕ → ℕ → SlotId
 the_id s n = record { slot = s; birth = n }
 
 -- the calls of `push` leave what a log keeps
-pub push_step : IsThrough → (slots : List (Option (ℕ × Entry))) (births : ℕ) (minimal : Places) (cleared : Entries) (entries longer : List Entry) (ids : List SlotId) (id : SlotId) (x held : Entry) (pool : Slots Entry) (placed : Places) (new : List SlotId) → held.bound ≡ x.bound → IsKept slots births minimal.table entries ids minimal.nodes → slice_get slots id.slot ≡ Some None → id.birth ≡ births → pool ≡ record { slots = set slots id.slot (Some (id.birth, held)); births = births + 1 } → IsCleared x.bound minimal.table cleared → placed ≡ record minimal { table = set cleared id.slot (Some (id.birth, x.bound)) } → longer ≡ entries ++ x ∷ [] → new ≡ ids ++ id ∷ [] → ¬ IsCoveredBy entries x.bound → x.bound.node.0 < minimal.nodes → IsKept pool.slots pool.births placed.table longer new placed.nodes
+pub push_step : IsThrough → (slots : List (Option (ℕ × Entry))) (births : ℕ) (minimal : Places) (cleared : Entries) (entries longer : List Entry) (ids : List SlotId) (id : SlotId) (x held : Entry) (pool : Slots Entry) (placed : Places) (new : List SlotId) → held.bound ≡ x.bound → IsLogKept slots births minimal.table entries ids minimal.nodes → slice_get slots id.slot ≡ Some None → id.birth ≡ births → pool ≡ record { slots = set slots id.slot (Some (id.birth, held)); births = births + 1 } → IsCleared x.bound minimal.table cleared → placed ≡ record minimal { table = set cleared id.slot (Some (id.birth, x.bound)) } → longer ≡ entries ++ x ∷ [] → new ≡ ids ++ id ∷ [] → ¬ IsCoveredBy entries x.bound → x.bound.node.0 < minimal.nodes → IsLogKept pool.slots pool.births placed.table longer new placed.nodes
 push_step through slots births minimal cleared entries longer ids id x held pool placed new bound is empty same taken clear placed_is longer_is new_is uncovered node =
     let e = empty_in slots id.slot empty in
     let id_is : record { slot = id.slot; birth = births } ≡ id = ap (λ (n : ℕ). the_id id.slot n) (sym same) in
-    rw (taken, placed_is, longer_is, new_is) (subst (λ (y : SlotId). IsKept (set slots id.slot (Some (y.birth, held))) (births + 1) (set cleared id.slot (Some (y.birth, x.bound))) (entries ++ x ∷ []) (ids ++ y ∷ []) minimal.nodes) id_is (kept_more through slots births minimal.table cleared entries ids minimal.nodes id.slot x held bound is e.0 e.1 clear uncovered node))
+    rw (taken, placed_is, longer_is, new_is) (subst (λ (y : SlotId). IsLogKept (set slots id.slot (Some (y.birth, held))) (births + 1) (set cleared id.slot (Some (y.birth, x.bound))) (entries ++ x ∷ []) (ids ++ y ∷ []) minimal.nodes) id_is (kept_more through slots births minimal.table cleared entries ids minimal.nodes id.slot x held bound is e.0 e.1 clear uncovered node))
 
 pub slot_empty : (slots : List (Option (ℕ × Entry))) (births : ℕ) (entries : List Entry) (ids : List SlotId) (id : SlotId) → IsPooled slots births entries ids → slice_get slots id.slot ≡ Some None → (k : ℕ) (jd : SlotId) → slice_get ids k ≡ Some jd → jd.slot ≢ id.slot
 slot_empty slots births entries ids id is empty = other_slot slots births entries ids id.slot is (empty_in slots id.slot empty).1

@@ -12,10 +12,10 @@ use Rattle.cstn_rules.specs.declared.entries.Why.TheVariants.{Base, Chain, Wait}
 use Rattle.cstn_rules.specs.Derivations.{Entry as TheEntry}
 use Rattle.cstn_rules.specs.Read.{the_entry}
 use Rattle.cstn_pool.specs.declared.slot_id.SlotId.{SlotId}
-use Rattle.cstn_minset.specs.Sets.{Entries, IsCovered, IsCleared}
+use Rattle.cstn_minset.specs.Sets.{Entries, IsCoveredInSet, IsCleared}
 use Rattle.cstn_log.specs.Kept.{IsPooled, IsTabled}
 use Rattle.cstn_log.specs.Entries.{the_entries, IsCoveredBy, AllNew}
-use Rattle.cstn_log.specs.Cuts.{PremisesBelow, PremisesMarked, AllEarlier, IsClosedUnder, is_marked, rank, renumbered, cut, moved}
+use Rattle.cstn_log.specs.Cuts.{PremisesBelow, PremisesMarked, AllEarlier, IsClosedUnder, is_place_marked, rank, renumbered, cut, moved_premises}
 use Rattle.cstn_facts.proofs.Places.{get_map, get_taken, take_step, length_taken}
 use Rattle.cstn_log.proofs.KeptLemmas.{same_slot, slot_inside, unplaced, uncovered_there, born_before}
 use Rattle.cstn_log.proofs.PushLemmas.{IsThrough, tabled_more}
@@ -32,13 +32,13 @@ first_uncovered steps L k e all there is covered =
 
 -- where an entry of the cut list comes from
 abbrev pub IsFrom : List Bool → List Entry → ℕ → Entry → Type 0
-IsFrom marks L d f = (i : ℕ) × (e : Entry) × (slice_get L i ≡ Some e) × (is_marked marks i ≡ true) × (rank marks i ≡ d) × (the_bound f.bound ≡ the_bound e.bound) × (f.why ≡ renumbered marks e.why)
+IsFrom marks L d f = (i : ℕ) × (e : Entry) × (slice_get L i ≡ Some e) × (is_place_marked marks i ≡ true) × (rank marks i ≡ d) × (the_bound f.bound ≡ the_bound e.bound) × (f.why ≡ renumbered marks e.why)
 
 pub from_list : (marks : List Bool) (L steps : List Entry) (d : ℕ) (f : Entry) → the_entries steps ≡ cut marks (the_entries L) → slice_get steps d ≡ Some f → IsFrom marks L d f
 from_list marks L steps d f is there =
     let c = comes marks (the_entries L) d (the_entry f) (rw is at (entry_read steps d f there)) in
     let got = get_map the_entry L c.0 c.1 c.2 in
-    let same : the_entry f ≡ moved marks (the_entry got.0) = c.5 ∙ ap (moved marks) (sym got.2) in
+    let same : the_entry f ≡ moved_premises marks (the_entry got.0) = c.5 ∙ ap (moved_premises marks) (sym got.2) in
     (c.0, got.0, got.1, c.3, c.4, ap (λ y. y.bound) same, ap (λ y. y.why) same)
 
 -- a cut list has no entry that an earlier one dominates
@@ -94,7 +94,7 @@ module _ (slots : List (Option (ℕ × Entry))) (births : ℕ) (entries : List E
   pub place_birth : (s : ℕ) (b : ℕ × Bound) → get_or table s None ≡ Some b → b.0 < id.birth
   place_birth = born_before table (take k entries) (take k ids) id.birth tabled (λ j jd at. let t = get_taken ids k j jd at in is.ascending j k jd id t.0 t.1 there)
 
-  pub place_uncovered : (e : Entry) → AllNew entries → slice_get entries k ≡ Some e → ¬ IsCovered table e.bound
+  pub place_uncovered : (e : Entry) → AllNew entries → slice_get entries k ≡ Some e → ¬ IsCoveredInSet table e.bound
   place_uncovered e all at = uncovered_there table (take k entries) (take k ids) e.bound tabled (first_uncovered entries (take k entries) k e all at refl)
 
   pub place_step : IsThrough → (e : Entry) (cleared : Entries) → slice_get entries k ≡ Some e → length slots ≡ length table → IsCleared e.bound table cleared → IsTabled (set cleared id.slot (Some (id.birth, e.bound))) (take (k + 1) entries) (take (k + 1) ids)

@@ -10,7 +10,7 @@ use Rattle.cstn_rules.specs.Rules.{base}
 use Rattle.cstn_rules.specs.Derivations.{Entry as TheEntry}
 use Rattle.cstn_rules.specs.Read.{the_entry}
 use Rattle.cstn_pool.specs.declared.slot_id.SlotId.{SlotId}
-use Rattle.cstn_minset.specs.Sets.{IsOver}
+use Rattle.cstn_minset.specs.Sets.{IsBoundOver}
 
 -- what contracts see of a log: its entries with their ids in the pool, how many births the pool has given, how many entries
 -- there may be, the number of time-points, and the places on its agenda
@@ -42,11 +42,11 @@ pub record IsBoundAt (entries : List Entry) (k : ℕ) (b : Bound) : Type 0 where
 
 -- the entry at the place dominates the bound
 abbrev pub IsDominator : List Entry → ℕ → Bound → Type 0
-IsDominator entries k b = (over : Bound) × IsBoundAt entries k over × IsOver over b
+IsDominator entries k b = (over : Bound) × IsBoundAt entries k over × IsBoundOver over b
 
 -- some entry dominates the bound
 abbrev pub IsCoveredBy : List Entry → Bound → Type 0
-IsCoveredBy entries b = (k : ℕ) × (e : Entry) × (slice_get entries k ≡ Some e) × IsOver e.bound b
+IsCoveredBy entries b = (k : ℕ) × (e : Entry) × (slice_get entries k ≡ Some e) × IsBoundOver e.bound b
 
 -- some entry at the time-point, whose label is within this one, has this least value
 abbrev pub HasLeast : List Entry → ℕ → Label → ℤ → Type 0
@@ -55,11 +55,11 @@ HasLeast entries x label least = (k : ℕ) × (e : Entry) × (slice_get entries 
 
 -- an entry is live while no later one dominates it
 pub record IsLive (entries : List Entry) (k : ℕ) : Type 0 where
-  pub none_over : (j : ℕ) (e f : Entry) → k < j → slice_get entries k ≡ Some e → slice_get entries j ≡ Some f → ¬ IsOver f.bound e.bound
+  pub none_over : (j : ℕ) (e f : Entry) → k < j → slice_get entries k ≡ Some e → slice_get entries j ≡ Some f → ¬ IsBoundOver f.bound e.bound
 
 -- no entry is dominated by an earlier one
 pub record AllNew (entries : List Entry) : Type 0 where
-  pub none_over : (j k : ℕ) (e f : Entry) → j < k → slice_get entries j ≡ Some e → slice_get entries k ≡ Some f → ¬ IsOver e.bound f.bound
+  pub none_over : (j k : ℕ) (e f : Entry) → j < k → slice_get entries j ≡ Some e → slice_get entries k ≡ Some f → ¬ IsBoundOver e.bound f.bound
 
 -- the base bounds of the first n time-points, in order
 abbrev pub bases : ℕ → List TheEntry

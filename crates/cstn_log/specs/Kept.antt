@@ -5,9 +5,9 @@ use Rattle.cstn_net.specs.Limits.{most_load}
 use Rattle.cstn_rules.specs.declared.entries.Entry.{Entry}
 use Rattle.cstn_pool.specs.declared.slot_id.SlotId.{SlotId}
 use Rattle.cstn_pool.specs.Slots.{live_of}
-use Rattle.cstn_minset.specs.Sets.{Entries, IsPlaced, IsCovered}
+use Rattle.cstn_minset.specs.Sets.{Entries, IsPlaced, IsCoveredInSet}
 use Rattle.cstn_log.specs.Entries.{IsCoveredBy, IsLive, AllNew}
-use Rattle.cstn_log.specs.Cuts.{is_marked, rank, renumbered, replaced}
+use Rattle.cstn_log.specs.Cuts.{is_place_marked, rank, renumbered, replaced}
 
 -- the entry with its premises at the new places, where its list is cut to the marked places
 abbrev pub renewed : List Bool → Entry → Entry
@@ -41,12 +41,12 @@ pub record IsPooled (slots : List (Option (ℕ × Entry))) (births : ℕ) (entri
 
 -- the table holds the bounds of the live entries under their ids and nothing else
 pub record IsTabled (table : Entries) (entries : List Entry) (ids : List SlotId) : Type 0 where
-  pub covers : (b : Bound) → ¬ IsCovered table b → ¬ IsCoveredBy entries b
+  pub covers : (b : Bound) → ¬ IsCoveredInSet table b → ¬ IsCoveredBy entries b
   pub placed : (s : ℕ) (b : ℕ × Bound) → IsPlaced table s b → (k : ℕ) × (e : Entry) × IsIdAt ids s b.0 k × (slice_get entries k ≡ Some e) × IsLive entries k × (e.bound ≡ b.1)
   pub live : (k : ℕ) (id : SlotId) (e : Entry) → slice_get ids k ≡ Some id → slice_get entries k ≡ Some e → IsLive entries k → IsPlaced table id.slot (id.birth, e.bound)
 
 -- none of the entries is dominated by an earlier one, and each has an id under which the pool has it, and the table if it is live
-pub record IsKept (slots : List (Option (ℕ × Entry))) (births : ℕ) (table : Entries) (entries : List Entry) (ids : List SlotId) (nodes : ℕ) : Type 0 where
+pub record IsLogKept (slots : List (Option (ℕ × Entry))) (births : ℕ) (table : Entries) (entries : List Entry) (ids : List SlotId) (nodes : ℕ) : Type 0 where
   pub pooled : IsPooled slots births entries ids
   pub tabled : IsTabled table entries ids
   pub room : length table ≡ length slots
@@ -58,8 +58,8 @@ pub record IsKept (slots : List (Option (ℕ × Entry))) (births : ℕ) (table :
 pub record AreLeft (marks : List Bool) (ids : List SlotId) (n : ℕ) (old new : List (Option (ℕ × Entry))) : Type 0 where
   pub size : length new ≡ length old
   pub was : (s : ℕ) (e : ℕ × Entry) → slice_index_or new s None ≡ Some e → slice_index_or old s None ≡ Some e
-  pub stays : (k : ℕ) (id : SlotId) → slice_get ids k ≡ Some id → (is_marked marks k ≡ true) ⊎ (n ≤ k) → slice_index_or new id.slot None ≡ slice_index_or old id.slot None
-  pub gone : (k : ℕ) (id : SlotId) → k < n → slice_get ids k ≡ Some id → is_marked marks k ≡ false → slice_index_or new id.slot None ≡ None
+  pub stays : (k : ℕ) (id : SlotId) → slice_get ids k ≡ Some id → (is_place_marked marks k ≡ true) ⊎ (n ≤ k) → slice_index_or new id.slot None ≡ slice_index_or old id.slot None
+  pub gone : (k : ℕ) (id : SlotId) → k < n → slice_get ids k ≡ Some id → is_place_marked marks k ≡ false → slice_index_or new id.slot None ≡ None
   pub count : live_of new + n ≡ live_of old + rank marks n
 
 -- for how many marks, slots and places there is room
@@ -79,5 +79,5 @@ pub record IsRoom (cap told : ℕ) (rooms : Rooms) : Type 0 where
 -- the entries are kept, and there is room
 pub record IsLog (slots : List (Option (ℕ × Entry))) (births : ℕ) (table : Entries) (entries : List Entry) (ids : List SlotId)
     (nodes cap : ℕ) (rooms : Rooms) : Type 0 where
-  pub kept : IsKept slots births table entries ids nodes
+  pub kept : IsLogKept slots births table entries ids nodes
   pub room : IsRoom (length slots) cap rooms

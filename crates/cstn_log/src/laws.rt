@@ -4,7 +4,7 @@ ghost use Rattle.cstn_net.specs.Limits.{most_load};
 ghost use Rattle.cstn_net.specs.Networks.{Network};
 ghost use Rattle.cstn_rules.specs.Derivations.{Entry, IsDerivation};
 ghost use Rattle.cstn_log.specs.Ancestors.{IsAncestor, DependsOn, HasThose};
-ghost use Rattle.cstn_log.specs.Cuts.{AllEarlier, part, dropped};
+ghost use Rattle.cstn_log.specs.Cuts.{AllEarlier, last_with_ancestors, dropped};
 ghost use Rattle.cstn_log.specs.Entries.{AllNew};
 
 use crate::log::Log;
@@ -24,6 +24,6 @@ pub fn log_is_well_formed(log: &Log)
 pub fn cut_lists_follow_ancestors()
     ensures earlier { (net : Network) (steps : List Entry) → IsDerivation net steps → AllEarlier steps }
     ensures part { (steps : List Entry) → AllEarlier steps → 0 < length steps
-        → HasThose (λ k. (k ≡ length steps - 1) ⊎ IsAncestor steps k (length steps - 1)) steps (part steps) }
+        → HasThose (λ k. (k ≡ length steps - 1) ⊎ IsAncestor steps k (length steps - 1)) steps (last_with_ancestors steps) }
     ensures dropped { (steps : List Entry) (id : ℕ) → AllEarlier steps → HasThose (λ k. DependsOn steps id k → ⊥) steps (dropped steps id) }
 {}

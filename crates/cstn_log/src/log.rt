@@ -12,7 +12,8 @@ ghost use Rattle.cstn_rules.specs.Derivations.{Follows, IsDerivation, IsRefutati
 ghost use Rattle.cstn_minset.specs.Sets.{IsPlaced, IsSoughtAbove};
 ghost use Rattle.cstn_log.specs.Entries.{State, HasId, AreBornFrom, the_entries, IsBoundAt, IsDominator};
 ghost use Rattle.cstn_log.specs.Entries.{IsCoveredBy, IsLive, HasLeast, AllNew, bases, first_entries};
-ghost use Rattle.cstn_log.specs.Cuts.{PremisesBelow, is_marked as is_marked_at, chosen, marked_staying, with_ancestors, last_marked, cut, part, dropped};
+ghost use Rattle.cstn_log.specs.Cuts.{PremisesBelow, is_place_marked as is_marked_at, chosen, marked_staying, with_ancestors, last_marked, cut};
+ghost use Rattle.cstn_log.specs.Cuts.{last_with_ancestors, dropped};
 ghost use Rattle.cstn_log.specs.Kept.{IsIdAt, AreStored};
 ghost use Rattle.cstn_log.specs.Agendas.{has_place};
 ghost use Rattle.cstn_label.specs.Labels.{IsMarked, without};
@@ -218,7 +219,7 @@ impl Log {
     /// of which the log is one, and a refutation where the log is one. Fails for want of memory alone.
     pub fn part(&self, alloc: Global) -> Result<Vec<Entry>, AllocError>
         requires { 0 < length self.now.entries }
-        ensures part { IfOk result (λ steps. the_entries steps.items ≡ part (the_entries self.now.entries)) }
+        ensures part { IfOk result (λ steps. the_entries steps.items ≡ last_with_ancestors (the_entries self.now.entries)) }
         ensures derivation { (net : TheNetwork) → IsDerivation net (the_entries self.now.entries)
             → IfOk result (λ steps. IsDerivation net (the_entries steps.items)) }
         ensures refutation { (net : TheNetwork) → IsRefutation net (the_entries self.now.entries)
@@ -232,7 +233,7 @@ impl Log {
     pub fn part_upto(&self, alloc: Global, count: u32) -> Result<Vec<Entry>, AllocError>
         requires some { 0 < count }
         requires upto { count ≤ length self.now.entries }
-        ensures part { IfOk result (λ steps. the_entries steps.items ≡ part (the_entries (take count self.now.entries))) }
+        ensures part { IfOk result (λ steps. the_entries steps.items ≡ last_with_ancestors (the_entries (take count self.now.entries))) }
     {
         self.last_and_ancestors(alloc, count as usize)
     }

@@ -2,7 +2,7 @@
 ghost use Rattle.std.specs.Prelude.{ℕ, ◌≡◌, ◌⊎◌, ◌<◌, ◌≤◌, ◌*◌, true, [], List, Option, Some, length, slice_get, slice_index_or, None};
 ghost use Rattle.cstn_rules.specs.declared.entries.Entry.{Entry as TheEntry};
 ghost use Rattle.cstn_log.specs.Entries.{AllNew};
-ghost use Rattle.cstn_log.specs.Kept.{IsIdAt, IsKept, IsPooled, IsTabled};
+ghost use Rattle.cstn_log.specs.Kept.{IsIdAt, IsLogKept, IsPooled, IsTabled};
 ghost use Rattle.cstn_log.specs.Agendas.{has_place};
 ghost use Rattle.std.specs.List.{All, Contains};
 
@@ -14,7 +14,7 @@ use cstn_minset::MinSet;
 // Takes every entry out.
 pub fn clear(minimal: &mut MinSet, list: &mut EntryList)
     requires { length minimal.old.table ≡ length list.old.pool.slots }
-    ensures kept { IsKept list.new.pool.slots list.new.pool.births minimal.new.table list.new.entries list.new.ids minimal.new.nodes }
+    ensures kept { IsLogKept list.new.pool.slots list.new.pool.births minimal.new.table list.new.entries list.new.ids minimal.new.nodes }
     ensures empty { list.new ≡ record list.old { entries = []; ids = []; pool = list.new.pool } }
     ensures births { list.new.pool.births ≡ list.old.pool.births }
     ensures size { (length list.new.pool.slots ≡ length list.old.pool.slots) × (minimal.new.nodes ≡ minimal.old.nodes) }

@@ -4,7 +4,7 @@ use Rattle.std.specs.Prelude.{codes, ◌==◌, ◌||◌}
 use Rattle.std.specs.List.{prefix_len, AllByRecursion}
 use Rattle.std.proofs.lemmas.Bool.{false≢true}
 use Rattle.cstn_markup.specs.Bytes.{◌>>=◌, when, is_same, begins, past, past_white, past_first, resolved}
-use Rattle.cstn_markup.specs.Tokens.{Attribute, Tail, Kind, name_at, value_at, attribute_at, tag_end_at, tail_at, raw_with, attributes_of, attributes_at, with_front, ended_or, start_tag_at, end_tag_at, text_at, piece_at}
+use Rattle.cstn_markup.specs.Tokens.{Attribute, Tail, Kind, name_at, attribute_value_at, attribute_at, tag_end_at, tail_at, raw_with, attributes_of, attributes_at, with_front, ended_or, start_tag_at, end_tag_at, text_at, piece_at}
 use Rattle.cstn_markup.proofs.Rests.{bind_some, when_some, some_is, which, attribute_parts}
 
 -- the token is a tag or a text, with each reference of its form
@@ -49,7 +49,7 @@ right_when : (b : Bool) (value rest : List ℕ) (x : List ℕ × List ℕ) → (
 right_when true value rest x h e = subst (λ v. IsSome (resolved v)) (ap (λ p. p.0) (some_is e)) (h refl)
 right_when false value rest x h e = absurd (false≢true (let g : false ≡ true = cc in g))
 
-value_right : (bytes : List ℕ) (x : List ℕ × List ℕ) → value_at bytes ≡ Some x → IsSome (resolved x.0)
+value_right : (bytes : List ℕ) (x : List ℕ × List ℕ) → attribute_value_at bytes ≡ Some x → IsSome (resolved x.0)
 value_right [] x e = absurd (cc)
 value_right (quote ∷ bytes) x e =
     let h = bind_some (when (quote == 34 || quote == 39) (quote ∷ [])) _ x e in

@@ -7,7 +7,7 @@ use Rattle.std.proofs.lemmas.List.{drop-drop}
 use Rattle.std.proofs.lemmas.List.Sums.{prefix_len-le-length}
 use Rattle.std.proofs.lemmas.Str.{IsCharBoundary-start, IsCharBoundary-from_drop, IsCharBoundary-from_rest, IsUtf8-between}
 use Rattle.cstn_markup.specs.Bytes.{◌>>=◌, past, is_of_name, past_white}
-use Rattle.cstn_markup.specs.Tokens.{Attribute, Tail, Kind, name_at, value_at, attribute_at, tag_end_at, tail_at, attributes_of, attributes_at, with_front, ended_or, start_tag_at, end_tag_at, text_at, piece_at}
+use Rattle.cstn_markup.specs.Tokens.{Attribute, Tail, Kind, name_at, attribute_value_at, attribute_at, tag_end_at, tail_at, attributes_of, attributes_at, with_front, ended_or, start_tag_at, end_tag_at, text_at, piece_at}
 use Rattle.cstn_markup.specs.Spans.{LiesBetween, spans, attribute_spans}
 use Rattle.cstn_markup.proofs.Rests.{IsRest, bind_some, when_some, some_is, then_rest, white_rest, past_rest, name_rest, value_rest, attribute_rest, tail_rest, start_tag_rest, end_tag_rest, text_rest, value_parts, attribute_parts, begun_rest, no_longer, rest_is}
 use Rattle.cstn_markup.proofs.Given.{given_by}
@@ -65,7 +65,7 @@ name_span bytes x e u =
     let pair = when_some _ _ x e in
     front_span bytes x.1 x.0 (prefix_len is_of_name bytes) (prefix_len-le-length is_of_name bytes) (sym (ap (λ p. p.0) pair)) (sym (ap (λ p. p.1) pair)) u ((name_rest bytes x e).keeps u)
 
-value_span : (bytes : List ℕ) (x : List ℕ × List ℕ) → value_at bytes ≡ Some x → IsUtf8 bytes → LiesBetween bytes 0 (length bytes - length x.1) x.0
+value_span : (bytes : List ℕ) (x : List ℕ × List ℕ) → attribute_value_at bytes ≡ Some x → IsUtf8 bytes → LiesBetween bytes 0 (length bytes - length x.1) x.0
 value_span [] x e u = absurd (cc)
 value_span (quote ∷ bytes) x e u =
     let v = value_parts quote bytes x e in

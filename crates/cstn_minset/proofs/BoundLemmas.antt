@@ -9,7 +9,7 @@ use Rattle.cstn_label.specs.declared.marks.Mark.TheVariants.{Absent, Yes, No, Un
 use Rattle.cstn_label.specs.declared.labels.Label.{Label}
 use Rattle.cstn_label.specs.Labels.{IsMarkWithin, IsWithin}
 use Rattle.cstn_label.specs.Read.{marks}
-use Rattle.cstn_minset.specs.Sets.{IsOver}
+use Rattle.cstn_minset.specs.Sets.{IsBoundOver}
 
 mark_within_or_not : (m n : Mark) → IsMarkWithin m n ⊎ ¬ IsMarkWithin m n
 mark_within_or_not Absent n = inl tt
@@ -74,7 +74,7 @@ either_least a b = elim (cases_Bool (int_le a b)) [ inl y ↦ inl (least a b y) 
     most c d is = grind (arith, ints)
 
 -- a bound dominates another or it doesn't
-pub over_or_not : MarksEnd → (a b : Bound) → IsOver a b ⊎ ¬ IsOver a b
+pub over_or_not : MarksEnd → (a b : Bound) → IsBoundOver a b ⊎ ¬ IsBoundOver a b
 over_or_not end a b = elim (cases_eq a.node.0 b.node.0) [
   | inr other ↦ inr (λ over. other over.node)
   | inl node ↦ elim (least_or_not b.least a.least) [
@@ -86,7 +86,7 @@ over_or_not end a b = elim (cases_eq a.node.0 b.node.0) [
   ]
 ]
 
-pub over_through : (a b c : Bound) → IsOver a b → IsOver b c → IsOver a c
+pub over_through : (a b c : Bound) → IsBoundOver a b → IsBoundOver b c → IsBoundOver a c
 over_through a b c x y = record {
   node = x.node ∙ y.node;
   least = between c.least b.least a.least y.least x.least;
@@ -97,7 +97,7 @@ over_through a b c x y = record {
     between u v w p q = omega (arith, ints)
 
 -- of two bounds of one time-point and label, one dominates the other
-pub one_is_over : (a b : Bound) → a.node.0 ≡ b.node.0 → a.label ≡ b.label → IsOver a b ⊎ IsOver b a
+pub one_is_over : (a b : Bound) → a.node.0 ≡ b.node.0 → a.label ≡ b.label → IsBoundOver a b ⊎ IsBoundOver b a
 one_is_over a b node label = elim (either_least b.least a.least) [
   | inl le ↦ inl (record { node = node; least = le; label = subst (λ (l : Label). IsWithin (marks a.label) (marks l)) label (λ p. mark_itself (marks a.label p)) })
   | inr ge ↦ inr (record { node = sym node; least = ge; label = subst (λ (l : Label). IsWithin (marks l) (marks a.label)) label (λ p. mark_itself (marks a.label p)) })

@@ -14,8 +14,9 @@ use Rattle.cstn_label.specs.Words.{has_bit}
 use Rattle.cstn_label.specs.Read.{marks}
 use Rattle.cstn_label.proofs.MarkLemmas.{absent_within, marked_true, true_marked}
 use Rattle.cstn_label.proofs.LabelLemmas.{within_through}
+use Rattle.cstn_label.proofs.WordLemmas.{has_bit-zero}
 use Rattle.cstn_minset.specs.declared.columns.Record.{Record}
-use Rattle.cstn_minset.specs.Sheets.{Marks, mark_in, IsInside, IsOutside}
+use Rattle.cstn_minset.specs.Sheets.{Marks, mark_in, IsInsideLabel, IsOutside}
 use Rattle.cstn_minset.specs.Columns.{AreColumns, AreThose, mark_on}
 use Rattle.cstn_minset.proofs.BoundLemmas.{MarksEnd}
 use Rattle.cstn_minset.proofs.HeldLemmas.{got_set, got_other}
@@ -114,7 +115,7 @@ columns_taken records sheet between sheet' used i x last is inside at here other
 
 -- a column has the marks of its record
 pub inside_record : (records : List Record) (sheet : Marks) (used label : Label) (i : ℕ) (r : Record) → MarksEnd → AreColumns records sheet used →
-    slice_get records i ≡ Some r → (IsInside sheet i (marks label) ↔ IsWithin (marks r.label) (marks label))
+    slice_get records i ≡ Some r → (IsInsideLabel sheet i (marks label) ↔ IsWithin (marks r.label) (marks label))
 inside_record records sheet used label i r end is at = (
   λ inside p. elim (cases_lt p 52) [
     | inl small ↦ subst (λ (m : Mark). IsMarkWithin m (marks label p)) (is.told p i small ∙ ap (λ o. mark_on o p) at) (inside p small)
@@ -134,7 +135,7 @@ outside_record records sheet used label i r end is at = (
 )
 
 -- each column is within the label that the labels of all records are within
-pub columns_inside : (records : List Record) (sheet : Marks) (used : Label) → AreColumns records sheet used → (i : ℕ) → IsInside sheet i (marks used)
+pub columns_inside : (records : List Record) (sheet : Marks) (used : Label) → AreColumns records sheet used → (i : ℕ) → IsInsideLabel sheet i (marks used)
 columns_inside records sheet used is i p small = go (slice_get records i) refl
   where
     go : (o : Option Record) → slice_get records i ≡ o → IsMarkWithin (mark_in sheet p i) (marks used p)
@@ -144,7 +145,7 @@ columns_inside records sheet used is i p small = go (slice_get records i) refl
 -- ---- the words that are answered
 
 pub those_within : (records : List Record) (sheet : Marks) (used label : Label) (front word : ℕ) → MarksEnd → AreColumns records sheet used →
-    ((i : ℕ) → has_bit front i ≡ ltb i (length records)) → ((i : ℕ) → (has_bit word i ≡ true ↔ ((has_bit front i ≡ true) × IsInside sheet i (marks label)))) →
+    ((i : ℕ) → has_bit front i ≡ ltb i (length records)) → ((i : ℕ) → (has_bit word i ≡ true ↔ ((has_bit front i ≡ true) × IsInsideLabel sheet i (marks label)))) →
     AreThose (λ r. IsWithin (marks r.label) (marks label)) records word
 those_within records sheet used label front word end is first bits i = (
   λ set.
@@ -167,6 +168,14 @@ those_above records sheet used label front word end is first bits i = (
   λ there.
       let within = slice_get_within records i there.0 there.1 in
       (bits i).1 (first i ∙ lt-ltb i (length records) within, (outside_record records sheet used label i there.0 end is there.1).1 there.2),
+)
+
+-- no record's label has a label within it that isn't within the label of all
+pub none_above : (records : List Record) (sheet : Marks) (used label : Label) → AreColumns records sheet used → ¬ IsWithin (marks label) (marks used) →
+    AreThose (λ r. IsWithin (marks label) (marks r.label)) records 0
+none_above records sheet used label is not i = (
+  λ set. absurd (false≢true (sym (has_bit-zero i) ∙ set)),
+  λ there. absurd (not (within_through (marks label) (marks there.0.label) (marks used) there.2 (is.within i there.0 there.1))),
 )
 
 pub those_marking : (records : List Record) (sheet : Marks) (used : Label) (p word : ℕ) → p < 52 → AreColumns records sheet used →

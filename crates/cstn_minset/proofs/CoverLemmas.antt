@@ -5,11 +5,11 @@ use Rattle.std.proofs.lemmas.List.{get_or-set_other, get_or-set_same}
 use Rattle.std.proofs.lemmas.Bool.{cases_eq}
 use Rattle.std.proofs.lemmas.Option.{none-some}
 use Rattle.cstn_label.specs.declared.bounds.Bound.{Bound}
-use Rattle.cstn_minset.specs.Sets.{Entries, entry_at, IsPlaced, IsCovered, IsCleared, IsMinimal}
+use Rattle.cstn_minset.specs.Sets.{Entries, entry_at, IsPlaced, IsCoveredInSet, IsCleared, IsMinimal}
 use Rattle.cstn_minset.proofs.BoundLemmas.{MarksEnd, over_or_not, over_through, one_is_over}
 
 -- what was covered before a bound was placed is covered afterwards
-pub covering_grows : MarksEnd → (old cleared : Entries) (b c : Bound) (slot birth : ℕ) → IsCleared b old cleared → slot < length cleared → entry_at cleared slot ≡ None → IsCovered old c → IsCovered (set cleared slot (Some (birth, b))) c
+pub covering_grows : MarksEnd → (old cleared : Entries) (b c : Bound) (slot birth : ℕ) → IsCleared b old cleared → slot < length cleared → entry_at cleared slot ≡ None → IsCoveredInSet old c → IsCoveredInSet (set cleared slot (Some (birth, b))) c
 covering_grows end old cleared b c slot birth is inside free covered =
     let u : ℕ = covered.0 in
     let e : ℕ × Bound = covered.1 in

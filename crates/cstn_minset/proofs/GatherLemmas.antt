@@ -14,7 +14,7 @@ use Rattle.cstn_minset.specs.declared.columns.Record.{Record}
 use Rattle.cstn_minset.specs.declared.page.Page.{Page}
 use Rattle.cstn_minset.specs.Chains.{IsFirstKey}
 use Rattle.cstn_minset.specs.Columns.{AreThose}
-use Rattle.cstn_minset.specs.Pages.{Paged, IsPage, IsPageOf, on_page, held, numbered, most_pages}
+use Rattle.cstn_minset.specs.Pages.{Paged, IsPage, IsPageOf, on_page, held_records, numbered_pages, most_pages}
 use Rattle.cstn_minset.specs.Sets.{IsRecordAbove, IsRecordAt, AreSlotsOf}
 use Rattle.cstn_minset.proofs.BoundLemmas.{least_or_not}
 use Rattle.cstn_minset.proofs.HeldLemmas.{page_size}
@@ -23,15 +23,15 @@ use Rattle.cstn_minset.proofs.RowLemmas.{at_all}
 
 -- how many records the first n pages hold
 abbrev pub held_before : List Page → ℕ → ℕ
-held_before pages n = length (held (take n pages))
+held_before pages n = length (held_records (take n pages))
 
-before_all : (pages : List Page) (n : ℕ) → held_before pages n ≤ length (held pages)
+before_all : (pages : List Page) (n : ℕ) → held_before pages n ≤ length (held_records pages)
 before_all [] zero = omega arith
 before_all [] (suc n) = omega arith
 before_all (p ∷ pages) zero = omega arith
 before_all (p ∷ pages) (suc n) =
     let rest = before_all pages n in
-    omega (arith, rest, length-append (on_page p) (held pages), length-append (on_page p) (held (take n pages)))
+    omega (arith, rest, length-append (on_page p) (held_records pages), length-append (on_page p) (held_records (take n pages)))
 
 before_more : (pages : List Page) (m n : ℕ) → m ≤ n → held_before pages m ≤ held_before pages n
 before_more pages zero n le = omega arith
@@ -39,14 +39,14 @@ before_more [] (suc m) n le = omega arith
 before_more (p ∷ pages) (suc m) zero le = absurd (omega (arith, le))
 before_more (p ∷ pages) (suc m) (suc n) le =
     let rest = before_more pages m n (omega (arith, le)) in
-    omega (arith, rest, length-append (on_page p) (held (take m pages)), length-append (on_page p) (held (take n pages)))
+    omega (arith, rest, length-append (on_page p) (held_records (take m pages)), length-append (on_page p) (held_records (take n pages)))
 
 before_next : (pages : List Page) (k : ℕ) (p : Page) → slice_get pages k ≡ Some p → held_before pages k + length p.records.items ≡ held_before pages (suc k)
 before_next [] k p is = absurd (none-some p is)
-before_next (x ∷ pages) zero p is = rw (same_Some x p is) (omega (arith, page_size p, length-append (on_page p) (held (take 0 pages))))
+before_next (x ∷ pages) zero p is = rw (same_Some x p is) (omega (arith, page_size p, length-append (on_page p) (held_records (take 0 pages))))
 before_next (x ∷ pages) (suc k) p is =
     let rest = before_next pages k p is in
-    omega (arith, rest, length-append (on_page x) (held (take k pages)), length-append (on_page x) (held (take (suc k) pages)))
+    omega (arith, rest, length-append (on_page x) (held_records (take k pages)), length-append (on_page x) (held_records (take (suc k) pages)))
 
 -- the slot is that of a record of the row, or of the page, that is sought
 abbrev pub IsSlotIn : List Page → ℕ → ℤ → Option Prop → ℕ → Type 0
@@ -58,7 +58,7 @@ IsSlotOf records floor marking s = (i : ℕ) × (r : Record) × (slice_get recor
 -- the slots of what is sought on the pages before a place of the row are found, and no others
 pub record IsGathered (rows : Paged) (h : ℕ) (floor : ℤ) (marking : Option Prop) (found : List ℕ) (place : Option ℕ) : Type 0 where
   pub low : ℕ
-  pub here : IsFirstKey (numbered rows) h low place
+  pub here : IsFirstKey (numbered_pages rows) h low place
   pub all : (k i : ℕ) (r : Record) → k < low → IsRecordAt rows.pages h k i r → IsRecordAbove floor marking r → Contains found r.slot
   pub only : All (IsSlotIn rows.pages h floor marking) found
   pub few : length found ≤ held_before rows.pages low
@@ -69,7 +69,7 @@ all_none P k d inside = absurd (omega (arith, inside))
 pub all_mapped : {X : Type 0} (P Q : X → Type 0) (xs : List X) → ((x : X) → P x → Q x) → All P xs → All Q xs
 all_mapped P Q xs f all k d inside = f (get_or xs k d) (all k d inside)
 
-pub gathered_start : (rows : Paged) (h : ℕ) (floor : ℤ) (marking : Option Prop) (found : List ℕ) (place : Option ℕ) → found ≡ [] → IsFirstKey (numbered rows) h 0 place →
+pub gathered_start : (rows : Paged) (h : ℕ) (floor : ℤ) (marking : Option Prop) (found : List ℕ) (place : Option ℕ) → found ≡ [] → IsFirstKey (numbered_pages rows) h 0 place →
     IsGathered rows h floor marking found place
 gathered_start rows h floor marking found place none first = record {
   low = 0;
@@ -86,12 +86,12 @@ module _ (rows : Paged) (h : ℕ) (floor : ℤ) (marking : Option Prop) (found :
   reached : (k : ℕ) (walk : IsGathered rows h floor marking found (Some k)) → walk.low ≤ k
   reached k walk = omega (arith, walk.here.above, pages_are_numbers (most_pages rows.heads rows.capacity) rows.pages k h walk.here.key walk.here.there)
 
-  pub gathered_room : (k : ℕ) (p : Page) → IsGathered rows h floor marking found (Some k) → slice_get rows.pages k ≡ Some p → length found + length p.records.items ≤ length (held rows.pages)
+  pub gathered_room : (k : ℕ) (p : Page) → IsGathered rows h floor marking found (Some k) → slice_get rows.pages k ≡ Some p → length found + length p.records.items ≤ length (held_records rows.pages)
   gathered_room k p walk is =
       omega (arith, walk.few, before_more rows.pages walk.low k (reached k walk), before_next rows.pages k p is, before_all rows.pages (suc k))
 
   pub gathered_more : (k : ℕ) (p : Page) (more : List ℕ) (next : Option ℕ) → IsGathered rows h floor marking found (Some k) → slice_get rows.pages k ≡ Some p → p.head ≡ h →
-      AreSlotsOf p.records.items floor marking more → IsFirstKey (numbered rows) h (k + 1) next → IsGathered rows h floor marking (found ++ more) next
+      AreSlotsOf p.records.items floor marking more → IsFirstKey (numbered_pages rows) h (k + 1) next → IsGathered rows h floor marking (found ++ more) next
   gathered_more k p more next walk is head slots first = record {
     low = k + 1;
     here = first;
@@ -204,6 +204,50 @@ module _ (records : List Record) (floor : ℤ) (marking : Option Prop) (before n
     only = was.only;
     few = omega (arith, was.few, was.inside);
   }
+
+-- the slots of what is sought among the records up to a place were added, and the bits of a word are left from there on
+pub record AreAddedBut (records : List Record) (floor : ℤ) (marking : Option Prop) (before now : List ℕ) (word rest : ℕ) : Type 0 where
+  pub from : ℕ
+  pub added : AreAddedUpto records floor marking before now from
+  pub above : (k : ℕ) → from ≤ k → has_bit rest k ≡ has_bit word k
+  pub below : (k : ℕ) → k < from → has_bit rest k ≡ false
+
+module _ (records : List Record) (floor : ℤ) (marking : Option Prop) (before : List ℕ) (word : ℕ) where
+  pub left_start : AreAddedBut records floor marking before before word word
+  left_start = record {
+    from = 0;
+    added = added_start records floor marking before;
+    above = λ k from. refl;
+    below = λ k less. absurd (omega (arith, less));
+  }
+
+  pub left_end : (now : List ℕ) (rest : ℕ) → AreThose (IsWanted marking) records word → ((j : ℕ) → 0 ≤ j → has_bit rest j ≡ false) →
+      (was : AreAddedBut records floor marking before now word rest) → AreSlotsOf records floor marking was.added.more
+  left_end now rest those clear was =
+      added_end records floor marking before now word was.from those was.added (λ j from. sym (was.above j from) ∙ clear j (omega arith))
+
+  -- a bit that is left is one of the word, behind what was looked at
+  pub left_set : (now : List ℕ) (rest i : ℕ) (was : AreAddedBut records floor marking before now word rest) → has_bit rest i ≡ true → (was.from ≤ i) × (has_bit word i ≡ true)
+  left_set now rest i was set = elim (cases_lt i was.from) [
+    | inl low ↦ absurd (false≢true (sym (was.below i low) ∙ set))
+    | inr behind ↦ (behind, sym (was.above i behind) ∙ set)
+  ]
+
+  pub left_next : (now now' : List ℕ) (rest rest' i : ℕ) (x : Record) → AreThose (IsWanted marking) records word → AreAddedBut records floor marking before now word rest →
+      has_bit rest i ≡ true → ((j : ℕ) → j < i → has_bit rest j ≡ false) → has_bit rest' i ≡ false → ((k : ℕ) → (k ≡ i → ⊥) → has_bit rest' k ≡ has_bit rest k) →
+      slice_get records i ≡ Some x → (floor <ℤ x.least → now' ≡ now ++ x.slot ∷ []) → (x.least ≤ℤ floor → now' ≡ now) → AreAddedBut records floor marking before now' word rest'
+  left_next now now' rest rest' i x those was set least gone others here added passed = record {
+    from = i + 1;
+    added = added_next records floor marking before now word was.from those was.added i x now' at.0 at.1 (λ j from less. sym (was.above j from) ∙ least j less) here added passed;
+    above = λ k from. others k (λ same. omega (arith, same, from)) ∙ was.above k (omega (arith, from, at.0));
+    below = λ k less. elim (cases_eq k i) [
+      | inl same ↦ ap (has_bit rest') same ∙ gone
+      | inr other ↦ others k other ∙ least k (omega (arith, less, other))
+    ];
+  }
+    where
+      at : (was.from ≤ i) × (has_bit word i ≡ true)
+      at = left_set now rest i was set
 
 -- nothing is sought on a page whose least values end at the floor
 pub none_sought : (page : Page) (floor : ℤ) (marking : Option Prop) → IsPage page → page.high ≤ℤ floor → AreSlotsOf page.records.items floor marking []

@@ -8,8 +8,8 @@ use Rattle.std.proofs.lemmas.Option.{none-some, same_Some, some_pair_parts}
 use Rattle.cstn_pool.specs.Slots.{padded}
 use Rattle.cstn_pool.proofs.PaddedLemmas.{padded_length, padded_at, padded_set, padded_push}
 use Rattle.cstn_minset.specs.declared.page.Page.{Page}
-use Rattle.cstn_minset.specs.Chains.{Table, IsIn, IsFirstKey}
-use Rattle.cstn_minset.specs.Links.{Ring, IsPrev, AreLinks, AreNumbers}
+use Rattle.cstn_minset.specs.Chains.{SlotChains, IsIn, IsFirstKey}
+use Rattle.cstn_minset.specs.Links.{Ring, IsPrev, AreLinks, AreOwnKeys}
 use Rattle.cstn_minset.specs.Pages.{IsPageOf, homes, most_pages, IsInOrder, IsPaged}
 use Rattle.cstn_minset.proofs.LinkLemmas.{in_less}
 use Rattle.cstn_minset.proofs.HeldLemmas.{got_set, got_other}
@@ -45,10 +45,10 @@ page_in n k pages p is = padded_at None n k (homes 0 pages) ∙ home_there 0 k p
 pub in_page : (n h k j : ℕ) (pages : List Page) → IsIn (padded None n (homes 0 pages)) h k j → (j ≡ k) × IsPageOf pages h k
 in_page n h k j pages is = let found = there_home 0 h k j pages (sym (padded_at None n k (homes 0 pages)) ∙ is) in (omega (arith, found.0), found.1)
 
-pub pages_are_numbers : (n : ℕ) (pages : List Page) → AreNumbers (padded None n (homes 0 pages))
+pub pages_are_numbers : (n : ℕ) (pages : List Page) → AreOwnKeys (padded None n (homes 0 pages))
 pages_are_numbers n pages s h k is = (in_page n h s k pages is).0
 
-pub less_are_numbers : (table : Table) (slot : ℕ) → AreNumbers table → AreNumbers (set table slot None)
+pub less_are_numbers : (table : SlotChains) (slot : ℕ) → AreOwnKeys table → AreOwnKeys (set table slot None)
 less_are_numbers table slot numbers s h k is = numbers s h k (in_less table slot h s k is).1
 
 homes_set : (n i : ℕ) (pages : List Page) (q : Page) → homes n (set pages i q) ≡ set (homes n pages) i (Some (q.head, n + i))
@@ -134,32 +134,32 @@ first_page n h low pages (Some k) is = (in_page n h k is.key pages is.there).1
 
 -- what the contract of `insert` and of `last_below` says of links
 abbrev pub Inserts : Ring → Ring → ℕ → ℕ → Type 0
-Inserts old new slot before = (t : Table) (head key : ℕ) → AreLinks old t → head < old.heads → key < 2 ^ 128 → get_or t slot None ≡ None → ((u : ℕ) → ¬ IsIn t head u key) → IsPrev t old.slots old.heads head key before → AreLinks new (set t slot (Some (head, key)))
+Inserts old new slot before = (t : SlotChains) (head key : ℕ) → AreLinks old t → head < old.heads → key < 2 ^ 128 → get_or t slot None ≡ None → ((u : ℕ) → ¬ IsIn t head u key) → IsPrev t old.slots old.heads head key before → AreLinks new (set t slot (Some (head, key)))
 
 abbrev pub IsBelow : Ring → ℕ → ℕ → ℕ → Type 0
-IsBelow links head slot before = (t : Table) → AreLinks links t → AreNumbers t → IsPrev t links.slots links.heads head slot before
+IsBelow links head slot before = (t : SlotChains) → AreLinks links t → AreOwnKeys t → IsPrev t links.slots links.heads head slot before
 
-free_key : (table : Table) (head slot u : ℕ) → AreNumbers table → get_or table slot None ≡ None → IsIn table head u slot → ⊥
+free_key : (table : SlotChains) (head slot u : ℕ) → AreOwnKeys table → get_or table slot None ≡ None → IsIn table head u slot → ⊥
 free_key table head slot u numbers free there =
     let same : slot ≡ u = numbers u head slot there in
     none-some (head, slot) (sym free ∙ subst (λ v. IsIn table head v slot) (sym same) there)
 
-pub inserted_at : (links links' : Ring) (table : Table) (head slot before : ℕ) → AreLinks links table → AreNumbers table → head < links.heads → slot < 2 ^ 32 → get_or table slot None ≡ None → Inserts links links' slot before → IsBelow links head slot before → AreLinks links' (set table slot (Some (head, slot)))
+pub inserted_at : (links links' : Ring) (table : SlotChains) (head slot before : ℕ) → AreLinks links table → AreOwnKeys table → head < links.heads → slot < 2 ^ 32 → get_or table slot None ≡ None → Inserts links links' slot before → IsBelow links head slot before → AreLinks links' (set table slot (Some (head, slot)))
 inserted_at links links' table head slot before linked numbers inside small free step below =
     step table head slot linked inside (omega (arith, small)) free (λ u there. free_key table head slot u numbers free there) (below table linked numbers)
 
-set_twice : (table : Table) (i : ℕ) (x y : Option (ℕ × ℕ)) → set (set table i x) i y ≡ set table i y
+set_twice : (table : SlotChains) (i : ℕ) (x y : Option (ℕ × ℕ)) → set (set table i x) i y ≡ set table i y
 set_twice [] i x y = refl
 set_twice (z ∷ table) zero x y = refl
 set_twice (z ∷ table) (suc i) x y = ap (λ t. z ∷ t) (set_twice table i x y)
 
-emptied : (table : Table) (i : ℕ) → get_or (set table i None) i None ≡ None
+emptied : (table : SlotChains) (i : ℕ) → get_or (set table i None) i None ≡ None
 emptied [] i = refl
 emptied (z ∷ table) zero = refl
 emptied (z ∷ table) (suc i) = emptied table i
 
 -- a slot that was taken out of its chain is put into another one
-pub moved_to : (links links' links'' : Ring) (table : Table) (from head slot before : ℕ) → AreLinks links table → AreNumbers table → IsIn table from slot slot → head < links'.heads → slot < 2 ^ 32 → ((t : Table) (h k : ℕ) → AreLinks links t → IsIn t h slot k → AreLinks links' (set t slot None)) → Inserts links' links'' slot before → IsBelow links' head slot before → AreLinks links'' (set table slot (Some (head, slot)))
+pub moved_to : (links links' links'' : Ring) (table : SlotChains) (from head slot before : ℕ) → AreLinks links table → AreOwnKeys table → IsIn table from slot slot → head < links'.heads → slot < 2 ^ 32 → ((t : SlotChains) (h k : ℕ) → AreLinks links t → IsIn t h slot k → AreLinks links' (set t slot None)) → Inserts links' links'' slot before → IsBelow links' head slot before → AreLinks links'' (set table slot (Some (head, slot)))
 moved_to links links' links'' table from head slot before linked numbers there inside small less step below =
     rw (← set_twice table slot None (Some (head, slot)))
     (inserted_at links' links'' (set table slot None) head slot before (less table from slot linked there) (less_are_numbers table slot numbers) inside small (emptied table slot) step below)

@@ -9,7 +9,7 @@ use Rattle.cstn_label.specs.declared.bounds.Bound.{Bound}
 use Rattle.cstn_pool.specs.declared.slot_id.SlotId.{SlotId}
 use Rattle.cstn_pool.specs.Slots.{live_of}
 use Rattle.cstn_pool.proofs.PoolLemmas.{count_emptied}
-use Rattle.cstn_minset.specs.Sets.{Entries, IsPlaced, IsThere, IsWalk, IsMinimal}
+use Rattle.cstn_minset.specs.Sets.{Entries, IsPlaced, IsThere, IsWalkOfSlots, IsMinimal}
 use Rattle.cstn_minset.proofs.TableLemmas.{placed_within}
 
 -- placed ids in ascending birth are at most as many as the slots in use
@@ -29,7 +29,7 @@ ids_within T (x ∷ ids) there ascending =
 
 module _ (table : Entries) (Kind : Bound → Type 0) where
   -- each id of a walk is placed, with a bound of the kind and a birth from `low` on
-  pub walk_there : (low : ℕ) (ids : List SlotId) (k : ℕ) (id : SlotId) → IsWalk table Kind low ids → slice_get ids k ≡ Some id → (b : Bound) × IsPlaced table id.slot (id.birth, b) × Kind b × (low ≤ id.birth)
+  pub walk_there : (low : ℕ) (ids : List SlotId) (k : ℕ) (id : SlotId) → IsWalkOfSlots table Kind low ids → slice_get ids k ≡ Some id → (b : Bound) × IsPlaced table id.slot (id.birth, b) × Kind b × (low ≤ id.birth)
   walk_there low [] k id walk is = absurd (none-some id is)
   walk_there low (x ∷ ids) zero id walk is = rw (← same_Some x id is) (walk.0.bound, walk.0.there, walk.0.kind, walk.0.above)
   walk_there low (x ∷ ids) (suc k) id walk is =
@@ -37,7 +37,7 @@ module _ (table : Entries) (Kind : Bound → Type 0) where
       (rest.0, rest.1, rest.2, omega (arith, walk.0.above, rest.3))
 
   -- births ascend along a walk
-  pub walk_ascends : (low : ℕ) (ids : List SlotId) (j k : ℕ) (earlier later : SlotId) → IsWalk table Kind low ids → slice_get ids j ≡ Some earlier → slice_get ids k ≡ Some later → j < k → earlier.birth < later.birth
+  pub walk_ascends : (low : ℕ) (ids : List SlotId) (j k : ℕ) (earlier later : SlotId) → IsWalkOfSlots table Kind low ids → slice_get ids j ≡ Some earlier → slice_get ids k ≡ Some later → j < k → earlier.birth < later.birth
   walk_ascends low [] j k earlier later walk is next less = absurd (none-some earlier is)
   walk_ascends low (x ∷ ids) zero zero earlier later walk is next less = absurd (omega (arith, less))
   walk_ascends low (x ∷ ids) zero (suc k) earlier later walk is next less =
@@ -47,7 +47,7 @@ module _ (table : Entries) (Kind : Bound → Type 0) where
   walk_ascends low (x ∷ ids) (suc j) (suc k) earlier later walk is next less = walk_ascends (x.birth + 1) ids j k earlier later walk.1 is next (omega (arith, less))
 
   -- a walk meets each entry of the kind with a birth from `low` on
-  pub walk_meets : (nodes low : ℕ) (ids : List SlotId) (slot birth : ℕ) (b : Bound) → IsMinimal nodes table → IsWalk table Kind low ids → IsPlaced table slot (birth, b) → Kind b → low ≤ birth → (k : ℕ) × (slice_get ids k ≡ Some (record { slot = slot; birth = birth }))
+  pub walk_meets : (nodes low : ℕ) (ids : List SlotId) (slot birth : ℕ) (b : Bound) → IsMinimal nodes table → IsWalkOfSlots table Kind low ids → IsPlaced table slot (birth, b) → Kind b → low ≤ birth → (k : ℕ) × (slice_get ids k ≡ Some (record { slot = slot; birth = birth }))
   walk_meets nodes low [] slot birth b minimal walk placed kind from = absurd (omega (arith, from, walk slot (birth, b) placed kind))
   walk_meets nodes low (x ∷ ids) slot birth b minimal walk placed kind from = elim (walk.0.least slot (birth, b) placed kind) [
     | inl below ↦ absurd (omega (arith, from, below))
@@ -58,7 +58,7 @@ module _ (table : Entries) (Kind : Bound → Type 0) where
   ]
 
   -- a walk has at most as many ids as there are slots
-  pub walk_within : (low : ℕ) (ids : List SlotId) → IsWalk table Kind low ids → length ids ≤ length table
+  pub walk_within : (low : ℕ) (ids : List SlotId) → IsWalkOfSlots table Kind low ids → length ids ≤ length table
   walk_within low ids walk =
       let few = ids_within table ids (λ k id is. let found = walk_there low ids k id walk is in (found.0, found.1)) (λ j k earlier later a b less. walk_ascends low ids j k earlier later walk a b less) in
       omega (arith, few, count_by-le-length is_some table)

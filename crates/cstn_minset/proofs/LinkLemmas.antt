@@ -3,49 +3,49 @@ use Rattle.std.specs.Prelude.{None, Some}
 use Rattle.std.proofs.lemmas.List.{get_or-set_other, get_or-set_same, length-set, length-replicate}
 use Rattle.std.proofs.lemmas.Bool.{cases_eq, cases_lt}
 use Rattle.std.proofs.lemmas.Option.{some_pair_parts, none-some}
-use Rattle.cstn_minset.specs.Chains.{Table, IsIn, HasLeastKey}
-use Rattle.cstn_minset.specs.Links.{IsStart, IsStop, IsGap, IsNext, IsPrev, IsKeyed, IsLinked, AreEnds}
+use Rattle.cstn_minset.specs.Chains.{SlotChains, IsIn, HasLeastKey}
+use Rattle.cstn_minset.specs.Links.{IsStart, IsStop, IsGap, IsNextSlot, IsPrev, IsKeyed, IsLinked, AreEnds}
 
 -- a slot that is in a chain is inside the table
-pub in_inside : (T : Table) (h s k : ℕ) → IsIn T h s k → s < length T
+pub in_inside : (T : SlotChains) (h s k : ℕ) → IsIn T h s k → s < length T
 in_inside [] h s k is = absurd (none-some (h, k) is)
 in_inside (x ∷ T) h zero k is = omega arith
 in_inside (x ∷ T) h (suc s) k is = let rest = in_inside T h s k is in omega arith
 
-pub same_in : (T : Table) (s h k h' k' : ℕ) → IsIn T h s k → IsIn T h' s k' → (h ≡ h') × (k ≡ k')
+pub same_in : (T : SlotChains) (s h k h' k' : ℕ) → IsIn T h s k → IsIn T h' s k' → (h ≡ h') × (k ≡ k')
 same_in T s h k h' k' a b = some_pair_parts h h' k k' (sym a ∙ b)
 
 -- which slots are in chains after one was put in
-pub in_more : (T : Table) (slot head key h u j : ℕ) → slot < length T → IsIn (set T slot (Some (head, key))) h u j → ((u ≡ slot) × (h ≡ head) × (j ≡ key)) ⊎ ((u ≢ slot) × IsIn T h u j)
+pub in_more : (T : SlotChains) (slot head key h u j : ℕ) → slot < length T → IsIn (set T slot (Some (head, key))) h u j → ((u ≡ slot) × (h ≡ head) × (j ≡ key)) ⊎ ((u ≢ slot) × IsIn T h u j)
 in_more T slot head key h u j inside is = elim (cases_eq u slot) [
   | inl same ↦ (let here = sym (get_or-set_same T slot (Some (head, key)) None inside) ∙ rw same at is in
       let both = some_pair_parts head h key j here in inl (same, sym both.0, sym both.1))
   | inr other ↦ inr (other, sym (get_or-set_other T slot u (Some (head, key)) None other) ∙ is)
 ]
 
-pub more_in : (T : Table) (slot head key h u j : ℕ) → u ≢ slot → IsIn T h u j → IsIn (set T slot (Some (head, key))) h u j
+pub more_in : (T : SlotChains) (slot head key h u j : ℕ) → u ≢ slot → IsIn T h u j → IsIn (set T slot (Some (head, key))) h u j
 more_in T slot head key h u j other is = get_or-set_other T slot u (Some (head, key)) None other ∙ is
 
-pub new_in : (T : Table) (slot head key : ℕ) → slot < length T → IsIn (set T slot (Some (head, key))) head slot key
+pub new_in : (T : SlotChains) (slot head key : ℕ) → slot < length T → IsIn (set T slot (Some (head, key))) head slot key
 new_in T slot head key inside = get_or-set_same T slot (Some (head, key)) None inside
 
 -- which slots are in chains after one was taken out
-none_set : (T : Table) (slot : ℕ) (e : ℕ × ℕ) → get_or (set T slot None) slot None ≡ Some e → ⊥
+none_set : (T : SlotChains) (slot : ℕ) (e : ℕ × ℕ) → get_or (set T slot None) slot None ≡ Some e → ⊥
 none_set [] slot e is = cc
 none_set (x ∷ T) zero e is = cc
 none_set (x ∷ T) (suc slot) e is = none_set T slot e is
 
-pub in_less : (T : Table) (slot h u j : ℕ) → IsIn (set T slot None) h u j → (u ≢ slot) × IsIn T h u j
+pub in_less : (T : SlotChains) (slot h u j : ℕ) → IsIn (set T slot None) h u j → (u ≢ slot) × IsIn T h u j
 in_less T slot h u j is = elim (cases_eq u slot) [
   | inl same ↦ absurd (none_set T slot (h, j) (rw same at is))
   | inr other ↦ (other, sym (get_or-set_other T slot u None None other) ∙ is)
 ]
 
-pub less_in : (T : Table) (slot h u j : ℕ) → u ≢ slot → IsIn T h u j → IsIn (set T slot None) h u j
+pub less_in : (T : SlotChains) (slot h u j : ℕ) → u ≢ slot → IsIn T h u j → IsIn (set T slot None) h u j
 less_in T slot h u j other is = get_or-set_other T slot u None None other ∙ is
 
 -- two places that are followed by the same keys are one
-same_start : (T : Table) (n heads h i a low low' x : ℕ) → IsKeyed heads T → IsStart T n heads i h low → IsStart T n heads a h low' → low ≤ x → low' ≤ x → IsGap T h low x → IsGap T h low' x → i ≡ a
+same_start : (T : SlotChains) (n heads h i a low low' x : ℕ) → IsKeyed heads T → IsStart T n heads i h low → IsStart T n heads a h low' → low ≤ x → low' ≤ x → IsGap T h low x → IsGap T h low' x → i ≡ a
 same_start T n heads h i a low low' x keyed (inl one) (inl two) le le' gap gap' =
     let k_is : one.0 ≡ two.0 = elim (gap' i one.0 one.1) [ inl p ↦ elim (gap a two.0 two.1) [ inl q ↦ omega (arith, one.2, two.2) | inr q ↦ absurd (omega (arith, two.2)) ] | inr p ↦ absurd (omega (arith, one.2)) ] in
     keyed.apart i a h two.0 (rw k_is at one.1) two.1
@@ -56,7 +56,7 @@ same_start T n heads h i a low low' x keyed (inr one) (inl two) le le' gap gap' 
 same_start T n heads h i a low low' x keyed (inr one) (inr two) le le' gap gap' = one.0 ∙ sym two.0
 
 -- two places that come after the same keys are one
-same_stop : (T : Table) (n heads h i b high high' x : ℕ) → IsKeyed heads T → IsStop T n heads i h high → IsStop T n heads b h high' → x ≤ high → x ≤ high' → IsGap T h x high → IsGap T h x high' → i ≡ b
+same_stop : (T : SlotChains) (n heads h i b high high' x : ℕ) → IsKeyed heads T → IsStop T n heads i h high → IsStop T n heads b h high' → x ≤ high → x ≤ high' → IsGap T h x high → IsGap T h x high' → i ≡ b
 same_stop T n heads h i b high high' x keyed (inl one) (inl two) le le' gap gap' =
     let k_is : high ≡ high' = elim (gap' i high one) [ inl p ↦ absurd (omega arith) | inr p ↦ elim (gap b high' two) [ inl q ↦ absurd (omega arith) | inr q ↦ omega arith ] ] in
     keyed.apart i b h high' (rw k_is at one) two
@@ -67,37 +67,37 @@ same_stop T n heads h i b high high' x keyed (inr one) (inl two) le le' gap gap'
 same_stop T n heads h i b high high' x keyed (inr one) (inr two) le le' gap gap' = one.0 ∙ sym two.0
 
 -- a place of a chain is one of the n slots and the ends behind them
-pub start_inside : (T : Table) (n heads i h low : ℕ) → length T ≡ n → IsStart T n heads i h low → i < n + heads
+pub start_inside : (T : SlotChains) (n heads i h low : ℕ) → length T ≡ n → IsStart T n heads i h low → i < n + heads
 start_inside T n heads i h low size (inl one) = let l = in_inside T h i one.0 one.1 in omega arith
 start_inside T n heads i h low size (inr one) = omega (arith, one.0, one.1)
 
-pub stop_inside : (T : Table) (n heads i h high : ℕ) → length T ≡ n → IsStop T n heads i h high → i < n + heads
+pub stop_inside : (T : SlotChains) (n heads i h high : ℕ) → length T ≡ n → IsStop T n heads i h high → i < n + heads
 stop_inside T n heads i h high size (inl one) = let l = in_inside T h i high one in omega arith
 stop_inside T n heads i h high size (inr one) = omega (arith, one.0, one.1)
 
 -- starts and stops after a slot was put in
-start_more : (T : Table) (n heads slot head key i h low : ℕ) → length T ≡ n → slot < n → i ≢ slot → IsStart (set T slot (Some (head, key))) n heads i h low → IsStart T n heads i h low
+start_more : (T : SlotChains) (n heads slot head key i h low : ℕ) → length T ≡ n → slot < n → i ≢ slot → IsStart (set T slot (Some (head, key))) n heads i h low → IsStart T n heads i h low
 start_more T n heads slot head key i h low size inside other (inl one) =
     elim (in_more T slot head key h i one.0 (omega arith) one.1) [ inl p ↦ absurd (other p.0) | inr p ↦ inl (one.0, p.1, one.2) ]
 start_more T n heads slot head key i h low size inside other (inr one) = inr one
 
-stop_more : (T : Table) (n heads slot head key i h high : ℕ) → length T ≡ n → slot < n → i ≢ slot → IsStop (set T slot (Some (head, key))) n heads i h high → IsStop T n heads i h high
+stop_more : (T : SlotChains) (n heads slot head key i h high : ℕ) → length T ≡ n → slot < n → i ≢ slot → IsStop (set T slot (Some (head, key))) n heads i h high → IsStop T n heads i h high
 stop_more T n heads slot head key i h high size inside other (inl one) =
     elim (in_more T slot head key h i high (omega arith) one) [ inl p ↦ absurd (other p.0) | inr p ↦ inl p.1 ]
 stop_more T n heads slot head key i h high size inside other (inr one) = inr one
 
-more_start : (T : Table) (n heads slot head key i h low : ℕ) → get_or T slot None ≡ None → IsStart T n heads i h low → IsStart (set T slot (Some (head, key))) n heads i h low
+more_start : (T : SlotChains) (n heads slot head key i h low : ℕ) → get_or T slot None ≡ None → IsStart T n heads i h low → IsStart (set T slot (Some (head, key))) n heads i h low
 more_start T n heads slot head key i h low free (inl one) =
     inl (one.0, more_in T slot head key h i one.0 (λ e. none-some (h, one.0) (sym free ∙ rw e at one.1)) one.1, one.2)
 more_start T n heads slot head key i h low free (inr one) = inr one
 
-more_stop : (T : Table) (n heads slot head key i h high : ℕ) → get_or T slot None ≡ None → IsStop T n heads i h high → IsStop (set T slot (Some (head, key))) n heads i h high
+more_stop : (T : SlotChains) (n heads slot head key i h high : ℕ) → get_or T slot None ≡ None → IsStop T n heads i h high → IsStop (set T slot (Some (head, key))) n heads i h high
 more_stop T n heads slot head key i h high free (inl one) =
     inl (more_in T slot head key h i high (λ e. none-some (h, high) (sym free ∙ rw e at one)) one)
 more_stop T n heads slot head key i h high free (inr one) = inr one
 
 -- a key belongs between the places a and b, which are neighbors in its chain
-pub record IsRoom (T : Table) (n heads head key a b : ℕ) : Type 0 where
+pub record IsRoom (T : SlotChains) (n heads head key a b : ℕ) : Type 0 where
   pub low : ℕ
   pub high : ℕ
   pub start : IsStart T n heads a head low
@@ -107,32 +107,32 @@ pub record IsRoom (T : Table) (n heads head key a b : ℕ) : Type 0 where
   pub gap : IsGap T head low high
 
 -- a gap stays one where the new key isn't in it
-gap_more : (T : Table) (slot head key h low high : ℕ) → slot < length T → IsGap T h low high → (h ≡ head → (key < low) ⊎ (high ≤ key)) → IsGap (set T slot (Some (head, key))) h low high
+gap_more : (T : SlotChains) (slot head key h low high : ℕ) → slot < length T → IsGap T h low high → (h ≡ head → (key < low) ⊎ (high ≤ key)) → IsGap (set T slot (Some (head, key))) h low high
 gap_more T slot head key h low high inside gap out u j is =
     elim (in_more T slot head key h u j inside is) [
       | inl p ↦ elim (out p.1) [ inl q ↦ inl (omega (arith, p.2)) | inr q ↦ inr (omega (arith, p.2)) ]
       | inr p ↦ gap u j p.1
     ]
 
-gap_part : (T : Table) (h low high low' high' : ℕ) → IsGap T h low high → low ≤ low' → high' ≤ high → IsGap T h low' high'
+gap_part : (T : SlotChains) (h low high low' high' : ℕ) → IsGap T h low high → low ≤ low' → high' ≤ high → IsGap T h low' high'
 gap_part T h low high low' high' gap le ge u j is = elim (gap u j is) [ inl p ↦ inl (omega arith) | inr p ↦ inr (omega arith) ]
 
 -- a place is in one chain, at one key
-start_once : (T : Table) (n heads i h low h' low' : ℕ) → length T ≡ n → IsStart T n heads i h low → IsStart T n heads i h' low' → (h ≡ h') × (low ≡ low')
+start_once : (T : SlotChains) (n heads i h low h' low' : ℕ) → length T ≡ n → IsStart T n heads i h low → IsStart T n heads i h' low' → (h ≡ h') × (low ≡ low')
 start_once T n heads i h low h' low' size (inl one) (inl two) =
     let e = same_in T i h one.0 h' two.0 one.1 two.1 in (e.0, omega (arith, e.1, one.2, two.2))
 start_once T n heads i h low h' low' size (inl one) (inr two) = absurd (omega (arith, in_inside T h i one.0 one.1, two.0))
 start_once T n heads i h low h' low' size (inr one) (inl two) = absurd (omega (arith, in_inside T h' i two.0 two.1, one.0))
 start_once T n heads i h low h' low' size (inr one) (inr two) = (omega (arith, one.0, two.0), omega (arith, one.2, two.2))
 
-stop_once : (T : Table) (n heads i h high h' high' : ℕ) → length T ≡ n → IsStop T n heads i h high → IsStop T n heads i h' high' → (h ≡ h') × (high ≡ high')
+stop_once : (T : SlotChains) (n heads i h high h' high' : ℕ) → length T ≡ n → IsStop T n heads i h high → IsStop T n heads i h' high' → (h ≡ h') × (high ≡ high')
 stop_once T n heads i h high h' high' size (inl one) (inl two) = same_in T i h high h' high' one two
 stop_once T n heads i h high h' high' size (inl one) (inr two) = absurd (omega (arith, in_inside T h i high one, two.0))
 stop_once T n heads i h high h' high' size (inr one) (inl two) = absurd (omega (arith, in_inside T h' i high' two, one.0))
 stop_once T n heads i h high h' high' size (inr one) (inr two) = (omega (arith, one.0, two.0), omega (arith, one.2, two.2))
 
 -- links after a slot was put in: from the place before it, from the slot, and from the others
-after_before : (T : Table) (n heads slot head key a b h low : ℕ) → length T ≡ n → slot < n → a ≢ slot → IsRoom T n heads head key a b → IsStart (set T slot (Some (head, key))) n heads a h low → IsNext (set T slot (Some (head, key))) n heads h low slot
+after_before : (T : SlotChains) (n heads slot head key a b h low : ℕ) → length T ≡ n → slot < n → a ≢ slot → IsRoom T n heads head key a b → IsStart (set T slot (Some (head, key))) n heads a h low → IsNextSlot (set T slot (Some (head, key))) n heads h low slot
 after_before T n heads slot head key a b h low size inside other room start =
     let once = start_once T n heads a h low head room.low size (start_more T n heads slot head key a h low size inside other start) room.start in
     rw (once.0, once.1) (record {
@@ -142,7 +142,7 @@ after_before T n heads slot head key a b h low size inside other room start =
       gap = gap_more T slot head key head room.low key (omega arith) (gap_part T head room.low room.high room.low key room.gap (omega arith) (omega (arith, room.above))) (λ e. inr (omega arith));
     })
 
-after_slot : (T : Table) (n heads slot head key a b h low : ℕ) → length T ≡ n → slot < n → get_or T slot None ≡ None → IsRoom T n heads head key a b → IsStart (set T slot (Some (head, key))) n heads slot h low → IsNext (set T slot (Some (head, key))) n heads h low b
+after_slot : (T : SlotChains) (n heads slot head key a b h low : ℕ) → length T ≡ n → slot < n → get_or T slot None ≡ None → IsRoom T n heads head key a b → IsStart (set T slot (Some (head, key))) n heads slot h low → IsNextSlot (set T slot (Some (head, key))) n heads h low b
 after_slot T n heads slot head key a b h low size inside free room (inr one) = absurd (omega (arith, one.0))
 after_slot T n heads slot head key a b h low size inside free room (inl one) =
     elim (in_more T slot head key h slot one.0 (omega arith) one.1) [
@@ -156,7 +156,7 @@ after_slot T n heads slot head key a b h low size inside free room (inl one) =
           }))
     ]
 
-after_other : (T : Table) (n heads slot head key a b i l h low : ℕ) → length T ≡ n → IsKeyed heads T → slot < n → get_or T slot None ≡ None → i ≢ slot → i ≢ a → IsRoom T n heads head key a b → IsStart T n heads i h low → IsNext T n heads h low l → IsNext (set T slot (Some (head, key))) n heads h low l
+after_other : (T : SlotChains) (n heads slot head key a b i l h low : ℕ) → length T ≡ n → IsKeyed heads T → slot < n → get_or T slot None ≡ None → i ≢ slot → i ≢ a → IsRoom T n heads head key a b → IsStart T n heads i h low → IsNextSlot T n heads h low l → IsNextSlot (set T slot (Some (head, key))) n heads h low l
 after_other T n heads slot head key a b i l h low size keyed inside free other far room start was = record {
   high = was.high;
   stop = more_stop T n heads slot head key l h was.high free was.stop;
@@ -172,7 +172,7 @@ after_other T n heads slot head key a b i l h low size keyed inside free other f
       ]);
 }
 
-before_after : (T : Table) (n heads slot head key a b h high : ℕ) → length T ≡ n → slot < n → b ≢ slot → IsRoom T n heads head key a b → IsStop (set T slot (Some (head, key))) n heads b h high → IsPrev (set T slot (Some (head, key))) n heads h high slot
+before_after : (T : SlotChains) (n heads slot head key a b h high : ℕ) → length T ≡ n → slot < n → b ≢ slot → IsRoom T n heads head key a b → IsStop (set T slot (Some (head, key))) n heads b h high → IsPrev (set T slot (Some (head, key))) n heads h high slot
 before_after T n heads slot head key a b h high size inside other room stop =
     let once = stop_once T n heads b h high head room.high size (stop_more T n heads slot head key b h high size inside other stop) room.stop in
     rw (once.0, once.1) (record {
@@ -182,7 +182,7 @@ before_after T n heads slot head key a b h high size inside other room stop =
       gap = gap_more T slot head key head (key + 1) room.high (omega arith) (gap_part T head room.low room.high (key + 1) room.high room.gap (omega (arith, room.below)) (omega arith)) (λ e. inl (omega arith));
     })
 
-before_slot : (T : Table) (n heads slot head key a b h high : ℕ) → length T ≡ n → slot < n → get_or T slot None ≡ None → IsRoom T n heads head key a b → IsStop (set T slot (Some (head, key))) n heads slot h high → IsPrev (set T slot (Some (head, key))) n heads h high a
+before_slot : (T : SlotChains) (n heads slot head key a b h high : ℕ) → length T ≡ n → slot < n → get_or T slot None ≡ None → IsRoom T n heads head key a b → IsStop (set T slot (Some (head, key))) n heads slot h high → IsPrev (set T slot (Some (head, key))) n heads h high a
 before_slot T n heads slot head key a b h high size inside free room (inr one) = absurd (omega (arith, one.0))
 before_slot T n heads slot head key a b h high size inside free room (inl one) =
     elim (in_more T slot head key h slot high (omega arith) one) [
@@ -195,7 +195,7 @@ before_slot T n heads slot head key a b h high size inside free room (inl one) =
       })
     ]
 
-before_other : (T : Table) (n heads slot head key a b i l h high : ℕ) → length T ≡ n → IsKeyed heads T → slot < n → get_or T slot None ≡ None → i ≢ slot → i ≢ b → IsRoom T n heads head key a b → IsStop T n heads i h high → IsPrev T n heads h high l → IsPrev (set T slot (Some (head, key))) n heads h high l
+before_other : (T : SlotChains) (n heads slot head key a b i l h high : ℕ) → length T ≡ n → IsKeyed heads T → slot < n → get_or T slot None ≡ None → i ≢ slot → i ≢ b → IsRoom T n heads head key a b → IsStop T n heads i h high → IsPrev T n heads h high l → IsPrev (set T slot (Some (head, key))) n heads h high l
 before_other T n heads slot head key a b i l h high size keyed inside free other far room stop was = record {
   low = was.low;
   start = more_start T n heads slot head key l h was.low free was.start;
@@ -212,27 +212,27 @@ before_other T n heads slot head key a b i l h high size keyed inside free other
 }
 
 -- starts and stops after a slot was taken out
-start_less : (T : Table) (n heads slot i h low : ℕ) → slot < n → IsStart (set T slot None) n heads i h low → (i ≢ slot) × IsStart T n heads i h low
+start_less : (T : SlotChains) (n heads slot i h low : ℕ) → slot < n → IsStart (set T slot None) n heads i h low → (i ≢ slot) × IsStart T n heads i h low
 start_less T n heads slot i h low inside (inl one) = let p = in_less T slot h i one.0 one.1 in (p.0, inl (one.0, p.1, one.2))
 start_less T n heads slot i h low inside (inr one) = ((λ e. omega (arith, e, one.0)), inr one)
 
-stop_less : (T : Table) (n heads slot i h high : ℕ) → slot < n → IsStop (set T slot None) n heads i h high → (i ≢ slot) × IsStop T n heads i h high
+stop_less : (T : SlotChains) (n heads slot i h high : ℕ) → slot < n → IsStop (set T slot None) n heads i h high → (i ≢ slot) × IsStop T n heads i h high
 stop_less T n heads slot i h high inside (inl one) = let p = in_less T slot h i high one in (p.0, inl p.1)
 stop_less T n heads slot i h high inside (inr one) = ((λ e. omega (arith, e, one.0)), inr one)
 
-less_start : (T : Table) (n heads slot i h low : ℕ) → i ≢ slot → IsStart T n heads i h low → IsStart (set T slot None) n heads i h low
+less_start : (T : SlotChains) (n heads slot i h low : ℕ) → i ≢ slot → IsStart T n heads i h low → IsStart (set T slot None) n heads i h low
 less_start T n heads slot i h low other (inl one) = inl (one.0, less_in T slot h i one.0 other one.1, one.2)
 less_start T n heads slot i h low other (inr one) = inr one
 
-less_stop : (T : Table) (n heads slot i h high : ℕ) → i ≢ slot → IsStop T n heads i h high → IsStop (set T slot None) n heads i h high
+less_stop : (T : SlotChains) (n heads slot i h high : ℕ) → i ≢ slot → IsStop T n heads i h high → IsStop (set T slot None) n heads i h high
 less_stop T n heads slot i h high other (inl one) = inl (less_in T slot h i high other one)
 less_stop T n heads slot i h high other (inr one) = inr one
 
-gap_less : (T : Table) (slot h low high : ℕ) → IsGap T h low high → IsGap (set T slot None) h low high
+gap_less : (T : SlotChains) (slot h low high : ℕ) → IsGap T h low high → IsGap (set T slot None) h low high
 gap_less T slot h low high gap u j is = gap u j (in_less T slot h u j is).1
 
 -- without the slot the gaps on its sides are one
-gap_joined : (T : Table) (heads slot h k low high : ℕ) → IsKeyed heads T → IsIn T h slot k → low ≤ k → k + 1 ≤ high → IsGap T h low k → IsGap T h (k + 1) high → IsGap (set T slot None) h low high
+gap_joined : (T : SlotChains) (heads slot h k low high : ℕ) → IsKeyed heads T → IsIn T h slot k → low ≤ k → k + 1 ≤ high → IsGap T h low k → IsGap T h (k + 1) high → IsGap (set T slot None) h low high
 gap_joined T heads slot h k low high keyed there le le' gap gap' u j is =
     let p = in_less T slot h u j is in
     elim (gap u j p.1) [
@@ -241,15 +241,15 @@ gap_joined T heads slot h k low high keyed there le le' gap gap' u j is =
           elim (gap' u j p.1) [ inl r ↦ absurd (let e : j ≡ k = omega arith in p.0 (keyed.apart u slot h k (rw e at p.1) there)) | inr r ↦ inr r ]
     ]
 
-stop_not : (T : Table) (n heads slot h k b high : ℕ) → slot < n → IsIn T h slot k → k + 1 ≤ high → IsStop T n heads b h high → b ≢ slot
+stop_not : (T : SlotChains) (n heads slot h k b high : ℕ) → slot < n → IsIn T h slot k → k + 1 ≤ high → IsStop T n heads b h high → b ≢ slot
 stop_not T n heads slot h k b high inside there le (inl one) e = omega (arith, (same_in T slot h k h high there (rw e at one)).1)
 stop_not T n heads slot h k b high inside there le (inr one) e = omega (arith, one.0)
 
-start_not : (T : Table) (n heads slot h k a low : ℕ) → slot < n → IsIn T h slot k → low ≤ k → IsStart T n heads a h low → a ≢ slot
+start_not : (T : SlotChains) (n heads slot h k a low : ℕ) → slot < n → IsIn T h slot k → low ≤ k → IsStart T n heads a h low → a ≢ slot
 start_not T n heads slot h k a low inside there le (inl one) e = omega (arith, one.2, (same_in T slot h k h one.0 there (rw e at one.1)).1)
 start_not T n heads slot h k a low inside there le (inr one) e = omega (arith, one.0)
 
-after_joined : (T : Table) (n heads slot head k a b h low : ℕ) → length T ≡ n → slot < n → IsKeyed heads T → IsIn T head slot k → (P : IsPrev T n heads head k a) → (N : IsNext T n heads head (k + 1) b) → IsStart (set T slot None) n heads a h low → IsNext (set T slot None) n heads h low b
+after_joined : (T : SlotChains) (n heads slot head k a b h low : ℕ) → length T ≡ n → slot < n → IsKeyed heads T → IsIn T head slot k → (P : IsPrev T n heads head k a) → (N : IsNextSlot T n heads head (k + 1) b) → IsStart (set T slot None) n heads a h low → IsNextSlot (set T slot None) n heads h low b
 after_joined T n heads slot head k a b h low size inside keyed there P N start =
     let once = start_once T n heads a h low head P.low size (start_less T n heads slot a h low inside start).1 P.start in
     rw (once.0, once.1) (record {
@@ -259,7 +259,7 @@ after_joined T n heads slot head k a b h low size inside keyed there P N start =
       gap = gap_joined T heads slot head k P.low N.high keyed there P.up N.up P.gap N.gap;
     })
 
-after_rest : (T : Table) (n heads slot head k a b i l h low : ℕ) → length T ≡ n → slot < n → IsKeyed heads T → IsIn T head slot k → (P : IsPrev T n heads head k a) → i ≢ a → IsStart (set T slot None) n heads i h low → IsNext T n heads h low l → IsNext (set T slot None) n heads h low l
+after_rest : (T : SlotChains) (n heads slot head k a b i l h low : ℕ) → length T ≡ n → slot < n → IsKeyed heads T → IsIn T head slot k → (P : IsPrev T n heads head k a) → i ≢ a → IsStart (set T slot None) n heads i h low → IsNextSlot T n heads h low l → IsNextSlot (set T slot None) n heads h low l
 after_rest T n heads slot head k a b i l h low size inside keyed there P far start was =
     let was_start = (start_less T n heads slot i h low inside start).1 in
     record {
@@ -271,7 +271,7 @@ after_rest T n heads slot head k a b i l h low size inside keyed there P far sta
       gap = gap_less T slot h low was.high was.gap;
     }
 
-before_joined : (T : Table) (n heads slot head k a b h high : ℕ) → length T ≡ n → slot < n → IsKeyed heads T → IsIn T head slot k → (P : IsPrev T n heads head k a) → (N : IsNext T n heads head (k + 1) b) → IsStop (set T slot None) n heads b h high → IsPrev (set T slot None) n heads h high a
+before_joined : (T : SlotChains) (n heads slot head k a b h high : ℕ) → length T ≡ n → slot < n → IsKeyed heads T → IsIn T head slot k → (P : IsPrev T n heads head k a) → (N : IsNextSlot T n heads head (k + 1) b) → IsStop (set T slot None) n heads b h high → IsPrev (set T slot None) n heads h high a
 before_joined T n heads slot head k a b h high size inside keyed there P N stop =
     let once = stop_once T n heads b h high head N.high size (stop_less T n heads slot b h high inside stop).1 N.stop in
     rw (once.0, once.1) (record {
@@ -281,7 +281,7 @@ before_joined T n heads slot head k a b h high size inside keyed there P N stop 
       gap = gap_joined T heads slot head k P.low N.high keyed there P.up N.up P.gap N.gap;
     })
 
-before_rest : (T : Table) (n heads slot head k a b i l h high : ℕ) → length T ≡ n → slot < n → IsKeyed heads T → IsIn T head slot k → (N : IsNext T n heads head (k + 1) b) → i ≢ b → IsStop (set T slot None) n heads i h high → IsPrev T n heads h high l → IsPrev (set T slot None) n heads h high l
+before_rest : (T : SlotChains) (n heads slot head k a b i l h high : ℕ) → length T ≡ n → slot < n → IsKeyed heads T → IsIn T head slot k → (N : IsNextSlot T n heads head (k + 1) b) → i ≢ b → IsStop (set T slot None) n heads i h high → IsPrev T n heads h high l → IsPrev (set T slot None) n heads h high l
 before_rest T n heads slot head k a b i l h high size inside keyed there N far stop was =
     let was_stop = (stop_less T n heads slot i h high inside stop).1 in
     record {
@@ -306,7 +306,7 @@ at_others xs i a v w k other far = get_or-set_other (set xs i v) a k w 0 far ∙
 two_set : (xs : List ℕ) (i a v w : ℕ) → length (set (set xs i v) a w) ≡ length xs
 two_set xs i a v w = length-set (set xs i v) a w ∙ length-set xs i v
 
-keyed_more : (T : Table) (heads slot head key : ℕ) → slot < length T → head < heads → key < 2 ^ 128 → ((u : ℕ) → IsIn T head u key → ⊥) → IsKeyed heads T → IsKeyed heads (set T slot (Some (head, key)))
+keyed_more : (T : SlotChains) (heads slot head key : ℕ) → slot < length T → head < heads → key < 2 ^ 128 → ((u : ℕ) → IsIn T head u key → ⊥) → IsKeyed heads T → IsKeyed heads (set T slot (Some (head, key)))
 keyed_more T heads slot head key inside in_heads small new keyed = record {
   in_range = λ s h k is. elim (in_more T slot head key h s k inside is) [ inl p ↦ (omega (arith, p.1), omega (arith, p.2)) | inr p ↦ keyed.in_range s h k p.1 ];
   apart = λ s t h k is also.
@@ -316,13 +316,13 @@ keyed_more T heads slot head key inside in_heads small new keyed = record {
       ];
 }
 
-keyed_less : (T : Table) (heads slot : ℕ) → IsKeyed heads T → IsKeyed heads (set T slot None)
+keyed_less : (T : SlotChains) (heads slot : ℕ) → IsKeyed heads T → IsKeyed heads (set T slot None)
 keyed_less T heads slot keyed = record {
   in_range = λ s h k is. keyed.in_range s h k (in_less T slot h s k is).1;
   apart = λ s t h k is also. keyed.apart s t h k (in_less T slot h s k is).1 (in_less T slot h t k also).1;
 }
 
-room_of : (T : Table) (n heads head key a b : ℕ) → key < 2 ^ 128 → ((u : ℕ) → IsIn T head u key → ⊥) → (P : IsPrev T n heads head key a) → IsNext T n heads head P.low b → IsRoom T n heads head key a b
+room_of : (T : SlotChains) (n heads head key a b : ℕ) → key < 2 ^ 128 → ((u : ℕ) → IsIn T head u key → ⊥) → (P : IsPrev T n heads head key a) → IsNextSlot T n heads head P.low b → IsRoom T n heads head key a b
 room_of T n heads head key a b small new P N = record {
   low = P.low;
   high = N.high;
@@ -337,9 +337,9 @@ room_of T n heads head key a b small new P N = record {
     higher (inl one) = elim (P.gap b N.high one) [ inl p ↦ absurd (omega (arith, N.up)) | inr p ↦ elim (cases_eq N.high key) [ inl e ↦ absurd (new b (rw e at one)) | inr e ↦ omega arith ] ]
     higher (inr one) = omega (arith, one.2)
 
-pub inserted : (T : Table) (n heads slot head key a b : ℕ) (next prev : List ℕ) → IsLinked n heads T next prev → slot < n → head < heads → key < 2 ^ 128 → get_or T slot None ≡ None → ((u : ℕ) → IsIn T head u key → ⊥) → (P : IsPrev T n heads head key a) → b ≡ get_or next a 0 → IsLinked n heads (set T slot (Some (head, key))) (set (set next slot b) a slot) (set (set prev slot a) b slot)
+pub inserted : (T : SlotChains) (n heads slot head key a b : ℕ) (next prev : List ℕ) → IsLinked n heads T next prev → slot < n → head < heads → key < 2 ^ 128 → get_or T slot None ≡ None → ((u : ℕ) → IsIn T head u key → ⊥) → (P : IsPrev T n heads head key a) → b ≡ get_or next a 0 → IsLinked n heads (set T slot (Some (head, key))) (set (set next slot b) a slot) (set (set prev slot a) b slot)
 inserted T n heads slot head key a b next prev linked inside in_heads small free new P b_is =
-    let N : IsNext T n heads head P.low b = rw b_is (linked.after a head P.low P.start) in
+    let N : IsNextSlot T n heads head P.low b = rw b_is (linked.after a head P.low P.start) in
     let room = room_of T n heads head key a b small new P N in
     let a_not : a ≢ slot = λ e. start_at e P.start in
     let b_not : b ≢ slot = λ e. stop_at e N.high N.stop in
@@ -379,13 +379,13 @@ inserted T n heads slot head key a b next prev linked inside in_heads small free
     stop_at e high (inl one) = none-some (head, high) (sym free ∙ rw e at one)
     stop_at e high (inr one) = omega (arith, one.0)
 
-pub removed : (T : Table) (n heads slot head k : ℕ) (next prev : List ℕ) → IsLinked n heads T next prev → IsIn T head slot k → IsLinked n heads (set T slot None) (set next (get_or prev slot 0) (get_or next slot 0)) (set prev (get_or next slot 0) (get_or prev slot 0))
+pub removed : (T : SlotChains) (n heads slot head k : ℕ) (next prev : List ℕ) → IsLinked n heads T next prev → IsIn T head slot k → IsLinked n heads (set T slot None) (set next (get_or prev slot 0) (get_or next slot 0)) (set prev (get_or next slot 0) (get_or prev slot 0))
 removed T n heads slot head k next prev linked there =
     let a : ℕ = get_or prev slot 0 in
     let b : ℕ = get_or next slot 0 in
     let inside : slot < n = omega (arith, in_inside T head slot k there, linked.size) in
     let P : IsPrev T n heads head k a = linked.before slot head k (inl there) in
-    let N : IsNext T n heads head (k + 1) b = linked.after slot head (k + 1) (inl (k, there, refl)) in
+    let N : IsNextSlot T n heads head (k + 1) b = linked.after slot head (k + 1) (inl (k, there, refl)) in
     let a_in = start_inside T n heads a head P.low linked.size P.start in
     let b_in = stop_inside T n heads b head N.high linked.size N.stop in
     record {
@@ -407,41 +407,41 @@ removed T n heads slot head k next prev linked there =
     }
 
 -- what is read of the links is the next place, or the place before
-pub next_of : (T : Table) (n heads i h low l : ℕ) (next prev : List ℕ) → IsLinked n heads T next prev → IsStart T n heads i h low → l ≡ get_or next i 0 → IsNext T n heads h low l
+pub next_of : (T : SlotChains) (n heads i h low l : ℕ) (next prev : List ℕ) → IsLinked n heads T next prev → IsStart T n heads i h low → l ≡ get_or next i 0 → IsNextSlot T n heads h low l
 next_of T n heads i h low l next prev linked start read = rw read (linked.after i h low start)
 
-pub prev_of : (T : Table) (n heads i h high l : ℕ) (next prev : List ℕ) → IsLinked n heads T next prev → IsStop T n heads i h high → l ≡ get_or prev i 0 → IsPrev T n heads h high l
+pub prev_of : (T : SlotChains) (n heads i h high l : ℕ) (next prev : List ℕ) → IsLinked n heads T next prev → IsStop T n heads i h high → l ≡ get_or prev i 0 → IsPrev T n heads h high l
 prev_of T n heads i h high l next prev linked stop read = rw read (linked.before i h high stop)
 
-next_least : (T : Table) (n heads h low l : ℕ) → IsNext T n heads h low l → l < n → HasLeastKey T h low l
+next_least : (T : SlotChains) (n heads h low l : ℕ) → IsNextSlot T n heads h low l → l < n → HasLeastKey T h low l
 next_least T n heads h low l is inside = go is.stop
   where
     go : IsStop T n heads l h is.high → HasLeastKey T h low l
     go (inl one) = record { key = is.high; there = one; above = is.up; least = is.gap }
     go (inr one) = absurd (omega (arith, one.0))
 
-next_none : (T : Table) (n heads h low l : ℕ) → length T ≡ n → IsKeyed heads T → IsNext T n heads h low l → n ≤ l → (u j : ℕ) → IsIn T h u j → j < low
+next_none : (T : SlotChains) (n heads h low l : ℕ) → length T ≡ n → IsKeyed heads T → IsNextSlot T n heads h low l → n ≤ l → (u j : ℕ) → IsIn T h u j → j < low
 next_none T n heads h low l size keyed is outside u j there = go is.stop
   where
     go : IsStop T n heads l h is.high → j < low
     go (inl one) = absurd (omega (arith, in_inside T h l is.high one))
     go (inr one) = elim (is.gap u j there) [ inl p ↦ p | inr p ↦ absurd (omega (arith, one.2, (keyed.in_range u h j there).1)) ]
 
-pub first_answers : (T : Table) (n heads head len l : ℕ) (next prev : List ℕ) → IsLinked n heads T next prev → head < heads → len ≡ n → l ≡ get_or next (len + head) 0 → (l < len → HasLeastKey T head 0 l) × (len ≤ l → (u j : ℕ) → IsIn T head u j → j < 0)
+pub first_answers : (T : SlotChains) (n heads head len l : ℕ) (next prev : List ℕ) → IsLinked n heads T next prev → head < heads → len ≡ n → l ≡ get_or next (len + head) 0 → (l < len → HasLeastKey T head 0 l) × (len ≤ l → (u j : ℕ) → IsIn T head u j → j < 0)
 first_answers T n heads head len l next prev linked in_heads size read =
-    let N : IsNext T n heads head 0 l = next_of T n heads (len + head) head 0 l next prev linked (inr (omega arith, in_heads, refl)) read in
+    let N : IsNextSlot T n heads head 0 l = next_of T n heads (len + head) head 0 l next prev linked (inr (omega arith, in_heads, refl)) read in
     ((λ h. next_least T n heads head 0 l N (omega arith)), (λ h. next_none T n heads head 0 l linked.size linked.keyed N (omega arith)))
 
 -- past the last chain there are no keys
-pub no_chain : (T : Table) (n heads head : ℕ) (next prev : List ℕ) → IsLinked n heads T next prev → heads ≤ head → (u j : ℕ) → IsIn T head u j → j < 0
+pub no_chain : (T : SlotChains) (n heads head : ℕ) (next prev : List ℕ) → IsLinked n heads T next prev → heads ≤ head → (u j : ℕ) → IsIn T head u j → j < 0
 no_chain T n heads head next prev linked beyond u j there = absurd (omega (arith, (linked.keyed.in_range u head j there).0))
 
-pub next_answers : (T : Table) (n heads h slot k len l : ℕ) (next prev : List ℕ) → IsLinked n heads T next prev → IsIn T h slot k → len ≡ n → l ≡ get_or next slot 0 → (l < len → HasLeastKey T h (k + 1) l) × (len ≤ l → (u j : ℕ) → IsIn T h u j → j < k + 1)
+pub next_answers : (T : SlotChains) (n heads h slot k len l : ℕ) (next prev : List ℕ) → IsLinked n heads T next prev → IsIn T h slot k → len ≡ n → l ≡ get_or next slot 0 → (l < len → HasLeastKey T h (k + 1) l) × (len ≤ l → (u j : ℕ) → IsIn T h u j → j < k + 1)
 next_answers T n heads h slot k len l next prev linked there size read =
-    let N : IsNext T n heads h (k + 1) l = next_of T n heads slot h (k + 1) l next prev linked (inl (k, there, refl)) read in
+    let N : IsNextSlot T n heads h (k + 1) l = next_of T n heads slot h (k + 1) l next prev linked (inl (k, there, refl)) read in
     ((λ h'. next_least T n heads h (k + 1) l N (omega arith)), (λ h'. next_none T n heads h (k + 1) l linked.size linked.keyed N (omega arith)))
 
-pub narrowed : (T : Table) (n heads h high key slot : ℕ) → IsPrev T n heads h high slot → key ≤ high → ((u : ℕ) → IsIn T h u key → ⊥) → ((k : ℕ) → IsIn T h slot k → k ≤ key) → IsPrev T n heads h key slot
+pub narrowed : (T : SlotChains) (n heads h high key slot : ℕ) → IsPrev T n heads h high slot → key ≤ high → ((u : ℕ) → IsIn T h u key → ⊥) → ((k : ℕ) → IsIn T h slot k → k ≤ key) → IsPrev T n heads h key slot
 narrowed T n heads h high key slot is le new small = record {
   low = is.low;
   start = is.start;
@@ -454,7 +454,7 @@ narrowed T n heads h high key slot is le new small = record {
     up (inr one) = omega (arith, one.2)
 
 -- the last slot with a key below `high` has such a key
-pub prev_below : (T : Table) (n heads h high slot k : ℕ) → length T ≡ n → IsPrev T n heads h high slot → IsIn T h slot k → k < high
+pub prev_below : (T : SlotChains) (n heads h high slot k : ℕ) → length T ≡ n → IsPrev T n heads h high slot → IsIn T h slot k → k < high
 prev_below T n heads h high slot k size is there = go is.start
   where
     go : IsStart T n heads slot h is.low → k < high
@@ -478,7 +478,7 @@ all_free n heads next prev next_size prev_size small next_ends prev_ends = recor
   before = before;
 }
   where
-    after : (i h low : ℕ) → IsStart (replicate n None) n heads i h low → IsNext (replicate n None) n heads h low (get_or next i 0)
+    after : (i h low : ℕ) → IsStart (replicate n None) n heads i h low → IsNextSlot (replicate n None) n heads h low (get_or next i 0)
     after i h low (inl one) = absurd (none_in n h i one.0 one.1)
     after i h low (inr one) = rw (one.0, next_ends h one.1, one.2) (record { high = 2 ^ 128; stop = inr (refl, one.1, refl); up = omega arith; gap = λ u j is. absurd (none_in n h u j is) })
 

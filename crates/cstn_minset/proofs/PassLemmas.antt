@@ -8,24 +8,24 @@ use Rattle.cstn_pool.specs.declared.slot_id.SlotId.{SlotId}
 use Rattle.cstn_minset.specs.declared.columns.Record.{Record}
 use Rattle.cstn_minset.specs.declared.page.Page.{Page}
 use Rattle.cstn_minset.specs.Pages.{Paged}
-use Rattle.cstn_minset.specs.Sets.{Entries, IsPlaced, IsListed, IsRecordAt, IsFirst, IsStored, bound_of}
-use Rattle.cstn_minset.specs.Passes.{IsCandidate, IsOnPage, IsOnPages, IsEarliest, earlier}
+use Rattle.cstn_minset.specs.Sets.{Entries, IsPlaced, HasItsRecord, IsRecordAt, IsEarliestOfKind, IsStored, bound_of}
+use Rattle.cstn_minset.specs.Passes.{IsCandidate, IsOnPage, IsOnPages, IsEarliestSlot, earlier_slot}
 use Rattle.cstn_minset.proofs.SetLemmas.{held_at}
 use Rattle.cstn_minset.proofs.StoredLemmas.{entry_in_slot, no_entry}
 
 -- the earliest of a group is that of one with the same members
-earliest_as : (A B : ℕ → ℕ → Type 0) (o : Option SlotId) → ((s n : ℕ) → A s n → B s n) → ((s n : ℕ) → B s n → A s n) → IsEarliest A o → IsEarliest B o
+earliest_as : (A B : ℕ → ℕ → Type 0) (o : Option SlotId) → ((s n : ℕ) → A s n → B s n) → ((s n : ℕ) → B s n → A s n) → IsEarliestSlot A o → IsEarliestSlot B o
 earliest_as A B None to from none = λ s n b. none s n (from s n b)
 earliest_as A B (Some id) to from is = (to id.slot id.birth is.0, λ s n b. is.1 s n (from s n b))
 
 -- the earlier of two is the earliest of both groups
 module _ (A B C : ℕ → ℕ → Type 0) (left : (s n : ℕ) → A s n → C s n) (right : (s n : ℕ) → B s n → C s n) (split : (s n : ℕ) → C s n → A s n ⊎ B s n) where
-  earliest_of : (a b : Option SlotId) → IsEarliest A a → IsEarliest B b → IsEarliest C (earlier a b)
+  earliest_of : (a b : Option SlotId) → IsEarliestSlot A a → IsEarliestSlot B b → IsEarliestSlot C (earlier_slot a b)
   earliest_of None b none is = earliest_as B C b right (λ s n c. elim (split s n c) [ inl x ↦ absurd (none s n x) | inr y ↦ y ]) is
   earliest_of (Some i) None is none = earliest_as A C (Some i) left (λ s n c. elim (split s n c) [ inl x ↦ x | inr y ↦ absurd (none s n y) ]) is
   earliest_of (Some i) (Some j) one other = go (nat_lt j.birth i.birth) refl
     where
-      go : (t : Bool) → nat_lt j.birth i.birth ≡ t → IsEarliest C (cond t (Some j) (Some i))
+      go : (t : Bool) → nat_lt j.birth i.birth ≡ t → IsEarliestSlot C (cond t (Some j) (Some i))
       go true less = (
         right j.slot j.birth other.0,
         λ s n c. elim (split s n c) [ inl x ↦ (let upto = one.1 s n x in grind arith) | inr y ↦ other.1 s n y ],
@@ -40,10 +40,10 @@ module _ (births : List ℕ) (Kind : Bound → Type 0) (low : ℕ) where
   abbrev pub IsUpto : ℕ → List Record → ℕ → ℕ → ℕ → Type 0
   IsUpto h rs n slot birth = (i : ℕ) × (r : Record) × (i < n) × (slice_get rs i ≡ Some r) × IsCandidate births Kind low h r slot birth
 
-  pub none_upto : (h : ℕ) (rs : List Record) → IsEarliest (IsUpto h rs 0) None
+  pub none_upto : (h : ℕ) (rs : List Record) → IsEarliestSlot (IsUpto h rs 0) None
   none_upto h rs = λ s n it. absurd (omega (arith, it.2))
 
-  pub upto_more : (h : ℕ) (rs : List Record) (n : ℕ) (x : Record) (best one : Option SlotId) → slice_get rs n ≡ Some x → IsEarliest (IsUpto h rs n) best → IsEarliest (IsCandidate births Kind low h x) one → IsEarliest (IsUpto h rs (n + 1)) (earlier best one)
+  pub upto_more : (h : ℕ) (rs : List Record) (n : ℕ) (x : Record) (best one : Option SlotId) → slice_get rs n ≡ Some x → IsEarliestSlot (IsUpto h rs n) best → IsEarliestSlot (IsCandidate births Kind low h x) one → IsEarliestSlot (IsUpto h rs (n + 1)) (earlier_slot best one)
   upto_more h rs n x best one here before is =
       earliest_of (IsUpto h rs n) (IsCandidate births Kind low h x) (IsUpto h rs (n + 1))
       (λ s b it. (it.0, it.1, omega (arith, it.2), it.3, it.4))
@@ -54,7 +54,7 @@ module _ (births : List ℕ) (Kind : Bound → Type 0) (low : ℕ) where
       ])
       best one before is
 
-  pub upto_all : (page : Page) (rs : List Record) (n : ℕ) (best : Option SlotId) → rs ≡ page.records.items → (length rs ≤ n) → IsEarliest (IsUpto page.head rs n) best → IsEarliest (IsOnPage births Kind low page) best
+  pub upto_all : (page : Page) (rs : List Record) (n : ℕ) (best : Option SlotId) → rs ≡ page.records.items → (length rs ≤ n) → IsEarliestSlot (IsUpto page.head rs n) best → IsEarliestSlot (IsOnPage births Kind low page) best
   upto_all page rs n best same past is =
       earliest_as (IsUpto page.head rs n) (IsOnPage births Kind low page) best
       (λ s b it. (it.0, it.1, rw same at it.3, it.4))
@@ -65,10 +65,10 @@ module _ (births : List ℕ) (Kind : Bound → Type 0) (low : ℕ) where
   abbrev pub AreUpto : List Page → ℕ → ℕ → ℕ → Type 0
   AreUpto pages n slot birth = (k : ℕ) × (page : Page) × (k < n) × (slice_get pages k ≡ Some page) × IsOnPage births Kind low page slot birth
 
-  pub none_are_upto : (pages : List Page) → IsEarliest (AreUpto pages 0) None
+  pub none_are_upto : (pages : List Page) → IsEarliestSlot (AreUpto pages 0) None
   none_are_upto pages = λ s n it. absurd (omega (arith, it.2))
 
-  pub are_upto_more : (pages : List Page) (n : ℕ) (x : Page) (best one : Option SlotId) → slice_get pages n ≡ Some x → IsEarliest (AreUpto pages n) best → IsEarliest (IsOnPage births Kind low x) one → IsEarliest (AreUpto pages (n + 1)) (earlier best one)
+  pub are_upto_more : (pages : List Page) (n : ℕ) (x : Page) (best one : Option SlotId) → slice_get pages n ≡ Some x → IsEarliestSlot (AreUpto pages n) best → IsEarliestSlot (IsOnPage births Kind low x) one → IsEarliestSlot (AreUpto pages (n + 1)) (earlier_slot best one)
   are_upto_more pages n x best one here before is =
       earliest_of (AreUpto pages n) (IsOnPage births Kind low x) (AreUpto pages (n + 1))
       (λ s b it. (it.0, it.1, omega (arith, it.2), it.3, it.4))
@@ -79,7 +79,7 @@ module _ (births : List ℕ) (Kind : Bound → Type 0) (low : ℕ) where
       ])
       best one before is
 
-  pub are_upto_all : (pages all : List Page) (n : ℕ) (best : Option SlotId) → pages ≡ all → (length pages ≤ n) → IsEarliest (AreUpto pages n) best → IsEarliest (IsOnPages births Kind low all) best
+  pub are_upto_all : (pages all : List Page) (n : ℕ) (best : Option SlotId) → pages ≡ all → (length pages ≤ n) → IsEarliestSlot (AreUpto pages n) best → IsEarliestSlot (IsOnPages births Kind low all) best
   are_upto_all pages all n best same past is =
       earliest_as (AreUpto pages n) (IsOnPages births Kind low all) best
       (λ s b it. (it.0, it.1, rw same at it.3, it.4))
@@ -94,7 +94,7 @@ module _ (births : List ℕ) (rows : Paged) (nodes : ℕ) (T : Entries) (Kind : 
     where
       none : (h k i : ℕ) (r : Record) → IsRecordAt rows.pages h k i r → r.slot ≡ u → ⊥
       none h k i r at slot =
-          let listed = held_at (IsListed T) rows.pages h k i r is.0.listed at in
+          let listed = held_at (HasItsRecord T) rows.pages h k i r is.0.listed at in
           let same : (listed.0, listed.1) ≡ e = same_Some (listed.0, listed.1) e (sym (subst (λ (s : ℕ). IsPlaced T s (listed.0, listed.1)) slot listed.2) ∙ there) in
           let bound : e.1 ≡ bound_of (at.0.head, r) = sym (ap (λ (x : ℕ × Bound). x.1) same) ∙ ap bound_of listed.3 ∙ ap (λ n. bound_of (n, r)) (sym at.2) in
           not (
@@ -132,7 +132,7 @@ module _ (births : List ℕ) (rows : Paged) (nodes : ℕ) (T : Entries) (Kind : 
       }) in
       (b, subst (λ (m : ℕ). IsPlaced T u (m, b)) candidate.birth_is (sym told), candidate.kind, candidate.above)
 
-  pub earliest_first : (answer : Option SlotId) → IsEarliest (IsOnPages births Kind low rows.pages) answer → IsFirst T Kind low answer
+  pub earliest_first : (answer : Option SlotId) → IsEarliestSlot (IsOnPages births Kind low rows.pages) answer → IsEarliestOfKind T Kind low answer
   earliest_first None none = λ u e there kind. elim (cases_lt e.0 low) [
     | inl less ↦ less
     | inr above ↦ absurd (placed_on_pages u e there kind above (none u e.0))

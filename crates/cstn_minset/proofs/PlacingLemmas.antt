@@ -4,16 +4,16 @@ use Rattle.std.specs.Prelude.{Option, Some, None, slice_get, ◌↔◌}
 use Rattle.std.proofs.lemmas.List.{get_or-set_other, get_or-set_same, length-set, length-replicate}
 use Rattle.std.proofs.lemmas.Option.{none-some, same_Some}
 use Rattle.cstn_label.specs.declared.bounds.Bound.{Bound}
-use Rattle.cstn_minset.specs.Sets.{Entries, entry_at, IsPlaced, IsOver}
+use Rattle.cstn_minset.specs.Sets.{Entries, entry_at, IsPlaced, IsBoundOver}
 use Rattle.cstn_minset.specs.Placings.{Placing, AfterPlacings, HaveOwnSlots, IsLastOver}
 use Rattle.cstn_minset.proofs.TableLemmas.{none_of, placed_more}
 
 -- none of the bounds dominates this one
 abbrev NoneOver : List Placing → Bound → Type 0
-NoneOver ps b = (j : ℕ) (q : Placing) → slice_get ps j ≡ Some q → ¬ IsOver q.bound b
+NoneOver ps b = (j : ℕ) (q : Placing) → slice_get ps j ≡ Some q → ¬ IsBoundOver q.bound b
 
-none_over_more : (p : Placing) (ps : List Placing) (b : Bound) → ¬ IsOver p.bound b → NoneOver ps b → NoneOver (p ∷ ps) b
-none_over_more p ps b first rest zero q at over = first (subst (λ (x : Placing). IsOver x.bound b) (sym (same_Some p q at)) over)
+none_over_more : (p : Placing) (ps : List Placing) (b : Bound) → ¬ IsBoundOver p.bound b → NoneOver ps b → NoneOver (p ∷ ps) b
+none_over_more p ps b first rest zero q at over = first (subst (λ (x : Placing). IsBoundOver x.bound b) (sym (same_Some p q at)) over)
 none_over_more p ps b first rest (suc j) q at over = rest j q at over
 
 -- the bound of a slot under its birth
@@ -23,14 +23,14 @@ placing slot e = record { id = record { slot = slot; birth = e.0 }; bound = e.1 
 later_first : (p : Placing) (ps : List Placing) → NoneOver ps p.bound → IsLastOver (p ∷ ps) 0 p
 later_first p ps none = record { there = refl; none_over = λ j q less at. from j q less at }
   where
-    from : (j : ℕ) (q : Placing) → 0 < j → slice_get (p ∷ ps) j ≡ Some q → ¬ IsOver q.bound p.bound
+    from : (j : ℕ) (q : Placing) → 0 < j → slice_get (p ∷ ps) j ≡ Some q → ¬ IsBoundOver q.bound p.bound
     from zero q less at = absurd (omega (arith, less))
     from (suc j) q less at = none j q at
 
 later_more : (p q : Placing) (ps : List Placing) (k : ℕ) → IsLastOver ps k q → IsLastOver (p ∷ ps) (suc k) q
 later_more p q ps k is = record { there = is.there; none_over = λ j r less at. from j r less at }
   where
-    from : (j : ℕ) (r : Placing) → suc k < j → slice_get (p ∷ ps) j ≡ Some r → ¬ IsOver r.bound q.bound
+    from : (j : ℕ) (r : Placing) → suc k < j → slice_get (p ∷ ps) j ≡ Some r → ¬ IsBoundOver r.bound q.bound
     from zero r less at = absurd (omega (arith, less))
     from (suc j) r less at = is.none_over j r (omega (arith, less)) at
 
@@ -97,7 +97,7 @@ placed_stays (p ∷ ps) before after zero q own is last =
     ∙ get_or-set_same cleared p.id.slot (Some (p.id.birth, p.bound)) None (omega (arith, own.inside 0 p refl, is.1.1.size)) in
     subst (λ (x : Placing). IsPlaced after x.id.slot (x.id.birth, x.bound)) same
     (stays_in ps is.0 after p.id.slot (p.id.birth, p.bound) is.2
-    (λ j r there. subst (λ (x : Placing). ¬ IsOver r.bound x.bound) (sym same) (last.none_over (suc j) r (omega arith) there))
+    (λ j r there. subst (λ (x : Placing). ¬ IsBoundOver r.bound x.bound) (sym same) (last.none_over (suc j) r (omega arith) there))
     (other_slot (length before) p ps own) here)
 placed_stays (p ∷ ps) before after (suc k) q own is last =
     let cleared = is.1.0 in

@@ -8,9 +8,9 @@ use Rattle.std.proofs.lemmas.Option.{same_Some, slice_get_within, get_or_from_sl
 use Rattle.cstn_pool.specs.Slots.{padded}
 use Rattle.cstn_minset.specs.declared.columns.Record.{Record}
 use Rattle.cstn_minset.specs.declared.page.Page.{Page}
-use Rattle.cstn_minset.specs.Chains.{Table, IsIn}
+use Rattle.cstn_minset.specs.Chains.{SlotChains, IsIn}
 use Rattle.cstn_minset.specs.Links.{Ring, AreLinks, SameSize}
-use Rattle.cstn_minset.specs.Pages.{IsPage, IsPageOf, held, homes, most_pages, AreOpened, IsInOrder, IsPaged}
+use Rattle.cstn_minset.specs.Pages.{IsPage, IsPageOf, held_records, homes, most_pages, AreOpened, IsInOrder, IsPaged}
 use Rattle.cstn_minset.proofs.HeldLemmas.{less_by_one, dense_pages}
 use Rattle.cstn_minset.proofs.HomeLemmas.{IsFit, Inserts, in_page, page_of_in, past_table, table_push, slice_get_push}
 
@@ -79,7 +79,7 @@ behind_first heads k pages own free = elim (cases_lt k heads) [
 ]
 
 -- where no page is of no row, and records find room, there is a page that was never used
-pub page_left : (heads capacity room : ℕ) (pages : List Page) (links : Ring) → IsPaged heads capacity pages links room → ((u j : ℕ) → IsIn (padded None (most_pages heads capacity) (homes 0 pages)) heads u j → j < 0) → length (held pages) ≤ capacity → length pages < most_pages heads capacity
+pub page_left : (heads capacity room : ℕ) (pages : List Page) (links : Ring) → IsPaged heads capacity pages links room → ((u j : ℕ) → IsIn (padded None (most_pages heads capacity) (homes 0 pages)) heads u j → j < 0) → length (held_records pages) ≤ capacity → length pages < most_pages heads capacity
 page_left heads capacity room pages links is none left = elim (cases_lt (length pages) (most_pages heads capacity)) [
   | inl less ↦ less
   | inr all ↦
@@ -96,11 +96,11 @@ page_left heads capacity room pages links is none left = elim (cases_lt (length 
 pub all_from : {X : Type 0} (P : X → Type 0) (xs : List X) → ((k : ℕ) (x : X) → slice_get xs k ≡ Some x → P x) → All P xs
 all_from P xs each k d inside = each k (get_or xs k d) (slice_get-get_or xs k d inside)
 
-held_none : (pages : List Page) → ((k : ℕ) (p : Page) → slice_get pages k ≡ Some p → p.records.items ≡ []) → held pages ≡ []
+held_none : (pages : List Page) → ((k : ℕ) (p : Page) → slice_get pages k ≡ Some p → p.records.items ≡ []) → held_records pages ≡ []
 held_none [] none = refl
 held_none (p ∷ pages) none = rw (none 0 p refl) (held_none pages (λ k q is. none (suc k) q is))
 
-pub opened_none : (heads : ℕ) (pages : List Page) → AreOpened heads pages → held pages ≡ []
+pub opened_none : (heads : ℕ) (pages : List Page) → AreOpened heads pages → held_records pages ≡ []
 opened_none heads pages is = held_none pages (λ k p there. (is.1 k p there).1)
 
 -- rows begin in order
@@ -124,7 +124,7 @@ opened_all heads capacity room pages links slots chains opened linked enough sma
 pub opened_more : (links links' : Ring) (h end : ℕ) (pages : List Page) (q : Page) → AreOpened h pages → AreLinks links (padded None links.slots (homes 0 pages)) → h < links.heads → h < links.slots → SameSize links links' → end ≡ links.slots + h → Inserts links links' h end → (q.head ≡ h) × (q.records.items ≡ []) × IsPage q → AreOpened (h + 1) (pages ++ q ∷ []) × AreLinks links' (padded None links'.slots (homes 0 (pages ++ q ∷ [])))
 opened_more links links' h end pages q opened linked inside slot size end_is step is = ((omega (arith, opened.0, length-append pages (q ∷ [])), each), subst (λ (n : ℕ). AreLinks links' (padded None n (homes 0 (pages ++ q ∷ [])))) (sym size.0) (rw (table_push links.slots pages q (omega (arith, opened.0, slot)), is.0, opened.0) linked'))
   where
-    T : Table
+    T : SlotChains
     T = padded None links.slots (homes 0 pages)
 
     each : (k : ℕ) (p : Page) → slice_get (pages ++ q ∷ []) k ≡ Some p → (p.head ≡ k) × (p.records.items ≡ []) × IsPage p

@@ -8,23 +8,23 @@ use Rattle.cstn_minset.specs.Columns.{AreThose}
 use Rattle.cstn_minset.specs.declared.columns.Record.{Record}
 use Rattle.cstn_minset.specs.declared.page.Page.{Page}
 use Rattle.cstn_minset.specs.Chains.{IsFirstKey}
-use Rattle.cstn_minset.specs.Pages.{Paged, IsPageOf, numbered, most_pages}
+use Rattle.cstn_minset.specs.Pages.{Paged, IsPageOf, numbered_pages, most_pages}
 use Rattle.cstn_minset.proofs.HomeLemmas.{first_page, page_of_in, pages_are_numbers}
 use Rattle.cstn_minset.specs.Sets.{IsNoneOf, IsNoneOn}
 
 -- a scan of a row stands at a page, and no record of the pages before it is of the kind
 pub record IsScanned (rows : Paged) (h : ℕ) (Kind : Record → Type 0) (place : Option ℕ) : Type 0 where
   pub low : ℕ
-  pub here : IsFirstKey (numbered rows) h low place
+  pub here : IsFirstKey (numbered_pages rows) h low place
   pub none : (k : ℕ) (p : Page) → slice_get rows.pages k ≡ Some p → p.head ≡ h → k < low → IsNoneOn p Kind
 
-pub scanned_start : (rows : Paged) (h : ℕ) (Kind : Record → Type 0) (place : Option ℕ) → IsFirstKey (numbered rows) h 0 place → IsScanned rows h Kind place
+pub scanned_start : (rows : Paged) (h : ℕ) (Kind : Record → Type 0) (place : Option ℕ) → IsFirstKey (numbered_pages rows) h 0 place → IsScanned rows h Kind place
 scanned_start rows h Kind place first = record { low = 0; here = first; none = λ k p is head less. absurd (omega (arith, less)) }
 
 pub scanned_page : (rows : Paged) (h k : ℕ) (Kind : Record → Type 0) → IsScanned rows h Kind (Some k) → IsPageOf rows.pages h k
 scanned_page rows h k Kind scan = first_page (most_pages rows.heads rows.capacity) h scan.low rows.pages (Some k) scan.here
 
-pub scanned_more : (rows : Paged) (h k : ℕ) (Kind : Record → Type 0) (next : Option ℕ) (p : Page) → IsScanned rows h Kind (Some k) → slice_get rows.pages k ≡ Some p → IsNoneOn p Kind → IsFirstKey (numbered rows) h (k + 1) next → IsScanned rows h Kind next
+pub scanned_more : (rows : Paged) (h k : ℕ) (Kind : Record → Type 0) (next : Option ℕ) (p : Page) → IsScanned rows h Kind (Some k) → slice_get rows.pages k ≡ Some p → IsNoneOn p Kind → IsFirstKey (numbered_pages rows) h (k + 1) next → IsScanned rows h Kind next
 scanned_more rows h k Kind next p scan is none first = record {
   low = k + 1;
   here = first;

@@ -14,9 +14,9 @@ use Rattle.cstn_label.specs.Read.{marks}
 use Rattle.cstn_pool.specs.declared.slot_id.SlotId.{SlotId}
 use Rattle.cstn_minset.specs.declared.columns.Record.{Record}
 use Rattle.cstn_minset.specs.declared.page.Page.{Page}
-use Rattle.cstn_minset.specs.Pages.{Paged, on_page, held, SameRows}
+use Rattle.cstn_minset.specs.Pages.{Paged, on_page, held_records, SameRows}
 use Rattle.cstn_minset.proofs.RowLemmas.{at_all, all_from}
-use Rattle.cstn_minset.specs.Sets.{Places, Entries, entry_at, IsPlaced, IsOver, IsCovered, IsCleared, record_of, records_from, IsListed, IsRecordAt, IsNoneOf, IsRecordOver, IsRecordUnder, IsMinimal, IsKept}
+use Rattle.cstn_minset.specs.Sets.{Places, Entries, entry_at, IsPlaced, IsBoundOver, IsCoveredInSet, IsCleared, record_of, records_from, HasItsRecord, IsRecordAt, IsNoneOf, IsRecordOver, IsRecordUnder, IsMinimal, IsKeptSet}
 use Rattle.cstn_minset.proofs.BoundLemmas.{MarksEnd, least_or_not, within_or_not, one_is_over}
 use Rattle.cstn_minset.proofs.TableLemmas.{placed_less, less_placed, minimal_less, minimal_none}
 
@@ -62,8 +62,8 @@ size_is [] = refl
 size_is (x ∷ xs) = let rest = size_is xs in omega (arith, rest, sum_by-cons (λ y. 1) x xs)
 
 -- as many records lie in the rows as there are bounds
-pub held_count : (rows : Paged) (nodes : ℕ) (T : Entries) → IsKept rows nodes T → length (held rows.pages) ≡ placed_count T
-held_count rows nodes T is = omega (arith, is.same (λ x. 1), size_is (held rows.pages), size_is (records_from 0 T))
+pub held_count : (rows : Paged) (nodes : ℕ) (T : Entries) → IsKeptSet rows nodes T → length (held_records rows.pages) ≡ placed_count T
+held_count rows nodes T is = omega (arith, is.same (λ x. 1), size_is (held_records rows.pages), size_is (records_from 0 T))
 
 pub count_less : (T : Entries) (s : ℕ) (e : ℕ × Bound) → IsPlaced T s e → placed_count (set T s None) < placed_count T
 count_less T s e is = omega (arith, records_emptied (λ x. 1) 0 s T e is, size_is (records_from 0 T), size_is (records_from 0 (set T s None)))
@@ -123,21 +123,21 @@ all_right P [] ys all = all
 all_right P (x ∷ xs) ys all = all_right P xs ys (all_tail P x (xs ++ ys) all)
 
 -- a record that lies on a page is one of all
-pub held_at : (P : ℕ × Record → Type 0) (pages : List Page) (h k i : ℕ) (r : Record) → All P (held pages) → IsRecordAt pages h k i r → P (h, r)
+pub held_at : (P : ℕ × Record → Type 0) (pages : List Page) (h k i : ℕ) (r : Record) → All P (held_records pages) → IsRecordAt pages h k i r → P (h, r)
 held_at P [] h k i r all at = absurd (none-some at.0 at.1)
 held_at P (p ∷ pages) h zero i r all at =
     let it : p ≡ at.0 = same_Some p at.0 at.1 in
     let head : p.head ≡ h = ap (λ x. x.head) it ∙ at.2 in
     let here : slice_get p.records.items i ≡ Some r = ap (λ x. slice_get x.records.items i) it ∙ at.3 in
     let pair : Record → ℕ × Record = λ x. (p.head, x) in
-    subst (λ (g : ℕ). P (g, r)) head (at_all P (on_page p) i (pair r) (all_left P (on_page p) (held pages) all) (slice_get-map pair p.records.items i ∙ ap (option_map pair) here))
-held_at P (p ∷ pages) h (suc k) i r all at = held_at P pages h k i r (all_right P (on_page p) (held pages) all) at
+    subst (λ (g : ℕ). P (g, r)) head (at_all P (on_page p) i (pair r) (all_left P (on_page p) (held_records pages) all) (slice_get-map pair p.records.items i ∙ ap (option_map pair) here))
+held_at P (p ∷ pages) h (suc k) i r all at = held_at P pages h k i r (all_right P (on_page p) (held_records pages) all) at
 
 -- what holds of each record on each page holds of all
-pub held_all : (P : ℕ × Record → Type 0) (pages : List Page) → ((h k i : ℕ) (r : Record) → IsRecordAt pages h k i r → P (h, r)) → All P (held pages)
+pub held_all : (P : ℕ × Record → Type 0) (pages : List Page) → ((h k i : ℕ) (r : Record) → IsRecordAt pages h k i r → P (h, r)) → All P (held_records pages)
 held_all P [] each = λ k d inside. absurd (omega (arith, inside))
 held_all P (p ∷ pages) each =
-    All-append P (on_page p) (held pages)
+    All-append P (on_page p) (held_records pages)
     (All-map P (λ x. (p.head, x)) p.records.items (all_from (λ x. P (p.head, x)) p.records.items (λ i r is. each p.head 0 i r (p, refl, refl, is))))
     (held_all P pages (λ h k i r at. each h (suc k) i r at))
 
@@ -158,12 +158,12 @@ sum_zero f (x ∷ xs) all =
     sum_by-cons f x xs ∙ rw (rest, all_head (λ y. f y ≡ 0) x xs all) refl
 
 -- where the rows have no record of the kind, no bound of the time-point is of the kind
-pub none_placed : (rows : Paged) (nodes : ℕ) (T : Entries) (h s : ℕ) (e : ℕ × Bound) (Kind : Record → Type 0) → IsKept rows nodes T → ((r : Record) → Kind r ⊎ ¬ Kind r) → IsNoneOf rows.pages h Kind → IsPlaced T s e → e.1.node.0 ≡ h → ¬ Kind (record_of s e.1).1
+pub none_placed : (rows : Paged) (nodes : ℕ) (T : Entries) (h s : ℕ) (e : ℕ × Bound) (Kind : Record → Type 0) → IsKeptSet rows nodes T → ((r : Record) → Kind r ⊎ ¬ Kind r) → IsNoneOf rows.pages h Kind → IsPlaced T s e → e.1.node.0 ≡ h → ¬ Kind (record_of s e.1).1
 none_placed rows nodes T h s e Kind is dec none placed node kind =
     let f : ℕ × Record → ℕ = λ x. weight (hit_or_not h Kind dec x) in
-    let all : All (λ x. f x ≡ 0) (held rows.pages) = held_all (λ x. f x ≡ 0) rows.pages (λ g k i r at. weight_no (hit_or_not h Kind dec (g, r)) (λ hit. none k i r (at.0, at.1, at.2 ∙ hit.0, at.3) hit.1)) in
+    let all : All (λ x. f x ≡ 0) (held_records rows.pages) = held_all (λ x. f x ≡ 0) rows.pages (λ g k i r at. weight_no (hit_or_not h Kind dec (g, r)) (λ hit. none k i r (at.0, at.1, at.2 ∙ hit.0, at.3) hit.1)) in
     let one : f (record_of (0 + s) e.1) ≡ 1 = ap (λ m. f (record_of m e.1)) (zero_plus s) ∙ weight_yes (hit_or_not h Kind dec (record_of s e.1)) (node, kind) in
-    omega (arith, sum_zero f (held rows.pages) all, is.same f, records_emptied f 0 s T e placed, one)
+    omega (arith, sum_zero f (held_records rows.pages) all, is.same f, records_emptied f 0 s T e placed, one)
   where
     zero_plus : (n : ℕ) → 0 + n ≡ n
     zero_plus n = omega arith
@@ -181,14 +181,14 @@ record_under_or_not end b r = elim (least_or_not r.least b.least) [
 ]
 
 -- a bound whose record dominates another bound of its time-point dominates it
-pub over_from : (b' b : Bound) (s h : ℕ) (r : Record) → record_of s b' ≡ (h, r) → h ≡ b.node.0 → IsRecordOver b r → IsOver b' b
+pub over_from : (b' b : Bound) (s h : ℕ) (r : Record) → record_of s b' ≡ (h, r) → h ≡ b.node.0 → IsRecordOver b r → IsBoundOver b' b
 over_from b' b s h r is node over = record {
   node = ap (λ x. x.0) is ∙ node;
   least = subst (λ v. b.least ≤ℤ v) (sym (ap (λ x. x.1.least) is)) over.0;
   label = subst (λ (l : Label). IsWithin (marks l) (marks b.label)) (sym (ap (λ x. x.1.label) is)) over.1;
 }
 
-pub under_from : (b' b : Bound) (s h : ℕ) (r : Record) → record_of s b' ≡ (h, r) → h ≡ b.node.0 → IsRecordUnder b r → IsOver b b'
+pub under_from : (b' b : Bound) (s h : ℕ) (r : Record) → record_of s b' ≡ (h, r) → h ≡ b.node.0 → IsRecordUnder b r → IsBoundOver b b'
 under_from b' b s h r is node under = record {
   node = sym (ap (λ x. x.0) is ∙ node);
   least = subst (λ v. v ≤ℤ b.least) (sym (ap (λ x. x.1.least) is)) under.0;
@@ -196,14 +196,14 @@ under_from b' b s h r is node under = record {
 }
 
 -- a bound was put in, and its record into the rows
-pub put_step : (rows rows' : Paged) (nodes s birth : ℕ) (b : Bound) (T : Entries) → IsKept rows nodes T → SameRows rows rows' → IsPermutation (record_of s b ∷ held rows.pages) (held rows'.pages) → s < length T → entry_at T s ≡ None → IsMinimal nodes (set T s (Some (birth, b))) → IsKept rows' nodes (set T s (Some (birth, b)))
+pub put_step : (rows rows' : Paged) (nodes s birth : ℕ) (b : Bound) (T : Entries) → IsKeptSet rows nodes T → SameRows rows rows' → IsPermutation (record_of s b ∷ held_records rows.pages) (held_records rows'.pages) → s < length T → entry_at T s ≡ None → IsMinimal nodes (set T s (Some (birth, b))) → IsKeptSet rows' nodes (set T s (Some (birth, b)))
 put_step rows rows' nodes s birth b T is sizes step inside free minimal = record {
   heads = sizes.0 ∙ is.heads;
   room = sizes.1 ∙ is.room ∙ sym (length-set T s (Some (birth, b)));
-  listed = All-permutation Listed (record_of s b ∷ held rows.pages) (held rows'.pages) step (all_cons Listed (record_of s b) (held rows.pages) (birth, b, get_or-set_same T s (Some (birth, b)) None inside, refl) (λ k d within. stays (get_or (held rows.pages) k d) (is.listed k d within)));
+  listed = All-permutation Listed (record_of s b ∷ held_records rows.pages) (held_records rows'.pages) step (all_cons Listed (record_of s b) (held_records rows.pages) (birth, b, get_or-set_same T s (Some (birth, b)) None inside, refl) (λ k d within. stays (get_or (held_records rows.pages) k d) (is.listed k d within)));
   same = λ f.
       let at : f (record_of (0 + s) b) ≡ f (record_of s b) = ap (λ m. f (record_of m b)) (zero_plus s) in
-      omega (arith, sum_by-IsPermutation f (record_of s b ∷ held rows.pages) (held rows'.pages) step, sum_by-cons f (record_of s b) (held rows.pages), is.same f, records_filled f 0 s T (birth, b) inside free, at);
+      omega (arith, sum_by-IsPermutation f (record_of s b ∷ held_records rows.pages) (held_records rows'.pages) step, sum_by-cons f (record_of s b) (held_records rows.pages), is.same f, records_filled f 0 s T (birth, b) inside free, at);
   minimal = minimal;
 }
   where
@@ -211,39 +211,39 @@ put_step rows rows' nodes s birth b T is sizes step inside free minimal = record
     zero_plus n = omega arith
 
     Listed : ℕ × Record → Type 0
-    Listed = IsListed (set T s (Some (birth, b)))
+    Listed = HasItsRecord (set T s (Some (birth, b)))
 
-    stays : (x : ℕ × Record) → IsListed T x → IsListed (set T s (Some (birth, b))) x
+    stays : (x : ℕ × Record) → HasItsRecord T x → HasItsRecord (set T s (Some (birth, b))) x
     stays x old = (old.0, old.1, get_or-set_other T s x.1.slot (Some (birth, b)) None (λ same. none-some (old.0, old.1) (sym free ∙ rw same at old.2)) ∙ old.2, old.3)
 
 -- a bound was taken out, and its record out of the rows
-pub take_step : (rows rows' : Paged) (nodes h : ℕ) (r : Record) (T : Entries) → IsKept rows nodes T → SameRows rows rows' → IsPermutation (held rows.pages) ((h, r) ∷ held rows'.pages) → IsKept rows' nodes (set T r.slot None)
+pub take_step : (rows rows' : Paged) (nodes h : ℕ) (r : Record) (T : Entries) → IsKeptSet rows nodes T → SameRows rows rows' → IsPermutation (held_records rows.pages) ((h, r) ∷ held_records rows'.pages) → IsKeptSet rows' nodes (set T r.slot None)
 take_step rows rows' nodes h r T is sizes step = record {
   heads = sizes.0 ∙ is.heads;
   room = sizes.1 ∙ is.room ∙ sym (length-set T r.slot None);
-  listed = λ k d within. stays (get_or (held rows'.pages) k d) (others k d within) (left k d within);
+  listed = λ k d within. stays (get_or (held_records rows'.pages) k d) (others k d within) (left k d within);
   same = same';
   minimal = minimal_less nodes r.slot T is.minimal;
 }
   where
-    whole : All (IsListed T) ((h, r) ∷ held rows'.pages)
-    whole = All-permutation (IsListed T) (held rows.pages) ((h, r) ∷ held rows'.pages) step is.listed
+    whole : All (HasItsRecord T) ((h, r) ∷ held_records rows'.pages)
+    whole = All-permutation (HasItsRecord T) (held_records rows.pages) ((h, r) ∷ held_records rows'.pages) step is.listed
 
-    here : IsListed T (h, r)
-    here = all_head (IsListed T) (h, r) (held rows'.pages) whole
+    here : HasItsRecord T (h, r)
+    here = all_head (HasItsRecord T) (h, r) (held_records rows'.pages) whole
 
-    left : All (IsListed T) (held rows'.pages)
-    left = all_tail (IsListed T) (h, r) (held rows'.pages) whole
+    left : All (HasItsRecord T) (held_records rows'.pages)
+    left = all_tail (HasItsRecord T) (h, r) (held_records rows'.pages) whole
 
     zero_plus : (n : ℕ) → 0 + n ≡ n
     zero_plus n = omega arith
 
-    same' : (f : ℕ × Record → ℕ) → sum_by f (held rows'.pages) ≡ sum_by f (records_from 0 (set T r.slot None))
+    same' : (f : ℕ × Record → ℕ) → sum_by f (held_records rows'.pages) ≡ sum_by f (records_from 0 (set T r.slot None))
     same' f =
         let at : f (record_of (0 + r.slot) here.1) ≡ f (h, r) = ap (λ m. f (record_of m here.1)) (zero_plus r.slot) ∙ ap f here.3 in
-        omega (arith, sum_by-IsPermutation f (held rows.pages) ((h, r) ∷ held rows'.pages) step, sum_by-cons f (h, r) (held rows'.pages), is.same f, records_emptied f 0 r.slot T (here.0, here.1) here.2, at)
+        omega (arith, sum_by-IsPermutation f (held_records rows.pages) ((h, r) ∷ held_records rows'.pages) step, sum_by-cons f (h, r) (held_records rows'.pages), is.same f, records_emptied f 0 r.slot T (here.0, here.1) here.2, at)
 
-    nothing : sum_by (at_slot r.slot) (held rows'.pages) ≡ 0
+    nothing : sum_by (at_slot r.slot) (held_records rows'.pages) ≡ 0
     nothing = same' (at_slot r.slot) ∙ no_slot 0 r.slot r.slot (set T r.slot None) (sym (zero_plus r.slot)) (gone T r.slot)
       where
         gone : (T : Entries) (s : ℕ) → entry_at (set T s None) s ≡ None
@@ -251,16 +251,16 @@ take_step rows rows' nodes h r T is sizes step = record {
         gone (x ∷ T) zero = refl
         gone (x ∷ T) (suc s) = gone T s
 
-    others : (k : ℕ) (d : ℕ × Record) → k < length (held rows'.pages) → (get_or (held rows'.pages) k d).1.slot ≢ r.slot
+    others : (k : ℕ) (d : ℕ × Record) → k < length (held_records rows'.pages) → (get_or (held_records rows'.pages) k d).1.slot ≢ r.slot
     others k d within = λ same.
-        let one = weight_yes (eq_or_not (get_or (held rows'.pages) k d).1.slot r.slot) same in
-        omega (arith, get_or-le-sum_by (at_slot r.slot) (held rows'.pages) k d within, nothing, one)
+        let one = weight_yes (eq_or_not (get_or (held_records rows'.pages) k d).1.slot r.slot) same in
+        omega (arith, get_or-le-sum_by (at_slot r.slot) (held_records rows'.pages) k d within, nothing, one)
 
-    stays : (x : ℕ × Record) → x.1.slot ≢ r.slot → IsListed T x → IsListed (set T r.slot None) x
+    stays : (x : ℕ × Record) → x.1.slot ≢ r.slot → HasItsRecord T x → HasItsRecord (set T r.slot None) x
     stays x other old = (old.0, old.1, less_placed T r.slot x.1.slot (old.0, old.1) other old.2, old.3)
 
 -- an empty set
-pub none_kept : (rows : Paged) (nodes n : ℕ) → rows.heads ≡ nodes → rows.capacity ≡ n → held rows.pages ≡ [] → IsKept rows nodes (replicate n None)
+pub none_kept : (rows : Paged) (nodes n : ℕ) → rows.heads ≡ nodes → rows.capacity ≡ n → held_records rows.pages ≡ [] → IsKeptSet rows nodes (replicate n None)
 none_kept rows nodes n heads room none = record {
   heads = heads;
   room = room ∙ sym (length-replicate n None);
@@ -278,21 +278,21 @@ pub record IsClearing (b : Bound) (old now : Places) : Type 0 where
   pub nodes : now.nodes ≡ old.nodes
   pub size : length now.table ≡ length old.table
   pub was : (s : ℕ) (e : ℕ × Bound) → IsPlaced now.table s e → IsPlaced old.table s e
-  pub kept : (s : ℕ) (e : ℕ × Bound) → IsPlaced old.table s e → ¬ IsOver b e.1 → IsPlaced now.table s e
+  pub kept : (s : ℕ) (e : ℕ × Bound) → IsPlaced old.table s e → ¬ IsBoundOver b e.1 → IsPlaced now.table s e
 
 pub clearing_start : (b : Bound) (old : Places) → IsClearing b old old
 clearing_start b old = record { nodes = refl; size = refl; was = λ s e is. is; kept = λ s e is not. is }
 
-pub clearing_more : (b : Bound) (old now next : Places) (s : ℕ) (e : ℕ × Bound) → IsClearing b old now → IsPlaced now.table s e → IsOver b e.1 → next ≡ record now { table = set now.table s None } → IsClearing b old next
+pub clearing_more : (b : Bound) (old now next : Places) (s : ℕ) (e : ℕ × Bound) → IsClearing b old now → IsPlaced now.table s e → IsBoundOver b e.1 → next ≡ record now { table = set now.table s None } → IsClearing b old next
 clearing_more b old now next s e is placed over next_is = rw next_is (record {
   nodes = is.nodes;
   size = length-set now.table s None ∙ is.size;
   was = λ u x there. is.was u x (placed_less now.table s u x there).1;
   kept = λ u x there not.
-      less_placed now.table s u x (λ same. not (subst (λ (y : ℕ × Bound). IsOver b y.1) (same_Some e x (sym placed ∙ rw same at (is.kept u x there not))) over)) (is.kept u x there not);
+      less_placed now.table s u x (λ same. not (subst (λ (y : ℕ × Bound). IsBoundOver b y.1) (same_Some e x (sym placed ∙ rw same at (is.kept u x there not))) over)) (is.kept u x there not);
 })
 
-pub clearing_end : (b : Bound) (old now : Places) → IsClearing b old now → ((s : ℕ) (e : ℕ × Bound) → IsPlaced now.table s e → ¬ IsOver b e.1) → IsCleared b old.table now.table
+pub clearing_end : (b : Bound) (old now : Places) → IsClearing b old now → ((s : ℕ) (e : ℕ × Bound) → IsPlaced now.table s e → ¬ IsBoundOver b e.1) → IsCleared b old.table now.table
 clearing_end b old now is none = record { size = is.size; was = is.was; none_under = none; kept = is.kept }
 
 abbrev pub places : ℕ → Entries → Places
@@ -300,8 +300,8 @@ places n T = record { nodes = n; table = T }
 
 -- the bound in a slot is the only one that it dominates, so that one is taken out
 pub lifted : (old new : Places) (b : Bound) (slot birth : ℕ) (t : Bool) → IsPlaced old.table slot (birth, b) → IsMinimal old.nodes old.table
-    → (IsTrue t → (s : ℕ) × (e : ℕ × Bound) × IsPlaced old.table s e × IsOver b e.1 × (new ≡ places old.nodes (set old.table s None)))
-    → (t ≡ false → (new ≡ old) × ((s : ℕ) (e : ℕ × Bound) → IsPlaced old.table s e → ¬ IsOver b e.1)) → new ≡ places old.nodes (set old.table slot None)
+    → (IsTrue t → (s : ℕ) × (e : ℕ × Bound) × IsPlaced old.table s e × IsBoundOver b e.1 × (new ≡ places old.nodes (set old.table s None)))
+    → (t ≡ false → (new ≡ old) × ((s : ℕ) (e : ℕ × Bound) → IsPlaced old.table s e → ¬ IsBoundOver b e.1)) → new ≡ places old.nodes (set old.table slot None)
 lifted old new b slot birth true placed minimal taken none =
     let out = taken refl in
     elim (cases_eq slot out.0) [
@@ -310,9 +310,9 @@ lifted old new b slot birth true placed minimal taken none =
     ]
 lifted old new b slot birth false placed minimal taken none = absurd ((none refl).1 slot (birth, b) placed (itself b))
   where
-    itself : (x : Bound) → IsOver x x
+    itself : (x : Bound) → IsBoundOver x x
     itself x = elim (one_is_over x x refl refl) [ inl over ↦ over | inr over ↦ over ]
 
-pub covers_as : (answer : Option SlotId) (T : Entries) (b : Bound) → IfSome answer (λ id. (c : Bound) × IsPlaced T id.slot (id.birth, c) × IsOver c b) → IfNone answer (¬ IsCovered T b) → (IsTrue (is_some answer) ↔ IsCovered T b)
+pub covers_as : (answer : Option SlotId) (T : Entries) (b : Bound) → IfSome answer (λ id. (c : Bound) × IsPlaced T id.slot (id.birth, c) × IsBoundOver c b) → IfNone answer (¬ IsCoveredInSet T b) → (IsTrue (is_some answer) ↔ IsCoveredInSet T b)
 covers_as None T b some none = (λ no. absurd (cc), λ covered. absurd (none covered))
 covers_as (Some id) T b some none = (λ y. (id.slot, (id.birth, some.0), some.1, some.2), λ covered. refl)

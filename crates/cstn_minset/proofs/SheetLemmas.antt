@@ -1,18 +1,17 @@
 -- The marks of labels side by side.
-use Rattle.std.proofs.Common.{ℕ, zero, ◌≡◌, ◌⊎◌, inl, inr, ◌+◌, ◌<◌, ◌≤◌, Bool, true, false, not, ◌||◌, ◌&&◌, List, length, get_or, set, replicate, bit_and, refl, sym, ap, subst, ◌∙◌, arith}
+use Rattle.std.proofs.Common.{ℕ, zero, ◌≡◌, ◌⊎◌, inl, inr, ◌<◌, ◌≤◌, Bool, true, false, cond, not, ◌||◌, ◌&&◌, List, length, get_or, set, replicate, bit_and, bit_or, refl, sym, ap, subst, ◌∙◌, arith}
 use Rattle.std.specs.Prelude.{◌↔◌}
 use Rattle.std.proofs.lemmas.Bool.{cases_eq, cases_lt, false≢true, false_from_ne_true}
-use Rattle.std.proofs.lemmas.List.{get_or-set_same, get_or-set_other, get_or-replicate, get_or_past, length-replicate}
+use Rattle.std.proofs.lemmas.List.{get_or-set_same, get_or-set_other, get_or-replicate, get_or_past, length-replicate, length-set}
 use Rattle.cstn_label.specs.declared.marks.Mark.{Mark}
 use Rattle.cstn_label.specs.declared.marks.Mark.TheVariants.{Absent}
-use Rattle.cstn_label.specs.Labels.{Label, IsMarkWithin, joined}
+use Rattle.cstn_label.specs.Labels.{IsMarkWithin}
 use Rattle.cstn_label.specs.Marks.{is_marked}
 use Rattle.cstn_label.specs.declared.labels.Label.{Label as TheLabel}
 use Rattle.cstn_label.specs.Words.{has_bit}
 use Rattle.cstn_label.specs.Read.{marks, mark_of}
-use Rattle.cstn_label.proofs.MarkLemmas.{absent_from_joined_left, absent_from_joined_right}
-use Rattle.cstn_label.proofs.WordLemmas.{has_bit_and, has_bit-zero}
-use Rattle.cstn_minset.specs.Sheets.{Marks, mark_in, IsInside, IsOutside, IsInNone, IsInAll}
+use Rattle.cstn_label.proofs.WordLemmas.{has_bit_and, has_bit_or, has_bit-zero}
+use Rattle.cstn_minset.specs.Sheets.{Marks, mark_in, IsInsideLabel, IsOutside, IsInNone, IsInAll}
 use Rattle.cstn_minset.proofs.BitLemmas.{IsPart, part_less}
 use Rattle.cstn_minset.proofs.BoundLemmas.{MarksEnd}
 
@@ -23,55 +22,61 @@ AreLiterals label positive negative = (p : ℕ) → mark_of (has_bit positive p)
 abbrev pub sheet_of : List ℕ → List ℕ → Marks
 sheet_of ys ns = record { positive = ys; negative = ns }
 
--- both words of p are written: the mark of label i on p, and the other marks
-module _ (ys ns : List ℕ) (p i v w : ℕ) (y_in : p < length ys) (n_in : p < length ns) where
-  pub mark_written : (a b : Bool) (m : Mark) → has_bit v i ≡ a → has_bit w i ≡ b → mark_of a b ≡ m → mark_in (sheet_of (set ys p v) (set ns p w)) p i ≡ m
-  mark_written a b m at_y at_n is = rw (get_or-set_same ys p v 0 y_in, get_or-set_same ns p w 0 n_in, at_y, at_n) is
+-- bit i is flipped in the words of the numbers but for those that are still to be looked at
+pub record AreFlippedBut (start words : List ℕ) (numbers i rest : ℕ) : Type 0 where
+  pub size : length words ≡ length start
+  pub part : IsPart rest numbers
+  pub flipped : (p : ℕ) → has_bit numbers p ≡ true → has_bit rest p ≡ false → has_bit (get_or words p 0) i ≡ not (has_bit (get_or start p 0) i)
+  pub left : (p : ℕ) → has_bit rest p ≡ true → get_or words p 0 ≡ get_or start p 0
+  pub kept : (p : ℕ) → has_bit numbers p ≡ false → get_or words p 0 ≡ get_or start p 0
+  pub others : (p k : ℕ) → (k ≡ i → ⊥) → has_bit (get_or words p 0) k ≡ has_bit (get_or start p 0) k
 
-  pub marks_kept : (q k : ℕ) → ((j : ℕ) → (j ≡ i → ⊥) → has_bit v j ≡ has_bit (get_or ys p 0) j) → ((j : ℕ) → (j ≡ i → ⊥) → has_bit w j ≡ has_bit (get_or ns p 0) j) →
-      ((q ≡ p) × (k ≡ i) → ⊥) → mark_in (sheet_of (set ys p v) (set ns p w)) q k ≡ mark_in (sheet_of ys ns) q k
-  marks_kept q k keep_y keep_n other = elim (cases_eq q p) [
-    | inr away ↦ rw (get_or-set_other ys p q v 0 away, get_or-set_other ns p q w 0 away) refl
-    | inl same ↦
-        let away : k ≡ i → ⊥ = λ at. other (same, at) in
-        subst (λ (x : ℕ). mark_in (sheet_of (set ys p v) (set ns p w)) x k ≡ mark_in (sheet_of ys ns) x k) (sym same)
-        (rw (get_or-set_same ys p v 0 y_in, get_or-set_same ns p w 0 n_in, keep_y k away, keep_n k away) refl)
-  ]
-
--- the marks of label i on the propositions below `index` are those of b, and its others those of a
-pub record IsReplacedUpto (start sheet : Marks) (a b : Label) (i index : ℕ) : Type 0 where
-  pub done : (q : ℕ) → q < 52 → q < index → mark_in sheet q i ≡ b q
-  pub left : (q : ℕ) → q < 52 → index ≤ q → mark_in sheet q i ≡ a q
-  pub others : (q k : ℕ) → (k ≡ i → ⊥) → mark_in sheet q k ≡ mark_in start q k
-
-both_absent : (a b both : Label) (q : ℕ) → both ≡ joined a b → both q ≡ Absent → (a q ≡ Absent) × (b q ≡ Absent)
-both_absent a b both q is none =
-    let here : joined a b q ≡ Absent = sym (ap (λ (f : Label). f q) is) ∙ none in
-    (absent_from_joined_left (a q) (b q) here, absent_from_joined_right (a q) (b q) here)
-
-pub replaced_more : (start sheet sheet' : Marks) (a b both : Label) (i index p : ℕ) (m : Mark) → IsReplacedUpto start sheet a b i index → both ≡ joined a b →
-    index ≤ p → ((q : ℕ) → index ≤ q → q < p → both q ≡ Absent) → mark_in sheet' p i ≡ m → m ≡ b p →
-    ((q k : ℕ) → ((q ≡ p) × (k ≡ i) → ⊥) → mark_in sheet' q k ≡ mark_in sheet q k) → IsReplacedUpto start sheet' a b i (p + 1)
-replaced_more start sheet sheet' a b both i index p m was is from none here mark others = record {
-  done = λ q small below. elim (cases_eq q p) [
-    | inl same ↦ subst (λ (x : ℕ). mark_in sheet' x i ≡ b x) (sym same) (here ∙ mark)
-    | inr other ↦ others q i (λ at. other at.0) ∙ elim (cases_lt q index) [
-      | inl before ↦ was.done q small before
-      | inr behind ↦
-          let gone = both_absent a b both q is (none q behind (omega (arith, below, other))) in
-          was.left q small behind ∙ gone.0 ∙ sym gone.1
-    ]
-  ];
-  left = λ q small above. others q i (λ at. omega (arith, at.0, above)) ∙ was.left q small (omega (arith, above, from));
-  others = λ q k away. others q k (λ at. away at.1) ∙ was.others q k away;
+pub flipped_start : (start : List ℕ) (numbers i : ℕ) → AreFlippedBut start start numbers i numbers
+flipped_start start numbers i = record {
+  size = refl;
+  part = λ k set. set;
+  flipped = λ p set out. absurd (false≢true (sym out ∙ set));
+  left = λ p set. refl;
+  kept = λ p out. refl;
+  others = λ p k away. refl;
 }
 
-pub replaced_end : (start sheet : Marks) (a b both : Label) (i index : ℕ) → IsReplacedUpto start sheet a b i index → both ≡ joined a b →
-    ((q : ℕ) → index ≤ q → both q ≡ Absent) → (p : ℕ) → p < 52 → mark_in sheet p i ≡ b p
-replaced_end start sheet a b both i index was is none p small = elim (cases_lt p index) [
-  | inl before ↦ was.done p small before
-  | inr behind ↦ (let gone = both_absent a b both p is (none p behind) in was.left p small behind ∙ gone.0 ∙ sym gone.1)
-]
+pub flipped_next : (start words : List ℕ) (numbers i rest rest' p v : ℕ) → p < length words → AreFlippedBut start words numbers i rest → has_bit rest p ≡ true →
+    has_bit rest' p ≡ false → ((k : ℕ) → (k ≡ p → ⊥) → has_bit rest' k ≡ has_bit rest k) → has_bit v i ≡ not (has_bit (get_or words p 0) i) →
+    ((k : ℕ) → (k ≡ i → ⊥) → has_bit v k ≡ has_bit (get_or words p 0) k) → AreFlippedBut start (set words p v) numbers i rest'
+flipped_next start words numbers i rest rest' p v inside was mine gone others here same = record {
+  size = length-set words p v ∙ was.size;
+  part = part_less rest rest' p gone others numbers was.part;
+  flipped = λ q has out. elim (cases_eq q p) [
+    | inl at ↦ subst (λ (n : ℕ). has_bit (get_or (set words p v) n 0) i ≡ not (has_bit (get_or start n 0) i)) (sym at)
+        (ap (λ w. has_bit w i) (get_or-set_same words p v 0 inside) ∙ here ∙ ap (λ w. not (has_bit w i)) (was.left p mine))
+    | inr away ↦ ap (λ w. has_bit w i) (get_or-set_other words p q v 0 away) ∙ was.flipped q has (sym (others q away) ∙ out)
+  ];
+  left = λ q has. elim (cases_eq q p) [
+    | inl at ↦ absurd (false≢true (sym gone ∙ sym (ap (has_bit rest') at) ∙ has))
+    | inr away ↦ get_or-set_other words p q v 0 away ∙ was.left q (sym (others q away) ∙ has)
+  ];
+  kept = λ q out. get_or-set_other words p q v 0 (λ at. false≢true (sym out ∙ ap (has_bit numbers) at ∙ was.part p mine)) ∙ was.kept q out;
+  others = λ q k away. elim (cases_eq q p) [
+    | inl at ↦ subst (λ (n : ℕ). has_bit (get_or (set words p v) n 0) k ≡ has_bit (get_or start n 0) k) (sym at)
+        (ap (λ w. has_bit w k) (get_or-set_same words p v 0 inside) ∙ same k away ∙ was.others p k away)
+    | inr apart ↦ ap (λ w. has_bit w k) (get_or-set_other words p q v 0 apart) ∙ was.others q k away
+  ];
+}
+
+-- a bit that is flipped exactly where a literal is in one of two labels alone
+flipped_to : (x y o n d : Bool) → x ≡ o → d ≡ cond x (not y) y → (d ≡ true → n ≡ not o) → (d ≡ false → n ≡ o) → n ≡ y
+flipped_to true true o n d is differ flip keep = keep differ ∙ sym is
+flipped_to true false o n d is differ flip keep = flip differ ∙ ap not (sym is)
+flipped_to false true o n d is differ flip keep = flip differ ∙ ap not (sym is)
+flipped_to false false o n d is differ flip keep = keep differ ∙ sym is
+
+one_of : (x y d : Bool) → d ≡ cond x (not y) y → d ≡ true → (x ≡ true) ⊎ (y ≡ true)
+one_of true y d differ set = inl refl
+one_of false y d differ set = inr (sym differ ∙ set)
+
+same_literals : (a b c d : Bool) → mark_of a b ≡ mark_of c d → (a ≡ c) × (b ≡ d)
+same_literals a b c d same = (grind arith, grind arith)
 
 -- exactly the bits are left that each word of the numbers has so, but for the numbers that are still to be looked at
 module _ (words : List ℕ) (numbers front : ℕ) (v : Bool) where
@@ -129,10 +134,48 @@ pub and_bits : (left word left' : ℕ) → left' ≡ bit_and left word → (i : 
 and_bits left word left' is i = subst (λ (w : ℕ). has_bit w i ≡ true ↔ ((has_bit left i ≡ true) × (has_bit word i ≡ true))) (sym is)
     (subst (λ (t : Bool). t ≡ true ↔ ((has_bit left i ≡ true) × (has_bit word i ≡ true))) (sym (has_bit_and left word i)) (both_bits (has_bit left i) (has_bit word i)))
 
-pub without_bits : (left word left' : ℕ) → ((i : ℕ) → has_bit left' i ≡ (has_bit left i && not (has_bit word i))) →
-    (i : ℕ) → (has_bit left' i ≡ true ↔ ((has_bit left i ≡ true) × (has_bit word i ≡ false)))
-without_bits left word left' is i =
-    subst (λ (t : Bool). t ≡ true ↔ ((has_bit left i ≡ true) × (has_bit word i ≡ false))) (sym (is i)) (one_bit (has_bit left i) (has_bit word i))
+both_clear : (a b : Bool) → ((a || b) ≡ false) ↔ ((a ≡ false) × (b ≡ false))
+both_clear true b = (λ e. absurd (false≢true (sym e)), λ both. absurd (false≢true (sym both.0)))
+both_clear false b = (λ e. (refl, e), λ both. both.1)
+
+-- exactly the bits are set that some word of the numbers has, but for the numbers that are still to be looked at
+module _ (words : List ℕ) (numbers : ℕ) where
+  pub record IsAnyBut (rest any : ℕ) : Type 0 where
+    pub part : IsPart rest numbers
+    pub bits : (i : ℕ) → (has_bit any i ≡ false ↔ ((p : ℕ) → has_bit rest p ≡ false → has_bit numbers p ≡ true → has_bit (get_or words p 0) i ≡ false))
+
+  pub any_start : IsAnyBut numbers 0
+  any_start = record {
+    part = λ k set. set;
+    bits = λ i. (λ clear p out in'. absurd (false≢true (sym out ∙ in')), λ none. has_bit-zero i);
+  }
+
+  pub any_next : (rest rest' p any : ℕ) → has_bit rest p ≡ true → has_bit rest' p ≡ false → ((k : ℕ) → (k ≡ p → ⊥) → has_bit rest' k ≡ has_bit rest k) →
+      IsAnyBut rest any → IsAnyBut rest' (bit_or any (get_or words p 0))
+  any_next rest rest' p any mine gone others was = record {
+    part = part_less rest rest' p gone others numbers was.part;
+    bits = λ i. (
+      λ clear.
+          let both = (both_clear (has_bit any i) (has_bit (get_or words p 0) i)).0 (sym (has_bit_or any (get_or words p 0) i) ∙ clear) in
+          λ q out in'. elim (cases_eq q p) [
+            | inl same ↦ subst (λ (k : ℕ). has_bit (get_or words k 0) i ≡ false) (sym same) both.1
+            | inr other ↦ (was.bits i).0 both.0 q (sym (others q other) ∙ out) in'
+          ],
+      λ none. has_bit_or any (get_or words p 0) i ∙ (both_clear (has_bit any i) (has_bit (get_or words p 0) i)).1 (
+        (was.bits i).1 (λ q out in'. none q (others q (λ same. false≢true (sym out ∙ ap (has_bit rest) same ∙ mine)) ∙ out) in'),
+        none p gone (was.part p mine),
+      ),
+    );
+  }
+
+  pub any_end : (rest any front word : ℕ) → ((p : ℕ) → 0 ≤ p → has_bit rest p ≡ false) → IsAnyBut rest any →
+      ((i : ℕ) → has_bit word i ≡ (has_bit front i && not (has_bit any i))) → (i : ℕ) → (has_bit word i ≡ true ↔ ((has_bit front i ≡ true) × IsInNone words numbers i))
+  any_end rest any front word clear was is i = (
+    λ set.
+        let parts = (one_bit (has_bit front i) (has_bit any i)).0 (sym (is i) ∙ set) in
+        (parts.0, λ p in'. (was.bits i).0 parts.1 p (clear p (omega arith)) in'),
+    λ both. is i ∙ (one_bit (has_bit front i) (has_bit any i)).1 (both.0, (was.bits i).1 (λ p out in'. both.1 p in')),
+  )
 
 -- a mark is within another if each of its literals is one of the other's
 pub literals_within : (a b c d : Bool) → (a ≡ true → c ≡ true) → (b ≡ true → d ≡ true) → IsMarkWithin (mark_of a b) (mark_of c d)
@@ -165,12 +208,55 @@ literal_below label positive negative p end are set = elim (cases_lt p 52) [
     never : (a b : Bool) → mark_of a b ≡ Absent → (a ≡ true) ⊎ (b ≡ true) → ⊥
     never a b none one = grind arith
 
+-- a number whose bit is set in one of the words of a label alone, and in none of those of another
+pub only_of_one : (one other : TheLabel) (y n y' n' p : ℕ) → MarksEnd → AreLiterals one y n → AreLiterals other y' n' →
+    (has_bit (bit_or y n) p && not (has_bit (bit_or y' n') p)) ≡ true → (p < 52) × (marks other p ≡ Absent)
+only_of_one one other y n y' n' p end of_one of_other set = (
+  literal_below one y n p end of_one (either (has_bit y p) (has_bit n p) (sym (has_bit_or y n p) ∙ parts.0)),
+  sym (of_other p) ∙ neither (has_bit y' p) (has_bit n' p) (sym (has_bit_or y' n' p) ∙ parts.1),
+)
+  where
+    parts : (has_bit (bit_or y n) p ≡ true) × (has_bit (bit_or y' n') p ≡ false)
+    parts = (one_bit (has_bit (bit_or y n) p) (has_bit (bit_or y' n') p)).0 set
+
+    either : (a b : Bool) → (a || b) ≡ true → (a ≡ true) ⊎ (b ≡ true)
+    either true b e = inl refl
+    either false b e = inr e
+
+    neither : (a b : Bool) → (a || b) ≡ false → mark_of a b ≡ Absent
+    neither a b e = grind arith
+
+-- a label is put in the place of another
+module _ (before after : TheLabel) (y n y' n' dy dn : ℕ) (of_before : AreLiterals before y n) (of_after : AreLiterals after y' n')
+    (dy_is : (p : ℕ) → has_bit dy p ≡ cond (has_bit y p) (not (has_bit y' p)) (has_bit y' p))
+    (dn_is : (p : ℕ) → has_bit dn p ≡ cond (has_bit n p) (not (has_bit n' p)) (has_bit n' p)) where
+  pub positive_below : MarksEnd → (p : ℕ) → has_bit dy p ≡ true → p < 52
+  positive_below end p set = elim (one_of (has_bit y p) (has_bit y' p) (has_bit dy p) (dy_is p) set) [
+    | inl first ↦ literal_below before y n p end of_before (inl first)
+    | inr second ↦ literal_below after y' n' p end of_after (inl second)
+  ]
+
+  pub negative_below : MarksEnd → (p : ℕ) → has_bit dn p ≡ true → p < 52
+  negative_below end p set = elim (one_of (has_bit n p) (has_bit n' p) (has_bit dn p) (dn_is p) set) [
+    | inl first ↦ literal_below before y n p end of_before (inr first)
+    | inr second ↦ literal_below after y' n' p end of_after (inr second)
+  ]
+
+  pub mark_replaced : (p : ℕ) (o_y o_n n_y n_n : Bool) → mark_of o_y o_n ≡ marks before p → (has_bit dy p ≡ true → n_y ≡ not o_y) → (has_bit dy p ≡ false → n_y ≡ o_y) →
+      (has_bit dn p ≡ true → n_n ≡ not o_n) → (has_bit dn p ≡ false → n_n ≡ o_n) → mark_of n_y n_n ≡ marks after p
+  mark_replaced p o_y o_n n_y n_n is flip_y keep_y flip_n keep_n =
+      let same : mark_of (has_bit y p) (has_bit n p) ≡ mark_of o_y o_n = of_before p ∙ sym is in
+      rw (
+        flipped_to (has_bit y p) (has_bit y' p) o_y n_y (has_bit dy p) (same_literals (has_bit y p) (has_bit n p) o_y o_n same).0 (dy_is p) flip_y keep_y,
+        flipped_to (has_bit n p) (has_bit n' p) o_n n_n (has_bit dn p) (same_literals (has_bit y p) (has_bit n p) o_y o_n same).1 (dn_is p) flip_n keep_n,
+      ) (of_after p)
+
 -- a label is within another if it has no literal that the label of all has and the other hasn't
 module _ (sheet : Marks) (used label : TheLabel) (used_positive used_negative positive negative : ℕ) (of_used : AreLiterals used used_positive used_negative)
-    (of_label : AreLiterals label positive negative) (i : ℕ) (inside : IsInside sheet i (marks used)) where
+    (of_label : AreLiterals label positive negative) (i : ℕ) (inside : IsInsideLabel sheet i (marks used)) where
   pub inside_from_none : (outside_positive outside_negative : ℕ) → ((p : ℕ) → has_bit outside_positive p ≡ (has_bit used_positive p && not (has_bit positive p))) →
       ((p : ℕ) → has_bit outside_negative p ≡ (has_bit used_negative p && not (has_bit negative p))) →
-      IsInNone sheet.positive outside_positive i → IsInNone sheet.negative outside_negative i → IsInside sheet i (marks label)
+      IsInNone sheet.positive outside_positive i → IsInNone sheet.negative outside_negative i → IsInsideLabel sheet i (marks label)
   inside_from_none outside_positive outside_negative p_is n_is none_positive none_negative p small =
       let within = subst (λ (m : Mark). IsMarkWithin (mark_in sheet p i) m) (sym (of_used p)) (inside p small) in
       subst (λ (m : Mark). IsMarkWithin (mark_in sheet p i) m) (of_label p) (literals_within (bit sheet.positive p) (bit sheet.negative p) (has_bit positive p) (has_bit negative p)
@@ -186,7 +272,7 @@ module _ (sheet : Marks) (used label : TheLabel) (used_positive used_negative po
       has a u l o is set of none = grind arith
 
   pub none_from_inside : (outside_positive outside_negative : ℕ) → ((p : ℕ) → has_bit outside_positive p ≡ (has_bit used_positive p && not (has_bit positive p))) →
-      ((p : ℕ) → has_bit outside_negative p ≡ (has_bit used_negative p && not (has_bit negative p))) → MarksEnd → IsInside sheet i (marks label) →
+      ((p : ℕ) → has_bit outside_negative p ≡ (has_bit used_negative p && not (has_bit negative p))) → MarksEnd → IsInsideLabel sheet i (marks label) →
       IsInNone sheet.positive outside_positive i × IsInNone sheet.negative outside_negative i
   none_from_inside outside_positive outside_negative p_is n_is end within = (
     λ p set.

@@ -12,16 +12,16 @@ use Rattle.cstn_label.specs.Labels.{IsMarked, IsWithin, Label as TheLabel}
 use Rattle.cstn_label.specs.Read.{marks}
 use Rattle.cstn_label.proofs.MarkLemmas.{absent_or_not}
 use Rattle.cstn_minset.specs.declared.columns.Record.{Record}
-use Rattle.cstn_minset.specs.Pages.{Paged, held}
-use Rattle.cstn_minset.specs.Sets.{Entries, IsPlaced, IsListed, IsRecordAt, IsRecordAbove, IsRecordOf, HasLeast, IsSoughtAbove, IsKept}
+use Rattle.cstn_minset.specs.Pages.{Paged, held_records}
+use Rattle.cstn_minset.specs.Sets.{Entries, IsPlaced, HasItsRecord, IsRecordAt, IsRecordAbove, IsRecordOf, SetHasLeast, IsSoughtAbove, IsKeptSet}
 use Rattle.cstn_minset.proofs.BoundLemmas.{least_or_not}
 use Rattle.cstn_minset.proofs.SetLemmas.{held_at, held_count, none_placed, records_le}
 
 -- a record of a row is that of an entry
-pub least_from : (rows : Paged) (nodes : ℕ) (T : Entries) (h k i : ℕ) (label : TheLabel) (least : ℤ) (r : Record) → IsKept rows nodes T → IsRecordAt rows.pages h k i r →
-    IsRecordOf label least r → HasLeast T h label least
+pub least_from : (rows : Paged) (nodes : ℕ) (T : Entries) (h k i : ℕ) (label : TheLabel) (least : ℤ) (r : Record) → IsKeptSet rows nodes T → IsRecordAt rows.pages h k i r →
+    IsRecordOf label least r → SetHasLeast T h label least
 least_from rows nodes T h k i label least r is at of =
-    let listed = held_at (IsListed T) rows.pages h k i r is.listed at in (
+    let listed = held_at (HasItsRecord T) rows.pages h k i r is.listed at in (
       r.slot,
       (listed.0, listed.1),
       listed.2,
@@ -33,11 +33,11 @@ least_from rows nodes T h k i label least r is at of =
 abbrev IsPairAbove : ℕ → ℤ → Option Prop → ℕ × Record → Type 0
 IsPairAbove h floor marking x = (x.0 ≡ h) × (floor <ℤ x.1.least) × IfSome marking (λ p. IsMarked (marks x.1.label) p.index)
 
-pub sought_from : (rows : Paged) (nodes : ℕ) (T : Entries) (h : ℕ) (floor : ℤ) (marking : Option Prop) (s : ℕ) → IsKept rows nodes T →
+pub sought_from : (rows : Paged) (nodes : ℕ) (T : Entries) (h : ℕ) (floor : ℤ) (marking : Option Prop) (s : ℕ) → IsKeptSet rows nodes T →
     ((k i : ℕ) × (r : Record) × IsRecordAt rows.pages h k i r × IsRecordAbove floor marking r × (r.slot ≡ s)) → (e : ℕ × Bound) × IsPlaced T s e × IsSoughtAbove h floor marking e.1
 sought_from rows nodes T h floor marking s is found =
     let r : Record = found.2 in
-    let listed = held_at (IsListed T) rows.pages h found.0 found.1 r is.listed found.3 in
+    let listed = held_at (HasItsRecord T) rows.pages h found.0 found.1 r is.listed found.3 in
     let above = subst (IsPairAbove h floor marking) (sym listed.3) (refl, found.4.0, found.4.1) in
     ((listed.0, listed.1), subst (λ (u : ℕ). IsPlaced T u (listed.0, listed.1)) found.5 listed.2, above)
 
@@ -74,7 +74,7 @@ above_or_not floor marking r = elim (least_or_not r.least floor) [
     marking_or_not (Some p) = elim (absent_or_not (marks r.label p.index)) [ inl gone ↦ inr (λ marked. marked gone) | inr marked ↦ inl marked ]
 
 -- what is found of the records is found of the entries
-pub found_of_entries : (rows : Paged) (nodes : ℕ) (T : Entries) (h : ℕ) (floor : ℤ) (marking : Option Prop) (found : List ℕ) → IsKept rows nodes T →
+pub found_of_entries : (rows : Paged) (nodes : ℕ) (T : Entries) (h : ℕ) (floor : ℤ) (marking : Option Prop) (found : List ℕ) → IsKeptSet rows nodes T →
     ((k i : ℕ) (r : Record) → IsRecordAt rows.pages h k i r → IsRecordAbove floor marking r → Contains found r.slot) →
     (s : ℕ) (e : ℕ × Bound) → IsPlaced T s e → IsSoughtAbove h floor marking e.1 → Contains found s
 found_of_entries rows nodes T h floor marking found is all s e placed sought = elim (contains_or_not found s) [
@@ -92,5 +92,5 @@ found_of_entries rows nodes T h floor marking found is all s e placed sought = e
 pub marked_or_not : (p : ℕ) (r : Record) → IsMarked (marks r.label) p ⊎ ¬ IsMarked (marks r.label) p
 marked_or_not p r = elim (absent_or_not (marks r.label p)) [ inl gone ↦ inr (λ marked. marked gone) | inr marked ↦ inl marked ]
 
-pub held_within : (rows : Paged) (nodes : ℕ) (T : Entries) (n : ℕ) → IsKept rows nodes T → length T ≤ n → length (held rows.pages) ≤ n
+pub held_within : (rows : Paged) (nodes : ℕ) (T : Entries) (n : ℕ) → IsKeptSet rows nodes T → length T ≤ n → length (held_records rows.pages) ≤ n
 held_within rows nodes T n is fits = omega (arith, fits, held_count rows nodes T is, records_le 0 T)

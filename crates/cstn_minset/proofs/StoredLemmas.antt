@@ -6,8 +6,8 @@ use Rattle.std.proofs.lemmas.List.{get_or-set_other, get_or-set_same, length-set
 use Rattle.std.proofs.lemmas.Option.{none-some, same_Some}
 use Rattle.cstn_label.specs.declared.bounds.Bound.{Bound}
 use Rattle.cstn_minset.specs.declared.columns.Record.{Record}
-use Rattle.cstn_minset.specs.Pages.{Paged, held, SameRows}
-use Rattle.cstn_minset.specs.Sets.{Entries, entry_at, IsPlaced, record_of, bound_of, recorded, entries_from, table_of, no_birth, birth_at, IsListed, IsNoneInSlot, IsInSlot, IsMinimal, IsKept, AreBirths, IsStored}
+use Rattle.cstn_minset.specs.Pages.{Paged, held_records, SameRows}
+use Rattle.cstn_minset.specs.Sets.{Entries, entry_at, IsPlaced, record_of, bound_of, recorded, entries_from, entries_of, no_birth, birth_at, HasItsRecord, IsNoneInSlot, IsInSlot, IsMinimal, IsKeptSet, AreBirths, IsStored}
 use Rattle.cstn_minset.proofs.TableLemmas.{placed_more, placed_less, none_of}
 use Rattle.cstn_minset.proofs.SetLemmas.{all_cons, all_head, all_tail, at_slot, eq_or_not, weight_yes, weight_no, sum_zero, records_emptied, held_at, held_all, put_step, take_step, none_kept}
 
@@ -36,14 +36,14 @@ recorded_none s (x ∷ xs) is = go (λ e. recorded_none s xs e) (nat_eq x.1.slot
     go rest false other e = all_cons (λ y. y.1.slot ≢ s) x xs (other_slot x.1.slot s other) (rest e)
 
 -- a slot of which there is no record holds nothing
-slot_empty : (rows : Paged) (nodes s : ℕ) (T : Entries) → IsKept rows nodes T → All (λ x. x.1.slot ≢ s) (held rows.pages) → entry_at T s ≡ None
+slot_empty : (rows : Paged) (nodes s : ℕ) (T : Entries) → IsKeptSet rows nodes T → All (λ x. x.1.slot ≢ s) (held_records rows.pages) → entry_at T s ≡ None
 slot_empty rows nodes s T is others = go (entry_at T s) refl
   where
     zero_plus : (n : ℕ) → 0 + n ≡ n
     zero_plus n = omega arith
 
-    nothing : sum_by (at_slot s) (held rows.pages) ≡ 0
-    nothing = sum_zero (at_slot s) (held rows.pages) (λ k d inside. weight_no (eq_or_not (get_or (held rows.pages) k d).1.slot s) (others k d inside))
+    nothing : sum_by (at_slot s) (held_records rows.pages) ≡ 0
+    nothing = sum_zero (at_slot s) (held_records rows.pages) (λ k d inside. weight_no (eq_or_not (get_or (held_records rows.pages) k d).1.slot s) (others k d inside))
 
     go : (o : Option (ℕ × Bound)) → entry_at T s ≡ o → entry_at T s ≡ None
     go None none = none
@@ -52,25 +52,25 @@ slot_empty rows nodes s T is others = go (entry_at T s) refl
         absurd (omega (arith, nothing, is.same (at_slot s), records_emptied (at_slot s) 0 s T e placed, one))
 
 -- a bound whose record is of the slot is in it, under the slot's birth
-listed_there : (births : List ℕ) (s : ℕ) (T : Entries) (x : ℕ × Record) (b : Bound) → AreBirths births T → IsListed T x → x.1.slot ≡ s → bound_of x ≡ b → Some (birth_at births s, b) ≡ entry_at T s
+listed_there : (births : List ℕ) (s : ℕ) (T : Entries) (x : ℕ × Record) (b : Bound) → AreBirths births T → HasItsRecord T x → x.1.slot ≡ s → bound_of x ≡ b → Some (birth_at births s, b) ≡ entry_at T s
 listed_there births s T x b born listed slot bound =
     let birth : ℕ = listed.0 in
-    let held : Bound = listed.1 in
-    let same : held ≡ b = ap bound_of listed.3 ∙ bound in
-    let placed : IsPlaced T s (birth, held) = subst (λ (u : ℕ). IsPlaced T u (birth, held)) slot listed.2 in
-    ap (λ (n : ℕ). entry n b) (born.born s (birth, held) placed) ∙ ap (λ y. entry birth y) (sym same) ∙ sym placed
+    let held_records : Bound = listed.1 in
+    let same : held_records ≡ b = ap bound_of listed.3 ∙ bound in
+    let placed : IsPlaced T s (birth, held_records) = subst (λ (u : ℕ). IsPlaced T u (birth, held_records)) slot listed.2 in
+    ap (λ (n : ℕ). entry n b) (born.born s (birth, held_records) placed) ∙ ap (λ y. entry birth y) (sym same) ∙ sym placed
   where
     entry : ℕ → Bound → Option (ℕ × Bound)
     entry n y = Some (n, y)
 
 -- what is told of a slot is what it holds
-entry_told : (births : List ℕ) (rows : Paged) (nodes s : ℕ) (T : Entries) → IsStored births rows nodes T → option_map (λ b. (birth_at births s, b)) (recorded s (held rows.pages)) ≡ entry_at T s
-entry_told births rows nodes s T is = go (recorded s (held rows.pages)) refl
+entry_told : (births : List ℕ) (rows : Paged) (nodes s : ℕ) (T : Entries) → IsStored births rows nodes T → option_map (λ b. (birth_at births s, b)) (recorded s (held_records rows.pages)) ≡ entry_at T s
+entry_told births rows nodes s T is = go (recorded s (held_records rows.pages)) refl
   where
-    go : (o : Option Bound) → recorded s (held rows.pages) ≡ o → option_map (λ b. (birth_at births s, b)) o ≡ entry_at T s
-    go None none = sym (slot_empty rows nodes s T is.0 (recorded_none s (held rows.pages) none))
+    go : (o : Option Bound) → recorded s (held_records rows.pages) ≡ o → option_map (λ b. (birth_at births s, b)) o ≡ entry_at T s
+    go None none = sym (slot_empty rows nodes s T is.0 (recorded_none s (held_records rows.pages) none))
     go (Some b) some =
-        let found = recorded_some (IsListed T) s (held rows.pages) b is.0.listed some in
+        let found = recorded_some (HasItsRecord T) s (held_records rows.pages) b is.0.listed some in
         listed_there births s T found.0 b is.1 found.1 found.2 found.3
 
 entries_told : (rs : List (ℕ × Record)) (n : ℕ) (births : List ℕ) (T : Entries) → length births ≡ length T → ((s : ℕ) → option_map (λ b. (birth_at births s, b)) (recorded (n + s) rs) ≡ entry_at T s) → entries_from rs n births ≡ T
@@ -87,20 +87,20 @@ entries_told rs n (birth ∷ births) (x ∷ T) size each =
     next s = omega arith
 
 -- the table that is told is the one that is stored
-pub determined : (births : List ℕ) (rows : Paged) (nodes : ℕ) (T : Entries) → IsStored births rows nodes T → table_of births rows ≡ T
+pub determined : (births : List ℕ) (rows : Paged) (nodes : ℕ) (T : Entries) → IsStored births rows nodes T → entries_of births rows ≡ T
 determined births rows nodes T is =
-    entries_told (held rows.pages) 0 births T is.1.size (λ s. ap (λ m. option_map (λ b. (birth_at births s, b)) (recorded m (held rows.pages))) (zero_plus s) ∙ entry_told births rows nodes s T is)
+    entries_told (held_records rows.pages) 0 births T is.1.size (λ s. ap (λ m. option_map (λ b. (birth_at births s, b)) (recorded m (held_records rows.pages))) (zero_plus s) ∙ entry_told births rows nodes s T is)
   where
     zero_plus : (n : ℕ) → 0 + n ≡ n
     zero_plus n = omega arith
 
-pub stored_as_told : (births : List ℕ) (rows : Paged) (nodes : ℕ) (T : Entries) → IsStored births rows nodes T → IsStored births rows nodes (table_of births rows)
+pub stored_as_told : (births : List ℕ) (rows : Paged) (nodes : ℕ) (T : Entries) → IsStored births rows nodes T → IsStored births rows nodes (entries_of births rows)
 stored_as_told births rows nodes T is = subst (IsStored births rows nodes) (sym (determined births rows nodes T is)) is
 
 -- the entry in a slot that has a record, and in one that has none
 pub entry_in_slot : (births : List ℕ) (rows : Paged) (nodes s : ℕ) (T : Entries) (b : Bound) → IsStored births rows nodes T → IsInSlot rows.pages s b → Some (birth_at births s, b) ≡ entry_at T s
 entry_in_slot births rows nodes s T b is found =
-    listed_there births s T (found.head, found.record_is) b is.1 (held_at (IsListed T) rows.pages found.head found.page found.place found.record_is is.0.listed found.there) found.slot_is (sym found.bound_is)
+    listed_there births s T (found.head, found.record_is) b is.1 (held_at (HasItsRecord T) rows.pages found.head found.page found.place found.record_is is.0.listed found.there) found.slot_is (sym found.bound_is)
 
 pub no_entry : (births : List ℕ) (rows : Paged) (nodes s : ℕ) (T : Entries) → IsStored births rows nodes T → IsNoneInSlot rows.pages s → None ≡ entry_at T s
 no_entry births rows nodes s T is none = sym (slot_empty rows nodes s T is.0 (held_all (λ x. x.1.slot ≢ s) rows.pages (λ h k i r at. none h k i r at)))
@@ -168,12 +168,12 @@ births_none n = record {
 }
 
 -- a bound was put in, with its record, and one was taken out
-pub stored_more : (births : List ℕ) (rows rows' : Paged) (nodes s birth : ℕ) (b : Bound) (T : Entries) → IsStored births rows nodes T → SameRows rows rows' → IsPermutation (record_of s b ∷ held rows.pages) (held rows'.pages) → s < length T → entry_at T s ≡ None → IsMinimal nodes (set T s (Some (birth, b))) → IsStored (set births s birth) rows' nodes (set T s (Some (birth, b)))
+pub stored_more : (births : List ℕ) (rows rows' : Paged) (nodes s birth : ℕ) (b : Bound) (T : Entries) → IsStored births rows nodes T → SameRows rows rows' → IsPermutation (record_of s b ∷ held_records rows.pages) (held_records rows'.pages) → s < length T → entry_at T s ≡ None → IsMinimal nodes (set T s (Some (birth, b))) → IsStored (set births s birth) rows' nodes (set T s (Some (birth, b)))
 stored_more births rows rows' nodes s birth b T is sizes step inside free minimal = (put_step rows rows' nodes s birth b T is.0 sizes step inside free minimal, births_more births T s birth b is.1 inside)
 
-pub stored_less : (births : List ℕ) (rows rows' : Paged) (nodes h : ℕ) (r : Record) (T : Entries) → IsStored births rows nodes T → SameRows rows rows' → IsPermutation (held rows.pages) ((h, r) ∷ held rows'.pages) → IsStored (set births r.slot no_birth) rows' nodes (set T r.slot None)
+pub stored_less : (births : List ℕ) (rows rows' : Paged) (nodes h : ℕ) (r : Record) (T : Entries) → IsStored births rows nodes T → SameRows rows rows' → IsPermutation (held_records rows.pages) ((h, r) ∷ held_records rows'.pages) → IsStored (set births r.slot no_birth) rows' nodes (set T r.slot None)
 stored_less births rows rows' nodes h r T is sizes step = (take_step rows rows' nodes h r T is.0 sizes step, births_less births T r.slot is.1)
 
 -- an empty set
-pub none_stored : (rows : Paged) (nodes n : ℕ) → rows.heads ≡ nodes → rows.capacity ≡ n → held rows.pages ≡ [] → IsStored (replicate n no_birth) rows nodes (replicate n None)
+pub none_stored : (rows : Paged) (nodes n : ℕ) → rows.heads ≡ nodes → rows.capacity ≡ n → held_records rows.pages ≡ [] → IsStored (replicate n no_birth) rows nodes (replicate n None)
 none_stored rows nodes n heads room none = (none_kept rows nodes n heads room none, births_none n)

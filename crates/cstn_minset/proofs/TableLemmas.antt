@@ -4,7 +4,7 @@ use Rattle.std.proofs.lemmas.List.{get_or-set_other, get_or-set_same}
 use Rattle.std.proofs.lemmas.Bool.{cases_eq}
 use Rattle.std.proofs.lemmas.Option.{none-some, same_Some}
 use Rattle.cstn_label.specs.declared.bounds.Bound.{Bound}
-use Rattle.cstn_minset.specs.Sets.{Entries, IsPlaced, IsOver, IsCovered, AllBornBefore, IsMinimal}
+use Rattle.cstn_minset.specs.Sets.{Entries, IsPlaced, IsBoundOver, IsCoveredInSet, AllBornBefore, IsMinimal}
 
 abbrev some_entry : ℕ → Bound → Option (ℕ × Bound)
 some_entry n b = Some (n, b)
@@ -38,12 +38,12 @@ minimal_less nodes slot T is = record {
   in_range = λ s e p. is.in_range s e (placed_less T slot s e p).1;
 }
 
-pub minimal_more : (nodes slot birth : ℕ) (b : Bound) (T : Entries) → slot < length T → b.node.0 < nodes → birth < 2 ^ 64 → ¬ IsCovered T b → ((u : ℕ) (e : ℕ × Bound) → IsPlaced T u e → ¬ IsOver b e.1) → AllBornBefore T birth → IsMinimal nodes T → IsMinimal nodes (set T slot (Some (birth, b)))
+pub minimal_more : (nodes slot birth : ℕ) (b : Bound) (T : Entries) → slot < length T → b.node.0 < nodes → birth < 2 ^ 64 → ¬ IsCoveredInSet T b → ((u : ℕ) (e : ℕ × Bound) → IsPlaced T u e → ¬ IsBoundOver b e.1) → AllBornBefore T birth → IsMinimal nodes T → IsMinimal nodes (set T slot (Some (birth, b)))
 minimal_more nodes slot birth b T inside node small uncovered least births is = record {
   minimal = λ s t e f p q other over.
       elim (placed_more T slot s (birth, b) e inside p) [
-        | inl x ↦ elim (placed_more T slot t (birth, b) f inside q) [ inl y ↦ other (x.0 ∙ sym y.0) | inr y ↦ least t f y.1 (subst (λ (z : ℕ × Bound). IsOver z.1 f.1) (sym x.1) over) ]
-        | inr x ↦ elim (placed_more T slot t (birth, b) f inside q) [ inl y ↦ uncovered (s, e, x.1, subst (λ (z : ℕ × Bound). IsOver e.1 z.1) (sym y.1) over) | inr y ↦ is.minimal s t e f x.1 y.1 other over ]
+        | inl x ↦ elim (placed_more T slot t (birth, b) f inside q) [ inl y ↦ other (x.0 ∙ sym y.0) | inr y ↦ least t f y.1 (subst (λ (z : ℕ × Bound). IsBoundOver z.1 f.1) (sym x.1) over) ]
+        | inr x ↦ elim (placed_more T slot t (birth, b) f inside q) [ inl y ↦ uncovered (s, e, x.1, subst (λ (z : ℕ × Bound). IsBoundOver e.1 z.1) (sym y.1) over) | inr y ↦ is.minimal s t e f x.1 y.1 other over ]
       ];
   apart = λ s t e f p q same.
       elim (placed_more T slot s (birth, b) e inside p) [

@@ -5,7 +5,7 @@ use Rattle.std.proofs.lemmas.Bool.{cases_eq, cases_lt}
 use Rattle.std.proofs.lemmas.Option.{none-some, same_Some}
 use Rattle.cstn_label.specs.declared.bounds.Bound.{Bound}
 use Rattle.cstn_pool.specs.declared.slot_id.SlotId.{SlotId}
-use Rattle.cstn_minset.specs.Sets.{Entries, entry_at, IsPlaced, AllBornBefore, IsAt, IsLeast, IsNone, IsWalk, IsMinimal}
+use Rattle.cstn_minset.specs.Sets.{Entries, entry_at, IsPlaced, AllBornBefore, IsAt, IsLeastSlot, IsNone, IsWalkOfSlots, IsMinimal}
 use Rattle.cstn_minset.proofs.TableLemmas.{placed_within}
 
 module _ (table : Entries) (Kind : Bound → Type 0) (decide : (b : Bound) → Kind b ⊎ (Kind b → ⊥)) (low : ℕ) where
@@ -97,7 +97,7 @@ module _ (table : Entries) (Kind : Bound → Type 0) (decide : (b : Bound) → K
   least_below (suc n) = one_slot n (entry_at table n) refl (least_below n)
 
   -- the bound of the kind with the least birth from `low` on is found, unless there is none
-  pub least_or_none : ((id : SlotId) × IsLeast table Kind low id.slot id.birth) ⊎ IsNone table Kind low
+  pub least_or_none : ((id : SlotId) × IsLeastSlot table Kind low id.slot id.birth) ⊎ IsNone table Kind low
   least_or_none = elim (least_below (length table)) [
     | inl found ↦ inl (
       record { slot = found.slot; birth = found.birth },
@@ -114,7 +114,7 @@ module _ (table : Entries) (Kind : Bound → Type 0) (decide : (b : Bound) → K
 
 module _ (table : Entries) (Kind : Bound → Type 0) (decide : (b : Bound) → Kind b ⊎ (Kind b → ⊥)) where
   -- where all births are below `low` + n, there is a walk
-  walk_upto : (n low : ℕ) → AllBornBefore table (low + n) → (ids : List SlotId) × IsWalk table Kind low ids
+  walk_upto : (n low : ℕ) → AllBornBefore table (low + n) → (ids : List SlotId) × IsWalkOfSlots table Kind low ids
   walk_upto zero low born = ([], λ u e is kind. omega (arith, born u e is))
   walk_upto (suc n) low born = elim (least_or_none table Kind decide low) [
     | inr none ↦ ([], none)
@@ -124,7 +124,7 @@ module _ (table : Entries) (Kind : Bound → Type 0) (decide : (b : Bound) → K
         (found.0 ∷ rest.0, (found.1, rest.1))
   ]
 
-  pub walk_exists : (most : ℕ) → AllBornBefore table most → (ids : List SlotId) × IsWalk table Kind 0 ids
+  pub walk_exists : (most : ℕ) → AllBornBefore table most → (ids : List SlotId) × IsWalkOfSlots table Kind 0 ids
   walk_exists most born = walk_upto most 0 (λ u e is. omega (arith, born u e is))
 
 -- whether a bound is at the time-point
@@ -139,26 +139,26 @@ same_id a b slot birth = ap (λ (s : ℕ). as_id s a.birth) slot ∙ ap (λ n. a
 
 module _ (nodes : ℕ) (table : Entries) (Kind : Bound → Type 0) (minimal : IsMinimal nodes table) where
   -- the least one is no later than another that is the least
-  no_later : (low s t m n : ℕ) → IsLeast table Kind low s m → IsLeast table Kind low t n → m ≤ n
+  no_later : (low s t m n : ℕ) → IsLeastSlot table Kind low s m → IsLeastSlot table Kind low t n → m ≤ n
   no_later low s t m n one other =
       let above = other.above in
       elim (one.least t (n, other.bound) other.there other.kind) [ inl below ↦ absurd (omega (arith, below, above)) | inr upto ↦ upto ]
 
-  one_least : (low : ℕ) (a b : SlotId) → IsLeast table Kind low a.slot a.birth → IsLeast table Kind low b.slot b.birth → a ≡ b
+  one_least : (low : ℕ) (a b : SlotId) → IsLeastSlot table Kind low a.slot a.birth → IsLeastSlot table Kind low b.slot b.birth → a ≡ b
   one_least low a b one other =
       let birth : a.birth ≡ b.birth = omega (arith, no_later low a.slot b.slot a.birth b.birth one other, no_later low b.slot a.slot b.birth a.birth other one) in
       same_id a b (minimal.apart a.slot b.slot (a.birth, one.bound) (b.birth, other.bound) one.there other.there birth) birth
 
-  least_not_none : (low s n : ℕ) → IsLeast table Kind low s n → IsNone table Kind low → ⊥
+  least_not_none : (low s n : ℕ) → IsLeastSlot table Kind low s n → IsNone table Kind low → ⊥
   least_not_none low s n one none =
       let above = one.above in
       omega (arith, above, none s (n, one.bound) one.there one.kind)
 
-  pub one_walk : (low : ℕ) (ids others : List SlotId) → IsWalk table Kind low ids → IsWalk table Kind low others → ids ≡ others
+  pub one_walk : (low : ℕ) (ids others : List SlotId) → IsWalkOfSlots table Kind low ids → IsWalkOfSlots table Kind low others → ids ≡ others
   one_walk low [] [] walk other = refl
   one_walk low [] (y ∷ others) walk other = absurd (least_not_none low y.slot y.birth other.0 walk)
   one_walk low (x ∷ ids) [] walk other = absurd (least_not_none low x.slot x.birth walk.0 other)
   one_walk low (x ∷ ids) (y ∷ others) walk other =
       let same : x ≡ y = one_least low x y walk.0 other.0 in
-      let rest = one_walk (x.birth + 1) ids others walk.1 (subst (λ (z : SlotId). IsWalk table Kind (z.birth + 1) others) (sym same) other.1) in
+      let rest = one_walk (x.birth + 1) ids others walk.1 (subst (λ (z : SlotId). IsWalkOfSlots table Kind (z.birth + 1) others) (sym same) other.1) in
       ap (λ z. z ∷ ids) same ∙ ap (λ l. y ∷ l) rest

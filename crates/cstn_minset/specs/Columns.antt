@@ -10,7 +10,7 @@ use Rattle.cstn_minset.specs.declared.columns.Record.{Record}
 use Rattle.cstn_minset.specs.Sheets.{Marks, mark_in}
 
 -- what contracts see of columns: the records
-pub record Listing : Type 0 where
+pub record ColumnsParts : Type 0 where
   pub items : List Record
 
 -- the mark of a record on p; where there is no record it is absent

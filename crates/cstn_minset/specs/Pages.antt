@@ -3,7 +3,7 @@ use Rattle.std.specs.Prelude.{◌≡◌, ℕ, suc, ◌+◌, ◌/◌, ◌<◌, �
 use Rattle.cstn_pool.specs.Slots.{padded}
 use Rattle.cstn_minset.specs.declared.columns.Record.{Record}
 use Rattle.cstn_minset.specs.declared.page.Page.{Page}
-use Rattle.cstn_minset.specs.Chains.{Table}
+use Rattle.cstn_minset.specs.Chains.{SlotChains}
 use Rattle.cstn_minset.specs.Links.{Ring, AreLinks}
 
 -- what contracts see of rows: how many there are, how many records find room, and the pages that were used
@@ -25,11 +25,11 @@ abbrev pub on_page : Page → List (ℕ × Record)
 on_page page = map (λ r. (page.head, r)) page.records.items
 
 -- all records of the rows, each with its row
-abbrev pub held : List Page → List (ℕ × Record)
-held pages = flat_map on_page pages
+abbrev pub held_records : List Page → List (ℕ × Record)
+held_records pages = flat_map on_page pages
 
 -- for each page, from the number n on, its row and its number
-abbrev pub homes : ℕ → List Page → Table
+abbrev pub homes : ℕ → List Page → SlotChains
 homes n [] = []
 homes n (page ∷ pages) = Some (page.head, n) ∷ homes (suc n) pages
 
@@ -38,8 +38,8 @@ abbrev pub most_pages : ℕ → ℕ → ℕ
 most_pages heads capacity = heads + capacity / 63 + 1
 
 -- the chains of pages: each page that was used is in that of its row, under its number
-abbrev pub numbered : Paged → Table
-numbered rows = padded None (most_pages rows.heads rows.capacity) (homes 0 rows.pages)
+abbrev pub numbered_pages : Paged → SlotChains
+numbered_pages rows = padded None (most_pages rows.heads rows.capacity) (homes 0 rows.pages)
 
 -- both have the same heads and the same room
 abbrev pub SameRows : Paged → Paged → Type 0

@@ -9,9 +9,9 @@ use Rattle.cstn_minset.specs.declared.passes.Sought.TheVariants.{At, Marking}
 use Rattle.cstn_minset.specs.Sets.{IsAt, IsMarking, bound_of, birth_at}
 
 -- the kind of bounds that is looked for
-abbrev pub kind_of : Sought → Bound → Type 0
-kind_of (At node) = IsAt node.0
-kind_of (Marking p) = IsMarking p.index
+abbrev pub sought_kind : Sought → Bound → Type 0
+sought_kind (At node) = IsAt node.0
+sought_kind (Marking p) = IsMarking p.index
 
 -- the record of row h is of the slot, which has the birth; it is `low` or later, and the record's bound is of the kind
 pub record IsCandidate (births : List ℕ) (Kind : Bound → Type 0) (low h : ℕ) (r : Record) (slot birth : ℕ) : Type 0 where
@@ -29,12 +29,12 @@ abbrev pub IsOnPages : List ℕ → (Bound → Type 0) → ℕ → List Page →
 IsOnPages births Kind low pages slot birth = (k : ℕ) × (page : Page) × (slice_get pages k ≡ Some page) × IsOnPage births Kind low page slot birth
 
 -- the answer has the least birth of a group, and is none only where the group is empty
-abbrev pub IsEarliest : (ℕ → ℕ → Type 0) → Option SlotId → Type 0
-IsEarliest Group answer = MatchOption answer ((slot birth : ℕ) → ¬ Group slot birth)
+abbrev pub IsEarliestSlot : (ℕ → ℕ → Type 0) → Option SlotId → Type 0
+IsEarliestSlot Group answer = MatchOption answer ((slot birth : ℕ) → ¬ Group slot birth)
     (λ id. Group id.slot id.birth × ((slot birth : ℕ) → Group slot birth → id.birth ≤ birth))
 
 -- of two ids the one with the lower birth
-abbrev pub earlier : Option SlotId → Option SlotId → Option SlotId
-earlier None other = other
-earlier (Some id) None = Some id
-earlier (Some id) (Some other) = if nat_lt other.birth id.birth then Some other else Some id
+abbrev pub earlier_slot : Option SlotId → Option SlotId → Option SlotId
+earlier_slot None other = other
+earlier_slot (Some id) None = Some id
+earlier_slot (Some id) (Some other) = if nat_lt other.birth id.birth then Some other else Some id

@@ -2,7 +2,7 @@
 use Rattle.std.specs.Prelude.{◌≡◌, ℕ, ◌<◌, List, [], ◌∷◌, Some, slice_get, slice_set}
 use Rattle.cstn_label.specs.declared.bounds.Bound.{Bound}
 use Rattle.cstn_pool.specs.declared.slot_id.SlotId.{SlotId}
-use Rattle.cstn_minset.specs.Sets.{Entries, IsOver, IsCleared}
+use Rattle.cstn_minset.specs.Sets.{Entries, IsBoundOver, IsCleared}
 
 -- a bound with the id under which it is placed
 pub record Placing : Type 0 where
@@ -27,4 +27,4 @@ pub record HaveOwnSlots (size : ℕ) (ps : List Placing) : Type 0 where
 -- the bound is at the place, and no later one dominates it
 pub record IsLastOver (ps : List Placing) (k : ℕ) (p : Placing) : Type 0 where
   pub there : slice_get ps k ≡ Some p
-  pub none_over : (j : ℕ) (q : Placing) → k < j → slice_get ps j ≡ Some q → ¬ IsOver q.bound p.bound
+  pub none_over : (j : ℕ) (q : Placing) → k < j → slice_get ps j ≡ Some q → ¬ IsBoundOver q.bound p.bound

@@ -9,7 +9,7 @@ use Rattle.cstn_label.specs.Read.{marks, the_bound}
 use Rattle.cstn_pool.specs.declared.slot_id.SlotId.{SlotId}
 use Rattle.cstn_minset.specs.declared.columns.Record.{Record}
 use Rattle.cstn_minset.specs.declared.page.Page.{Page}
-use Rattle.cstn_minset.specs.Pages.{Paged, held}
+use Rattle.cstn_minset.specs.Pages.{Paged, held_records}
 
 -- what each slot holds: nothing, or a birth and a bound
 abbrev pub Entries : Type 0
@@ -33,19 +33,19 @@ abbrev pub IsThere : Entries → SlotId → Type 0
 IsThere table id = (bound : Bound) × IsPlaced table id.slot (id.birth, bound)
 
 -- the first bound dominates the second
-abbrev pub IsOver : Bound → Bound → Type 0
-IsOver a b = Dominates (the_bound a) (the_bound b)
+abbrev pub IsBoundOver : Bound → Bound → Type 0
+IsBoundOver a b = Dominates (the_bound a) (the_bound b)
 
 -- some entry dominates the bound
-abbrev pub IsCovered : Entries → Bound → Type 0
-IsCovered table b = (slot : ℕ) × (entry : ℕ × Bound) × IsPlaced table slot entry × IsOver entry.1 b
+abbrev pub IsCoveredInSet : Entries → Bound → Type 0
+IsCoveredInSet table b = (slot : ℕ) × (entry : ℕ × Bound) × IsPlaced table slot entry × IsBoundOver entry.1 b
 
 -- exactly the entries stay that the bound doesn't dominate, each in its slot
 pub record IsCleared (b : Bound) (old new : Entries) : Type 0 where
   pub size : length new ≡ length old
   pub was : (slot : ℕ) (entry : ℕ × Bound) → IsPlaced new slot entry → IsPlaced old slot entry
-  pub none_under : (slot : ℕ) (entry : ℕ × Bound) → IsPlaced new slot entry → ¬ IsOver b entry.1
-  pub kept : (slot : ℕ) (entry : ℕ × Bound) → IsPlaced old slot entry → ¬ IsOver b entry.1 → IsPlaced new slot entry
+  pub none_under : (slot : ℕ) (entry : ℕ × Bound) → IsPlaced new slot entry → ¬ IsBoundOver b entry.1
+  pub kept : (slot : ℕ) (entry : ℕ × Bound) → IsPlaced old slot entry → ¬ IsBoundOver b entry.1 → IsPlaced new slot entry
 
 -- each birth of the table is below this one
 abbrev pub AllBornBefore : Entries → ℕ → Type 0
@@ -60,7 +60,7 @@ abbrev pub IsMarking : ℕ → Bound → Type 0
 IsMarking p b = IsMarked (marks b.label) p
 
 -- the slot holds, of the bounds of a kind, the one with the least birth from `low` on
-pub record IsLeast (table : Entries) (Kind : Bound → Type 0) (low slot birth : ℕ) : Type 0 where
+pub record IsLeastSlot (table : Entries) (Kind : Bound → Type 0) (low slot birth : ℕ) : Type 0 where
   pub bound : Bound
   pub there : IsPlaced table slot (birth, bound)
   pub kind : Kind bound
@@ -72,17 +72,17 @@ abbrev pub IsNone : Entries → (Bound → Type 0) → ℕ → Type 0
 IsNone table Kind low = (u : ℕ) (e : ℕ × Bound) → IsPlaced table u e → Kind e.1 → e.0 < low
 
 -- the answer is the id of the bound of a kind with the least birth from `low` on, and none only where there is none
-abbrev pub IsFirst : Entries → (Bound → Type 0) → ℕ → Option SlotId → Type 0
-IsFirst table Kind low answer = MatchOption answer (IsNone table Kind low) (λ id. IsLeast table Kind low id.slot id.birth)
+abbrev pub IsEarliestOfKind : Entries → (Bound → Type 0) → ℕ → Option SlotId → Type 0
+IsEarliestOfKind table Kind low answer = MatchOption answer (IsNone table Kind low) (λ id. IsLeastSlot table Kind low id.slot id.birth)
 
 -- the ids of the bounds of a kind with births from `low` on, each the first after the one before, up to the last
-abbrev pub IsWalk : Entries → (Bound → Type 0) → ℕ → List SlotId → Type 0
-IsWalk table Kind low [] = IsFirst table Kind low None
-IsWalk table Kind low (id ∷ ids) = IsFirst table Kind low (Some id) × IsWalk table Kind (id.birth + 1) ids
+abbrev pub IsWalkOfSlots : Entries → (Bound → Type 0) → ℕ → List SlotId → Type 0
+IsWalkOfSlots table Kind low [] = IsEarliestOfKind table Kind low None
+IsWalkOfSlots table Kind low (id ∷ ids) = IsEarliestOfKind table Kind low (Some id) × IsWalkOfSlots table Kind (id.birth + 1) ids
 
 -- the answer is the slot of the bound of a kind with the least birth from `low` on, and none only where there is none
 abbrev pub IsFirstSlot : Entries → (Bound → Type 0) → ℕ → Option ℕ → Type 0
-IsFirstSlot table Kind low answer = MatchOption answer (IsNone table Kind low) (λ slot. (birth : ℕ) × IsLeast table Kind low slot birth)
+IsFirstSlot table Kind low answer = MatchOption answer (IsNone table Kind low) (λ slot. (birth : ℕ) × IsLeastSlot table Kind low slot birth)
 
 -- the birth that stands for none
 abbrev pub no_birth : ℕ
@@ -94,7 +94,7 @@ birth_at births slot = slice_index_or births slot no_birth
 
 -- no entry dominates another, no two have the same birth, and each is at a time-point of the set
 pub record IsMinimal (nodes : ℕ) (table : Entries) : Type 0 where
-  pub minimal : (s t : ℕ) (e f : ℕ × Bound) → IsPlaced table s e → IsPlaced table t f → s ≢ t → ¬ IsOver e.1 f.1
+  pub minimal : (s t : ℕ) (e f : ℕ × Bound) → IsPlaced table s e → IsPlaced table t f → s ≢ t → ¬ IsBoundOver e.1 f.1
   pub apart : (s t : ℕ) (e f : ℕ × Bound) → IsPlaced table s e → IsPlaced table t f → e.0 ≡ f.0 → s ≡ t
   pub in_range : (s : ℕ) (e : ℕ × Bound) → IsPlaced table s e → (e.1.node.0 < nodes) × (e.0 < 2 ^ 64)
 
@@ -109,8 +109,8 @@ records_from n (None ∷ table) = records_from (suc n) table
 records_from n (Some entry ∷ table) = record_of n entry.1 ∷ records_from (suc n) table
 
 -- the record is that of the bound in its slot
-abbrev pub IsListed : Entries → ℕ × Record → Type 0
-IsListed table x = (birth : ℕ) × (b : Bound) × IsPlaced table x.1.slot (birth, b) × (record_of x.1.slot b ≡ x)
+abbrev pub HasItsRecord : Entries → ℕ × Record → Type 0
+HasItsRecord table x = (birth : ℕ) × (b : Bound) × IsPlaced table x.1.slot (birth, b) × (record_of x.1.slot b ≡ x)
 
 -- the bound of a record, with its time-point
 abbrev pub bound_of : ℕ × Record → Bound
@@ -127,8 +127,8 @@ entries_from records n [] = []
 entries_from records n (birth ∷ births) = option_map (λ b. (birth, b)) (recorded n records) ∷ entries_from records (suc n) births
 
 -- what each slot holds
-abbrev pub table_of : List ℕ → Paged → Entries
-table_of births rows = entries_from (held rows.pages) 0 births
+abbrev pub entries_of : List ℕ → Paged → Entries
+entries_of births rows = entries_from (held_records rows.pages) 0 births
 
 -- the record is that of a bound that dominates this one, where both are of one time-point
 abbrev pub IsRecordOver : Bound → Record → Type 0
@@ -139,8 +139,8 @@ abbrev pub IsRecordUnder : Bound → Record → Type 0
 IsRecordUnder b r = (r.least ≤ℤ b.least) × IsWithin (marks b.label) (marks r.label)
 
 -- some entry at the time-point, whose label is within this one, has this least value
-abbrev pub HasLeast : Entries → ℕ → TheLabel → ℤ → Type 0
-HasLeast table node label least =
+abbrev pub SetHasLeast : Entries → ℕ → TheLabel → ℤ → Type 0
+SetHasLeast table node label least =
     (slot : ℕ) × (entry : ℕ × Bound) × IsPlaced table slot entry × IsAt node entry.1 × IsWithin (marks entry.1.label) label × (entry.1.least ≡ least)
 
 -- the bound is at the time-point, its least value is above the floor, and its label marks the proposition, if one is given
@@ -187,11 +187,11 @@ pub record AreSlotsOf (records : List Record) (floor : ℤ) (marking : Option Pr
   pub few : length slots ≤ length records
 
 -- a minimal set whose rows have exactly the records of its bounds
-pub record IsKept (rows : Paged) (nodes : ℕ) (table : Entries) : Type 0 where
+pub record IsKeptSet (rows : Paged) (nodes : ℕ) (table : Entries) : Type 0 where
   pub heads : rows.heads ≡ nodes
   pub room : rows.capacity ≡ length table
-  pub listed : All (IsListed table) (held rows.pages)
-  pub same : (f : ℕ × Record → ℕ) → sum_by f (held rows.pages) ≡ sum_by f (records_from 0 table)
+  pub listed : All (HasItsRecord table) (held_records rows.pages)
+  pub same : (f : ℕ × Record → ℕ) → sum_by f (held_records rows.pages) ≡ sum_by f (records_from 0 table)
   pub minimal : IsMinimal nodes table
 
 -- each slot has the birth of its entry, and none where it holds nothing
@@ -202,4 +202,4 @@ pub record AreBirths (births : List ℕ) (table : Entries) : Type 0 where
 
 -- the rows and the births are those of the table
 abbrev pub IsStored : List ℕ → Paged → ℕ → Entries → Type 0
-IsStored births rows nodes table = IsKept rows nodes table × AreBirths births table
+IsStored births rows nodes table = IsKeptSet rows nodes table × AreBirths births table

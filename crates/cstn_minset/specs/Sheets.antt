@@ -15,8 +15,8 @@ abbrev pub mark_in : Marks → ℕ → ℕ → Mark
 mark_in sheet p i = mark_of (has_bit (slice_index_or sheet.positive p 0) i) (has_bit (slice_index_or sheet.negative p 0) i)
 
 -- each mark of label i is within the other label's, and each of the other's within that of label i
-abbrev pub IsInside : Marks → ℕ → Label → Type 0
-IsInside sheet i label = (p : ℕ) → p < 52 → IsMarkWithin (mark_in sheet p i) (label p)
+abbrev pub IsInsideLabel : Marks → ℕ → Label → Type 0
+IsInsideLabel sheet i label = (p : ℕ) → p < 52 → IsMarkWithin (mark_in sheet p i) (label p)
 
 abbrev pub IsOutside : Marks → ℕ → Label → Type 0
 IsOutside sheet i label = (p : ℕ) → p < 52 → IsMarkWithin (label p) (mark_in sheet p i)

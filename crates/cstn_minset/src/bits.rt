@@ -1,5 +1,5 @@
 //! Words as sets of their bits.
-ghost use Rattle.std.specs.Prelude.{ℕ, ◌≡◌, ◌<◌, ◌≤◌, nat_lt, not, ◌&&◌, true, false, IfSome, IfNone};
+ghost use Rattle.std.specs.Prelude.{ℕ, ◌≡◌, ◌<◌, ◌≤◌, nat_lt, not, ◌&&◌, cond, true, false, IfSome, IfNone};
 ghost use Rattle.cstn_label.specs.Words.{has_bit};
 
 // How many bits a word has.
@@ -32,6 +32,22 @@ pub fn bits_without(word: u64, other: u64) -> u64
     word & !other
 }
 
+/// The word with bit i set where it is clear here, and clear where it is set.
+pub fn with_flipped(word: u64, i: u32) -> u64
+    requires { i < 64 }
+    ensures here { has_bit result i ≡ not (has_bit word i) }
+    ensures others { (k : ℕ) → (k ≡ i → ⊥) → has_bit result k ≡ has_bit word k }
+{
+    word ^ 1 << i
+}
+
+/// The bits that are set in one of two words alone.
+pub fn bits_of_one(a: u64, b: u64) -> u64
+    ensures { (k : ℕ) → has_bit result k ≡ cond (has_bit a k) (not (has_bit b k)) (has_bit b k) }
+{
+    a ^ b
+}
+
 /// The least bit at i or above that is set; None where none is.
 pub fn first_bit_from(word: u64, i: u32) -> Option<u32>
     ensures set { IfSome result (λ k. has_bit word k ≡ true) }
@@ -48,4 +64,13 @@ pub fn first_bit_from(word: u64, i: u32) -> Option<u32>
         return None;
     }
     Some(i + rest.trailing_zeros())
+}
+
+/// The word without its least bit. It has one.
+pub fn without_least(word: u64) -> u64
+    requires some { (i : ℕ) × (has_bit word i ≡ true) }
+    ensures gone { (i : ℕ) → has_bit word i ≡ true → ((j : ℕ) → j < i → has_bit word j ≡ false) → has_bit result i ≡ false }
+    ensures others { (i k : ℕ) → has_bit word i ≡ true → ((j : ℕ) → j < i → has_bit word j ≡ false) → (k ≡ i → ⊥) → has_bit result k ≡ has_bit word k }
+{
+    word & (word - 1)
 }

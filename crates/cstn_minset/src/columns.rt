@@ -40,9 +40,9 @@ pub struct Columns {
 }
 
 impl Model for Columns {
-    ghost use Rattle.cstn_minset.specs.Columns.{Listing, AreColumns};
+    ghost use Rattle.cstn_minset.specs.Columns.{ColumnsParts, AreColumns};
 
-    ghost Value = { Listing };
+    ghost Value = { ColumnsParts };
 
     ghost view = { λ c. record { items = c.records.items } };
 
@@ -133,6 +133,9 @@ impl Columns {
         ensures { AreThose (λ r. IsWithin (marks label) (marks r.label)) self.now.items result }
     {
         labels_are_their_marks();
+        if !label.is_within(self.used) {
+            return 0;
+        }
         let front = first_bits(self.records.len() as u32);
         self.sheet.above(front, label)
     }

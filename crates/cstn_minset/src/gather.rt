@@ -1,19 +1,20 @@
 //! Looking through one row of records for all that may be of use, and not for one alone.
-ghost use Rattle.std.specs.Prelude.{◌≡◌, ◌⊎◌, ◌<◌, ◌≤◌, ◌+◌, ◌++◌, ◌∷◌, [], ◌<ℤ◌, ◌≤ℤ◌, pos, ℕ, List, Some, IfSome, All, false, true, length, slice_get, slice_index_or, vec_capacity};
+ghost use Rattle.std.specs.Prelude.{◌≡◌, ◌⊎◌, ◌<◌, ◌≤◌, ◌+◌, ◌++◌, ◌∷◌, [], ◌<ℤ◌, ◌≤ℤ◌, pos, ℕ, List, Some, IfSome, All, false, true, length, slice_get};
+ghost use Rattle.std.specs.Prelude.{slice_index_or, vec_capacity};
 ghost use Rattle.std.specs.List.{Contains};
 ghost use Rattle.cstn_label.specs.Read.{marks};
 ghost use Rattle.cstn_label.specs.Labels.{IsMarked, without};
 ghost use Rattle.cstn_label.specs.Words.{has_bit};
 ghost use Rattle.cstn_minset.specs.declared.columns.Record.{Record as TheRecord};
-ghost use Rattle.cstn_minset.specs.Pages.{IsPage, held};
+ghost use Rattle.cstn_minset.specs.Pages.{IsPage, held_records};
 ghost use Rattle.cstn_minset.specs.Columns.{AreThose};
 ghost use Rattle.cstn_minset.specs.Sets.{IsRecordAbove, IsRecordOf, AreSlotsOf, IsRecordAt, IsNoneOf, IsNoneOn};
 
-use crate::bits::{bits_without, first_bit_from, first_bits, with_bit};
+use crate::bits::{bits_without, first_bit_from, first_bits, without_least};
 use crate::columns::{Columns, Record};
 use crate::page::{Page, higher};
 use crate::rows::Rows;
-use cstn_label::{Label, NodeId, Prop};
+use cstn_label::{Label, NodeId, Prop, labels_are_their_marks};
 
 /// The greatest least value of a record of the row whose label is within this one, or 0 where that is lower.
 pub fn greatest_within(rows: &Rows, node: NodeId, label: Label) -> i32
@@ -47,7 +48,7 @@ fn greatest_among(page: &Page, bits: u64, floor: i32) -> i32
     let mut rest = bits;
     while let Some(i) = first_bit_from(rest, 0) {
         greatest = higher(greatest, page.records.least(i));
-        rest = with_bit(rest, i, false);
+        rest = without_least(rest);
     }
     greatest
 }
@@ -71,19 +72,36 @@ pub fn greatest_without(rows: &Rows, node: NodeId, label: Label) -> [i32; 52]
 // proposition, where that is higher.
 fn raise_on_page(page: &Page, label: Label, greatest: &mut [i32; 52])
     ensures { (p : ℕ) → p < 52 → (slice_index_or greatest.new p (pos 0) ≡ slice_index_or greatest.old p (pos 0))
-        ⊎ ((i : ℕ) × (r : TheRecord) × (slice_get page.now.records.items i ≡ Some r) × IsRecordOf (without (marks label) p) (slice_index_or greatest.new p (pos 0)) r) }
+        ⊎ ((i : ℕ) × (r : TheRecord) × (slice_get page.now.records.items i ≡ Some r)
+        × IsRecordOf (without (marks label) p) (slice_index_or greatest.new p (pos 0)) r) }
 {
+    let records = page.records.as_slice();
     let within = page.records.within(label);
-    if within == 0 {
+    let mut rest = within;
+    while let Some(i) = first_bit_from(rest, 0) {
+        raise_by(&records[i as usize], label, greatest);
+        rest = without_least(rest);
+    }
+}
+
+// Raises each of these to the least value of a record whose label is within this one, where the record doesn't mark the proposition
+// and the label does, and where that is higher.
+fn raise_by(kept: &Record, label: Label, greatest: &mut [i32; 52])
+    ensures { (p : ℕ) → p < 52 → (slice_index_or greatest.new p (pos 0) ≡ slice_index_or greatest.old p (pos 0))
+        ⊎ ((¬ IsMarked (marks kept.now.label) p) × (kept.now.least ≡ slice_index_or greatest.new p (pos 0))) }
+{
+    if kept.least <= 0 {
         return;
     }
-    let mut index = 0;
-    while let Some(p) = label.first_marked_from(index) {
-        let at = p.index as usize;
-        let unmarked = bits_without(within, page.records.marking(p));
-        let floor = greatest[at];
-        greatest[at] = greatest_among(page, unmarked, floor);
-        index = p.index + 1;
+    labels_are_their_marks();
+    let (positive, negative) = label.words();
+    let (kept_positive, kept_negative) = kept.label.words();
+    let unmarked = bits_without(positive | negative, kept_positive | kept_negative);
+    let mut rest = unmarked;
+    while let Some(p) = first_bit_from(rest, 0) {
+        let at = p as usize;
+        greatest[at] = higher(greatest[at], kept.least);
+        rest = without_least(rest);
     }
 }
 
@@ -97,9 +115,11 @@ pub struct Above {
 
 /// Writes down the slots of the records of the row that are looked for.
 pub fn slots_above(rows: &Rows, node: NodeId, sought: Above, found: &mut Vec<u32>)
-    requires room { length (held rows.now.pages) ≤ vec_capacity found.old }
-    ensures all { (k i : ℕ) (r : TheRecord) → IsRecordAt rows.now.pages node.0 k i r → IsRecordAbove sought.floor sought.marking r → Contains found.new.items r.slot }
-    ensures only { All (λ s. (k i : ℕ) × (r : TheRecord) × IsRecordAt rows.now.pages node.0 k i r × IsRecordAbove sought.floor sought.marking r × (r.slot ≡ s)) found.new.items }
+    requires room { length (held_records rows.now.pages) ≤ vec_capacity found.old }
+    ensures all { (k i : ℕ) (r : TheRecord) → IsRecordAt rows.now.pages node.0 k i r → IsRecordAbove sought.floor sought.marking r →
+        Contains found.new.items r.slot }
+    ensures only { All (λ s. (k i : ℕ) × (r : TheRecord) × IsRecordAt rows.now.pages node.0 k i r × IsRecordAbove sought.floor sought.marking r
+        × (r.slot ≡ s)) found.new.items }
     ensures capacity { vec_capacity found.new ≡ vec_capacity found.old }
 {
     found.clear();
@@ -122,11 +142,11 @@ fn add_slots_above(page: &Page, sought: Above, found: &mut Vec<u32>)
     }
     let records = page.records.as_slice();
     let marking = marking_if_given(&page.records, sought.marking);
-    let mut from = 0;
-    while let Some(i) = first_bit_from(marking, from) {
+    let mut rest = marking;
+    while let Some(i) = first_bit_from(rest, 0) {
         let kept = records[i as usize];
         add_if_above(kept, sought.floor, found);
-        from = i + 1;
+        rest = without_least(rest);
     }
 }
 

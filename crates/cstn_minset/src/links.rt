@@ -1,6 +1,6 @@
 ghost use Rattle.std.specs.Prelude.{◌≡◌, ◌<◌, ◌≤◌, ◌+◌, ◌^◌, ℕ, Some, None, length, IfOk, slice_set, replicate};
-ghost use Rattle.cstn_minset.specs.Chains.{Table, key_of, IsIn, IsFirstKey};
-ghost use Rattle.cstn_minset.specs.Links.{Ring, IsPrev, IsRing, AreLinks, AreNumbers, SameSize};
+ghost use Rattle.cstn_minset.specs.Chains.{SlotChains, key_of, IsIn, IsFirstKey};
+ghost use Rattle.cstn_minset.specs.Links.{Ring, IsPrev, IsRing, AreLinks, AreOwnKeys, SameSize};
 
 use crate::places::Places;
 use std::alloc::{AllocError, Global};
@@ -50,7 +50,7 @@ impl Links {
 
     /// The chain's slot with the least key; None where the chain is empty, or past the last chain.
     pub fn first(&self, head: u32) -> Option<u32>
-        ensures { (table : Table) → AreLinks self.now table → IsFirstKey table head 0 result }
+        ensures { (table : SlotChains) → AreLinks self.now table → IsFirstKey table head 0 result }
     {
         if self.heads <= head {
             return None;
@@ -62,7 +62,7 @@ impl Links {
     /// The slot of the same chain with the next greater key; None behind the last.
     pub fn next(&self, slot: u32) -> Option<u32>
         requires { slot < self.now.slots }
-        ensures { (table : Table) (h k : ℕ) → AreLinks self.now table → IsIn table h slot k → IsFirstKey table h (k + 1) result }
+        ensures { (table : SlotChains) (h k : ℕ) → AreLinks self.now table → IsIn table h slot k → IsFirstKey table h (k + 1) result }
     {
         let next = self.next.at(slot);
         if next < self.slots { Some(next) } else { None }
@@ -79,8 +79,8 @@ impl Links {
     /// The place of the last slot of a chain below a slot, or the end of the chain. Each slot's key is its own number.
     pub fn last_below(&self, head: u32, slot: u32) -> u32
         requires head { head < self.now.heads }
-        requires numbers { (table : Table) × AreLinks self.now table × AreNumbers table }
-        ensures before { (table : Table) → AreLinks self.now table → AreNumbers table → IsPrev table self.now.slots self.now.heads head slot result }
+        requires numbers { (table : SlotChains) × AreLinks self.now table × AreOwnKeys table }
+        ensures before { (table : SlotChains) → AreLinks self.now table → AreOwnKeys table → IsPrev table self.now.slots self.now.heads head slot result }
         ensures inside { result < self.now.slots + self.now.heads }
     {
         let mut before = self.end(head);
@@ -100,7 +100,7 @@ impl Links {
         requires slot { slot < self.old.slots }
         requires before { before < self.old.slots + self.old.heads }
         ensures size { SameSize self.old self.new }
-        ensures linked { (table : Table) (head key : ℕ) → AreLinks self.old table → head < self.old.heads → key < 2 ^ 128 → key_of table slot ≡ None
+        ensures linked { (table : SlotChains) (head key : ℕ) → AreLinks self.old table → head < self.old.heads → key < 2 ^ 128 → key_of table slot ≡ None
             → ((u : ℕ) → ¬ IsIn table head u key) → IsPrev table self.old.slots self.old.heads head key before
             → AreLinks self.new (slice_set table slot (Some (head, key))) }
     {
@@ -115,7 +115,8 @@ impl Links {
     pub fn remove(&mut self, slot: u32)
         requires { slot < self.old.slots }
         ensures size { SameSize self.old self.new }
-        ensures linked { (table : Table) (head key : ℕ) → AreLinks self.old table → IsIn table head slot key → AreLinks self.new (slice_set table slot None) }
+        ensures linked { (table : SlotChains) (head key : ℕ) → AreLinks self.old table → IsIn table head slot key →
+            AreLinks self.new (slice_set table slot None) }
     {
         let before = self.prev.at(slot);
         let after = self.next.at(slot);

@@ -3,8 +3,9 @@ ghost use Rattle.std.specs.Prelude.{slice_index_or, replicate, map, pos, All, ve
 ghost use Rattle.std.specs.List.{Contains};
 ghost use Rattle.cstn_label.specs.Labels.{without};
 ghost use Rattle.cstn_label.specs.Read.{marks};
-ghost use Rattle.cstn_minset.specs.Sets.{Places, Entries, entry_at, IsPlaced, IsThere, IsOver, IsCovered, IsCleared, AllBornBefore, IsAt, IsMarking, IsFirst};
-ghost use Rattle.cstn_minset.specs.Sets.{IsFirstSlot, IsMinimal, HasLeast, IsSoughtAbove};
+ghost use Rattle.cstn_minset.specs.Sets.{Places, Entries, entry_at, IsPlaced, IsThere, IsBoundOver, IsCoveredInSet, IsCleared, AllBornBefore, IsAt};
+ghost use Rattle.cstn_minset.specs.Sets.{IsMarking, IsEarliestOfKind};
+ghost use Rattle.cstn_minset.specs.Sets.{IsFirstSlot, IsMinimal, SetHasLeast, IsSoughtAbove};
 
 use crate::births::{Births, NO_BIRTH};
 use crate::columns::Record;
@@ -31,13 +32,13 @@ pub struct MinSet {
 }
 
 impl Model for MinSet {
-    ghost use Rattle.cstn_minset.specs.Sets.{Places, IsStored, table_of};
+    ghost use Rattle.cstn_minset.specs.Sets.{Places, IsStored, entries_of};
 
     ghost Value = { Places };
 
-    ghost view = { λ m. record { nodes = m.nodes; table = table_of m.births m.rows } };
+    ghost view = { λ m. record { nodes = m.nodes; table = entries_of m.births m.rows } };
 
-    ghost invariant = { λ m. IsStored m.births m.rows m.nodes (table_of m.births m.rows) };
+    ghost invariant = { λ m. IsStored m.births m.rows m.nodes (entries_of m.births m.rows) };
 }
 
 impl MinSet {
@@ -56,7 +57,7 @@ impl MinSet {
 
     /// Whether some entry dominates the bound.
     pub fn covers(&self, b: &Bound) -> bool
-        ensures covers { IsTrue result ↔ IsCovered self.now.table b.now }
+        ensures covers { IsTrue result ↔ IsCoveredInSet self.now.table b.now }
         ensures minimal { IsMinimal self.now.nodes self.now.table }
         ensures one_for_each { (s t : ℕ) (e f : ℕ × Bound) → IsPlaced self.now.table s e → IsPlaced self.now.table t f → e.1.node.0 ≡ f.1.node.0
             → e.1.label ≡ f.1.label → s ≡ t }
@@ -66,8 +67,8 @@ impl MinSet {
 
     /// The id of an entry that dominates the bound; None exactly where no entry does.
     pub fn cover(&self, b: &Bound) -> Option<SlotId>
-        ensures cover { IfSome result (λ id. (c : Bound) × IsPlaced self.now.table id.slot (id.birth, c) × IsOver c b.now) }
-        ensures none { IfNone result (¬ IsCovered self.now.table b.now) }
+        ensures cover { IfSome result (λ id. (c : Bound) × IsPlaced self.now.table id.slot (id.birth, c) × IsBoundOver c b.now) }
+        ensures none { IfNone result (¬ IsCoveredInSet self.now.table b.now) }
         ensures minimal { IsMinimal self.now.nodes self.now.table }
     {
         labels_are_their_marks();
@@ -79,14 +80,14 @@ impl MinSet {
 
     /// Puts a bound in under a new id, and takes those out that it dominates.
     pub fn place(&mut self, b: &Bound, id: SlotId)
-        requires uncovered { ¬ IsCovered self.old.table b.now }
+        requires uncovered { ¬ IsCoveredInSet self.old.table b.now }
         requires node { b.now.node.0 < self.old.nodes }
         requires slot { id.slot < length self.old.table }
         requires free { entry_at self.old.table id.slot ≡ None }
         requires birth { AllBornBefore self.old.table id.birth }
         ensures placed { (cleared : Entries) × IsCleared b.now self.old.table cleared
             × (self.new ≡ record self.old { table = slice_set cleared id.slot (Some (id.birth, b.now)) }) }
-        ensures covering_grows { (c : Bound) → IsCovered self.old.table c → IsCovered self.new.table c }
+        ensures covering_grows { (c : Bound) → IsCoveredInSet self.old.table c → IsCoveredInSet self.new.table c }
     {
         labels_are_their_marks();
         while self.take_under(b) {}
@@ -95,9 +96,9 @@ impl MinSet {
 
     // Takes out an entry that the bound dominates; false where it dominates none.
     fn take_under(&mut self, b: &Bound) -> bool
-        ensures taken { IsTrue result → (s : ℕ) × (e : ℕ × Bound) × IsPlaced self.old.table s e × IsOver b.now e.1
+        ensures taken { IsTrue result → (s : ℕ) × (e : ℕ × Bound) × IsPlaced self.old.table s e × IsBoundOver b.now e.1
             × (self.new ≡ record self.old { table = slice_set self.old.table s None }) }
-        ensures none { result ≡ false → (self.new ≡ self.old) × ((s : ℕ) (e : ℕ × Bound) → IsPlaced self.old.table s e → ¬ IsOver b.now e.1) }
+        ensures none { result ≡ false → (self.new ≡ self.old) × ((s : ℕ) (e : ℕ × Bound) → IsPlaced self.old.table s e → ¬ IsBoundOver b.now e.1) }
         ensures minimal { IsMinimal self.old.nodes self.old.table }
     {
         labels_are_their_marks();
@@ -112,8 +113,8 @@ impl MinSet {
     }
 
     fn put(&mut self, b: Bound, slot: u32, birth: u64)
-        requires uncovered { ¬ IsCovered self.old.table b }
-        requires none_under { (u : ℕ) (e : ℕ × Bound) → IsPlaced self.old.table u e → ¬ IsOver b e.1 }
+        requires uncovered { ¬ IsCoveredInSet self.old.table b }
+        requires none_under { (u : ℕ) (e : ℕ × Bound) → IsPlaced self.old.table u e → ¬ IsBoundOver b e.1 }
         requires node { b.node.0 < self.old.nodes }
         requires slot { slot < length self.old.table }
         requires free { entry_at self.old.table slot ≡ None }
@@ -151,7 +152,7 @@ impl MinSet {
 
     /// The id of the time-point's entry with the least birth; None where it has no entry.
     pub fn first(&self, node: NodeId) -> Option<SlotId>
-        ensures first { IsFirst self.now.table (IsAt node.0) 0 result }
+        ensures first { IsEarliestOfKind self.now.table (IsAt node.0) 0 result }
     {
         self.first_from(node, 0)
     }
@@ -159,7 +160,7 @@ impl MinSet {
     /// The id of the same time-point's entry with the next birth; None behind the last.
     pub fn next(&self, id: SlotId) -> Option<SlotId>
         requires { IsThere self.now.table id }
-        ensures next { (b : Bound) → IsPlaced self.now.table id.slot (id.birth, b) → IsFirst self.now.table (IsAt b.node.0) (id.birth + 1) result }
+        ensures next { (b : Bound) → IsPlaced self.now.table id.slot (id.birth, b) → IsEarliestOfKind self.now.table (IsAt b.node.0) (id.birth + 1) result }
     {
         let node = self.bound(id.slot).node;
         match id.birth.checked_add(1) {
@@ -171,7 +172,7 @@ impl MinSet {
     /// The id of the time-point's entry with the least birth that is at least this one; None where
     /// there is none. Looks at every bound once.
     pub fn first_from(&self, node: NodeId, birth: u64) -> Option<SlotId>
-        ensures first { IsFirst self.now.table (IsAt node.0) birth result }
+        ensures first { IsEarliestOfKind self.now.table (IsAt node.0) birth result }
     {
         earliest(&self.rows, &self.births, Sought::At(node), birth)
     }
@@ -180,7 +181,7 @@ impl MinSet {
     /// with the least birth that is at least this one; None where there is none. Looks at every
     /// bound once.
     pub fn marked_from(&self, p: Prop, birth: u64) -> Option<SlotId>
-        ensures first { IsFirst self.now.table (IsMarking p.index) birth result }
+        ensures first { IsEarliestOfKind self.now.table (IsMarking p.index) birth result }
     {
         earliest(&self.rows, &self.births, Sought::Marking(p), birth)
     }
@@ -228,7 +229,7 @@ impl MinSet {
 
     /// The greatest least value of an entry at the time-point whose label is within this one, or 0 where that is lower.
     pub fn floor(&self, node: NodeId, label: Label) -> i32
-        ensures floor { (result ≡ pos 0) ⊎ HasLeast self.now.table node.0 (marks label) result }
+        ensures floor { (result ≡ pos 0) ⊎ SetHasLeast self.now.table node.0 (marks label) result }
     {
         greatest_within(&self.rows, node, label)
     }
@@ -237,7 +238,7 @@ impl MinSet {
     /// one without that mark, or 0 where that is lower.
     pub fn floors(&self, node: NodeId, label: Label) -> [i32; 52]
         ensures floors { (p : ℕ) → p < 52 → (slice_index_or result p (pos 0) ≡ pos 0)
-            ⊎ HasLeast self.now.table node.0 (without (marks label) p) (slice_index_or result p (pos 0)) }
+            ⊎ SetHasLeast self.now.table node.0 (without (marks label) p) (slice_index_or result p (pos 0)) }
     {
         greatest_without(&self.rows, node, label)
     }

@@ -1,7 +1,7 @@
 //! A pass over all records for the bound of a kind with the least birth.
 ghost use Rattle.std.specs.Prelude.{◌≡◌, ◌<◌, ◌↔◌, IsTrue};
 ghost use Rattle.cstn_minset.specs.Sets.{bound_of};
-ghost use Rattle.cstn_minset.specs.Passes.{kind_of, IsCandidate, IsOnPage, IsOnPages, IsEarliest, earlier as the_earlier};
+ghost use Rattle.cstn_minset.specs.Passes.{sought_kind, IsCandidate, IsOnPage, IsOnPages, IsEarliestSlot, earlier_slot as the_earlier};
 
 use crate::births::Births;
 use crate::columns::Record;
@@ -19,7 +19,7 @@ pub enum Sought {
 
 /// The id of the bound with the least birth from `low` on; None where there is none.
 pub fn earliest(rows: &Rows, births: &Births, sought: Sought, low: u64) -> Option<SlotId>
-    ensures { IsEarliest (IsOnPages births.now (kind_of sought) low rows.now.pages) result }
+    ensures { IsEarliestSlot (IsOnPages births.now (sought_kind sought) low rows.now.pages) result }
 {
     let mut best = None;
     for page in rows.pages() {
@@ -29,7 +29,7 @@ pub fn earliest(rows: &Rows, births: &Births, sought: Sought, low: u64) -> Optio
 }
 
 fn earliest_on_page(page: &Page, births: &Births, sought: Sought, low: u64) -> Option<SlotId>
-    ensures { IsEarliest (IsOnPage births.now (kind_of sought) low page.now) result }
+    ensures { IsEarliestSlot (IsOnPage births.now (sought_kind sought) low page.now) result }
 {
     let mut best = None;
     for kept in page.records.as_slice() {
@@ -40,7 +40,7 @@ fn earliest_on_page(page: &Page, births: &Births, sought: Sought, low: u64) -> O
 
 // The id of a record, where it is one that is looked for.
 fn candidate(head: u32, kept: Record, births: &Births, sought: Sought, low: u64) -> Option<SlotId>
-    ensures { IsEarliest (IsCandidate births.now (kind_of sought) low head kept) result }
+    ensures { IsEarliestSlot (IsCandidate births.now (sought_kind sought) low head kept) result }
 {
     let birth = births.at(kept.slot);
     if birth < low || !is_sought(head, kept, sought) {
@@ -53,7 +53,7 @@ fn candidate(head: u32, kept: Record, births: &Births, sought: Sought, low: u64)
 }
 
 fn is_sought(head: u32, kept: Record, sought: Sought) -> bool
-    ensures { IsTrue result ↔ kind_of sought (bound_of (head, kept)) }
+    ensures { IsTrue result ↔ sought_kind sought (bound_of (head, kept)) }
 {
     match sought {
         Sought::At(node) => head == node.0 as u32,

@@ -5,7 +5,7 @@ ghost use Rattle.cstn_minset.specs.declared.columns.Record.{Record};
 ghost use Rattle.cstn_minset.specs.Chains.{IsFirstKey};
 ghost use Rattle.cstn_minset.specs.Links.{AreLinks, SameSize};
 ghost use Rattle.cstn_pool.specs.Slots.{padded};
-ghost use Rattle.cstn_minset.specs.Pages.{IsPage, IsPageOf, on_page, held, homes, numbered, most_pages, AreOpened, StartsWith, SameRows};
+ghost use Rattle.cstn_minset.specs.Pages.{IsPage, IsPageOf, on_page, held_records, homes, numbered_pages, most_pages, AreOpened, StartsWith, SameRows};
 
 use crate::columns::Record;
 use crate::links::Links;
@@ -45,7 +45,7 @@ impl Rows {
     /// Empty rows for these heads, with room for this many records. Fails for want of memory alone.
     pub fn start(alloc: Global, heads: u16, capacity: u32) -> Result<Rows, AllocError>
         ensures size { IfOk result (λ rows. (rows.heads ≡ heads) × (rows.capacity ≡ capacity)) }
-        ensures empty { IfOk result (λ rows. held rows.pages ≡ []) }
+        ensures empty { IfOk result (λ rows. held_records rows.pages ≡ []) }
     {
         let heads = heads as u32;
         let total = heads + capacity / LEAST as u32 + 1;
@@ -62,7 +62,7 @@ impl Rows {
 
     /// The first page of the head's row; None where there is no such head.
     pub fn first(&self, head: u32) -> Option<u32>
-        ensures first { IsFirstKey (numbered self.now) head 0 result }
+        ensures first { IsFirstKey (numbered_pages self.now) head 0 result }
         ensures own { head < self.now.heads → IsPageOf self.now.pages head head }
     {
         self.links.first(head)
@@ -71,7 +71,7 @@ impl Rows {
     /// The page of the same row with the next number; None behind the last.
     pub fn next(&self, page: u32) -> Option<u32>
         requires { page < length self.now.pages }
-        ensures { (h : ℕ) → IsPageOf self.now.pages h page → IsFirstKey (numbered self.now) h (page + 1) result }
+        ensures { (h : ℕ) → IsPageOf self.now.pages h page → IsFirstKey (numbered_pages self.now) h (page + 1) result }
     {
         self.links.next(page)
     }
@@ -96,9 +96,9 @@ impl Rows {
     /// Puts a record into the head's row.
     pub fn put(&mut self, head: u32, added: Record)
         requires head { head < self.old.heads }
-        requires room { length (held self.old.pages) < self.old.capacity }
+        requires room { length (held_records self.old.pages) < self.old.capacity }
         ensures size { SameRows self.old self.new }
-        ensures put { IsPermutation ((head, added) ∷ held self.old.pages) (held self.new.pages) }
+        ensures put { IsPermutation ((head, added) ∷ held_records self.old.pages) (held_records self.new.pages) }
     {
         self.make_room(head);
         self.pages[head as usize].add(added);
@@ -110,7 +110,8 @@ impl Rows {
         requires index { (p : ThePage) → slice_get self.old.pages page ≡ Some p → index < length p.records.items }
         ensures size { SameRows self.old self.new }
         ensures value { (p : ThePage) → slice_get self.old.pages page ≡ Some p → result ≡ slice_index_or p.records.items index result }
-        ensures taken { (p : ThePage) → slice_get self.old.pages page ≡ Some p → IsPermutation (held self.old.pages) ((p.head, result) ∷ held self.new.pages) }
+        ensures taken { (p : ThePage) → slice_get self.old.pages page ≡ Some p →
+            IsPermutation (held_records self.old.pages) ((p.head, result) ∷ held_records self.new.pages) }
     {
         let page = self.page_to_take_from(page);
         self.pages[page as usize].take(index)
@@ -119,7 +120,7 @@ impl Rows {
     /// Takes all records out.
     pub fn clear(&mut self)
         ensures size { SameRows self.old self.new }
-        ensures empty { held self.new.pages ≡ [] }
+        ensures empty { held_records self.new.pages ≡ [] }
     {
         self.links.clear();
         self.pages.clear();
@@ -129,10 +130,10 @@ impl Rows {
     // Leaves room on the first page of the head's row.
     fn make_room(&mut self, head: u32)
         requires head { head < self.old.heads }
-        requires room { length (held self.old.pages) < self.old.capacity }
+        requires room { length (held_records self.old.pages) < self.old.capacity }
         ensures size { SameRows self.old self.new }
         ensures page { (p : ThePage) × (slice_get self.new.pages head ≡ Some p) × (p.head ≡ head) × (length p.records.items < 64) }
-        ensures same { IsPermutation (held self.old.pages) (held self.new.pages) }
+        ensures same { IsPermutation (held_records self.old.pages) (held_records self.new.pages) }
     {
         if self.pages[head as usize].records.len() == ROOM {
             self.pass_on(head);
@@ -143,10 +144,10 @@ impl Rows {
     fn pass_on(&mut self, head: u32)
         requires head { head < self.old.heads }
         requires full { (p : ThePage) → slice_get self.old.pages head ≡ Some p → length p.records.items ≡ 64 }
-        requires room { length (held self.old.pages) < self.old.capacity }
+        requires room { length (held_records self.old.pages) < self.old.capacity }
         ensures size { SameRows self.old self.new }
         ensures page { (p : ThePage) × (slice_get self.new.pages head ≡ Some p) × (p.head ≡ head) × (length p.records.items < 64) }
-        ensures same { IsPermutation (held self.old.pages) (held self.new.pages) }
+        ensures same { IsPermutation (held_records self.old.pages) (held_records self.new.pages) }
     {
         let none = Page::empty(head);
         let full = mem::replace(&mut self.pages[head as usize], none);
@@ -158,11 +159,11 @@ impl Rows {
         requires row { page.head < self.old.heads }
         requires full { length page.records.items ≡ 64 }
         requires is { IsPage page }
-        requires room { length (held self.old.pages) ≤ self.old.capacity }
+        requires room { length (held_records self.old.pages) ≤ self.old.capacity }
         ensures size { SameRows self.old self.new }
         ensures there { slice_get self.new.pages result ≡ Some page }
         ensures kept { (k : ℕ) (p : ThePage) → slice_get self.old.pages k ≡ Some p → p.head < self.old.heads → slice_get self.new.pages k ≡ Some p }
-        ensures same { IsPermutation (on_page page ++ held self.old.pages) (held self.new.pages) }
+        ensures same { IsPermutation (on_page page ++ held_records self.old.pages) (held_records self.new.pages) }
     {
         match self.links.first(self.heads) {
             Some(number) => {
@@ -212,7 +213,7 @@ impl Rows {
         ensures front { (p : ThePage) → slice_get self.old.pages page ≡ Some p
             → (q : ThePage) × (slice_get self.new.pages result ≡ Some q) × (q.head ≡ p.head) × StartsWith p.records.items q.records.items }
         ensures spare { (q : ThePage) → slice_get self.new.pages result ≡ Some q → (result < self.new.heads) ⊎ (63 < length q.records.items) }
-        ensures same { IsPermutation (held self.old.pages) (held self.new.pages) }
+        ensures same { IsPermutation (held_records self.old.pages) (held_records self.new.pages) }
     {
         if page < self.heads || self.pages[page as usize].records.len() > LEAST {
             return page;
@@ -236,7 +237,7 @@ impl Rows {
         ensures filled { (p : ThePage) → slice_get self.old.pages page ≡ Some p
             → (q : ThePage) × (moved : Record) × (slice_get self.new.pages page ≡ Some q) × (q.head ≡ p.head)
             × (q.records.items ≡ p.records.items ++ moved ∷ []) }
-        ensures same { IsPermutation (held self.old.pages) (held self.new.pages) }
+        ensures same { IsPermutation (held_records self.old.pages) (held_records self.new.pages) }
     {
         let moved = self.pages[first as usize].take(0);
         self.pages[page as usize].add(moved);
@@ -250,7 +251,7 @@ impl Rows {
         requires empty { (p : ThePage) → slice_get self.old.pages first ≡ Some p → p.records.items ≡ [] }
         ensures size { SameRows self.old self.new }
         ensures made { (p : ThePage) → slice_get self.old.pages page ≡ Some p → slice_get self.new.pages first ≡ Some p }
-        ensures same { IsPermutation (held self.old.pages) (held self.new.pages) }
+        ensures same { IsPermutation (held_records self.old.pages) (held_records self.new.pages) }
     {
         self.links.remove(page);
         let before = self.links.last_below(self.heads, page);

@@ -4,7 +4,7 @@ ghost use Rattle.cstn_minset.specs.declared.columns.Record.{Record as TheRecord}
 ghost use Rattle.cstn_minset.specs.Pages.{IsPage};
 ghost use Rattle.cstn_minset.specs.Sets.{IsRecordOver, IsRecordUnder, IsRecordAt, IsNoneOf, IsNoneOn, IsNoneInSlot, IsInSlot, bound_of};
 
-use crate::bits::{first_bit_from, with_bit};
+use crate::bits::{first_bit_from, without_least};
 use crate::page::Page;
 use crate::rows::Rows;
 use cstn_label::{Bound, NodeId};
@@ -87,7 +87,7 @@ fn over_on_page(page: &Page, b: &Bound) -> Option<u32>
         if b.least <= kept.least {
             return Some(kept.slot);
         }
-        rest = with_bit(rest, i, false);
+        rest = without_least(rest);
     }
     None
 }
@@ -108,7 +108,7 @@ fn under_on_page(page: &Page, b: &Bound) -> Option<usize>
         if kept.least <= b.least {
             return Some(i as usize);
         }
-        rest = with_bit(rest, i, false);
+        rest = without_least(rest);
     }
     None
 }

@@ -1,13 +1,13 @@
-ghost use Rattle.std.specs.Prelude.{ℕ, ◌≡◌, ◌<◌, ◌↔◌, true};
+ghost use Rattle.std.specs.Prelude.{ℕ, ◌≡◌, ◌<◌, ◌↔◌, true, false, not, slice_index_or};
 ghost use Rattle.cstn_label.specs.declared.marks.Mark.TheVariants.{Absent};
 ghost use Rattle.cstn_label.specs.Labels.{IsMarked};
 ghost use Rattle.cstn_label.specs.Marks.{is_marked};
 ghost use Rattle.cstn_label.specs.Read.{marks, mark_of};
 ghost use Rattle.cstn_label.specs.Words.{has_bit};
-ghost use Rattle.cstn_minset.specs.Sheets.{mark_in, IsInside, IsOutside, IsInNone, IsInAll};
+ghost use Rattle.cstn_minset.specs.Sheets.{mark_in, IsInsideLabel, IsOutside, IsInNone, IsInAll};
 
-use crate::bits::{bits_without, first_bit_from, with_bit};
-use cstn_label::{Label, Mark, Prop, labels_are_their_marks};
+use crate::bits::{bits_of_one, bits_without, first_bit_from, with_flipped, without_least};
+use cstn_label::{Label, Prop, labels_are_their_marks};
 use std::marker::Model;
 
 /// The marks of 64 labels side by side: for each literal a word, whose bit i tells whether label i has it. So what is asked of
@@ -47,30 +47,25 @@ impl Sheet {
         ensures after { (p : ℕ) → p < 52 → mark_in self.new p i ≡ marks after p }
         ensures others { (p k : ℕ) → (k ≡ i → ⊥) → mark_in self.new p k ≡ mark_in self.old p k }
     {
-        let both = before.join(after);
-        let mut index = 0;
-        while let Some(p) = both.first_marked_from(index) {
-            self.set(p, i, after.mark(p));
-            index = p.index + 1;
-        }
-    }
-
-    // Writes the mark of label i on p.
-    fn set(&mut self, p: Prop, i: u32, m: Mark)
-        requires { i < 64 }
-        ensures here { mark_in self.new p.index i ≡ m }
-        ensures others { (q k : ℕ) → ((q ≡ p.index) × (k ≡ i) → ⊥) → mark_in self.new q k ≡ mark_in self.old q k }
-    {
-        let (yes, no) = literals(m);
-        let at = p.index as usize;
-        self.positive[at] = with_bit(self.positive[at], i, yes);
-        self.negative[at] = with_bit(self.negative[at], i, no);
+        labels_are_their_marks();
+        let (before_positive, before_negative) = before.words();
+        let (positive, negative) = after.words();
+        flip_all(
+            &mut self.positive,
+            bits_of_one(before_positive, positive),
+            i,
+        );
+        flip_all(
+            &mut self.negative,
+            bits_of_one(before_negative, negative),
+            i,
+        );
     }
 
     /// Of these labels, those that are within the other label. `used` is a label within which they all are.
     pub fn within(&self, front: u64, used: Label, label: Label) -> u64
-        requires used { (i : ℕ) → IsInside self.now i (marks used) }
-        ensures { (i : ℕ) → (has_bit result i ≡ true ↔ ((has_bit front i ≡ true) × IsInside self.now i (marks label))) }
+        requires used { (i : ℕ) → IsInsideLabel self.now i (marks used) }
+        ensures { (i : ℕ) → (has_bit result i ≡ true ↔ ((has_bit front i ≡ true) × IsInsideLabel self.now i (marks label))) }
     {
         labels_are_their_marks();
         let (used_positive, used_negative) = used.words();
@@ -102,14 +97,13 @@ fn in_none(front: u64, words: &[u64; 52], numbers: u64) -> u64
     requires { (p : ℕ) → has_bit numbers p ≡ true → p < 52 }
     ensures { (i : ℕ) → (has_bit result i ≡ true ↔ ((has_bit front i ≡ true) × IsInNone words.now numbers i)) }
 {
-    let mut left = front;
+    let mut any = 0;
     let mut rest = numbers;
     while let Some(p) = first_bit_from(rest, 0) {
-        let word = words[p as usize];
-        left = bits_without(left, word);
-        rest = with_bit(rest, p, false);
+        any |= words[p as usize];
+        rest = without_least(rest);
     }
-    left
+    bits_without(front, any)
 }
 
 // Of these bits, those that are in all of the words of the numbers.
@@ -122,19 +116,22 @@ fn in_all(front: u64, words: &[u64; 52], numbers: u64) -> u64
     while let Some(p) = first_bit_from(rest, 0) {
         let word = words[p as usize];
         left &= word;
-        rest = with_bit(rest, p, false);
+        rest = without_least(rest);
     }
     left
 }
 
-// Whether a mark has the positive literal, and whether it has the negative one.
-fn literals(m: Mark) -> (bool, bool)
-    ensures { mark_of result.0 result.1 ≡ m }
+// Flips bit i of each of the words of the numbers.
+fn flip_all(words: &mut [u64; 52], numbers: u64, i: u32)
+    requires small { i < 64 }
+    requires numbers { (p : ℕ) → has_bit numbers p ≡ true → p < 52 }
+    ensures flipped { (p : ℕ) → has_bit numbers p ≡ true → has_bit (slice_index_or words.new p 0) i ≡ not (has_bit (slice_index_or words.old p 0) i) }
+    ensures kept { (p : ℕ) → has_bit numbers p ≡ false → slice_index_or words.new p 0 ≡ slice_index_or words.old p 0 }
+    ensures others { (p k : ℕ) → (k ≡ i → ⊥) → has_bit (slice_index_or words.new p 0) k ≡ has_bit (slice_index_or words.old p 0) k }
 {
-    match m {
-        Mark::Absent => (false, false),
-        Mark::Yes => (true, false),
-        Mark::No => (false, true),
-        Mark::Unknown => (true, true),
+    let mut rest = numbers;
+    while let Some(p) = first_bit_from(rest, 0) {
+        words[p as usize] = with_flipped(words[p as usize], i);
+        rest = without_least(rest);
     }
 }

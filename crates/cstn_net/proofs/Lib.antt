@@ -16,6 +16,7 @@ pub mod ChangeLemmas
 pub mod Same
 mod ObserverLemmas
 pub mod LinkLemmas
+pub mod Values
 -- What a builder holds, and its faults.
 pub mod Lowest
 pub mod DraftLemmas

@@ -6,7 +6,7 @@ use Rattle.std.proofs.lemmas.Bool.{cases_lt, cases_eq, eq-eqb, ne_eqb}
 use Rattle.std.proofs.lemmas.List.{get_or_append_left, get_or-set_same, get_or-set_other, length-set, length-append, length-map, get_or-map}
 use Rattle.cstn_net.specs.declared.constraints.Constraint.{Constraint}
 use Rattle.cstn_net.specs.declared.links.Chain.{Chain}
-use Rattle.cstn_net.specs.Links.{IsPlaceOf, IsNextPlace, IsLastPlace, IsChain, AreLinked, ends, ends_at, left_to}
+use Rattle.cstn_net.specs.Links.{IsPlaceOf, IsNextPlace, IsLastPlace, StandsFromTo, AreLinked, ends, ends_at, left_to}
 
 none_in : {X : Type 0} (n k : ℕ) → get_or {A = Option X} (replicate n None) k None ≡ None
 none_in zero k = refl
@@ -17,7 +17,7 @@ none_in (suc n) (suc k) = none_in n k
 pub none_linked : (n : ℕ) → AreLinked [] (replicate n None) []
 none_linked n = record {
   long = refl;
-  chained = λ x inside. subst (IsChain x []) (sym (none_in n x)) (λ k low inside here. omega arith);
+  chained = λ x inside. subst (StandsFromTo x []) (sym (none_in n x)) (λ k low inside here. omega arith);
   followed = λ k inside. absurd (omega arith);
 }
 
@@ -86,7 +86,7 @@ module _ (xs : List ℕ) (y : ℕ) where
             nowhere_stays x (p + 1) other (λ k from within at. h.after k (omega arith) within at) k (omega arith) within at;
       }
 
-  chain_stays : (x : ℕ) (o : Option Chain) → (y ≡ x → ⊥) → IsChain x xs o → IsChain x (xs ++ y ∷ []) o
+  chain_stays : (x : ℕ) (o : Option Chain) → (y ≡ x → ⊥) → StandsFromTo x xs o → StandsFromTo x (xs ++ y ∷ []) o
   chain_stays x None other none = nowhere_stays x 0 other none
   chain_stays x (Some c) other h = (place_stays x 0 c.first h.0, last_stays x c.last other h.1)
 
@@ -95,8 +95,8 @@ module _ (xs : List ℕ) (y : ℕ) where
 
 module _ (xs : List ℕ) (chains : List (Option Chain)) (nexts : List (Option ℕ)) (y : ℕ) (inside : y < length chains) (linked : AreLinked xs chains nexts) where
   -- the chains stay right when y gets a chain that is right for it
-  chains_with : (o : Option Chain) → IsChain y (xs ++ y ∷ []) o → (x : ℕ) → x < length (set chains y o) →
-      IsChain x (xs ++ y ∷ []) (get_or (set chains y o) x None)
+  chains_with : (o : Option Chain) → StandsFromTo y (xs ++ y ∷ []) o → (x : ℕ) → x < length (set chains y o) →
+      StandsFromTo x (xs ++ y ∷ []) (get_or (set chains y o) x None)
   chains_with o at_y x within = elim (cases_eq x y) [
     | inl same ↦ rw same (rw (get_or-set_same chains y o None inside) at_y)
     | inr other ↦
@@ -127,7 +127,7 @@ module _ (xs : List ℕ) (chains : List (Option Chain)) (nexts : List (Option �
       AreLinked (xs ++ y ∷ []) (set chains y (Some (record { first = m; last = m }))) (nexts ++ None ∷ [])
   chain_begun m at none =
       let long = linked.long in
-      let nowhere = subst (IsChain y xs) none (linked.chained y inside) in
+      let nowhere = subst (StandsFromTo y xs) none (linked.chained y inside) in
       record {
         long = omega (arith, length-append nexts (None ∷ []), length-append xs (y ∷ []));
         chained = chains_with (Some (record { first = m; last = m }))
@@ -144,7 +144,7 @@ module _ (xs : List ℕ) (chains : List (Option Chain)) (nexts : List (Option �
   chain_grown m c at some =
       let long = linked.long in
       let more = length-append nexts (None ∷ []) in
-      let chain = subst (IsChain y xs) some (linked.chained y inside) in
+      let chain = subst (StandsFromTo y xs) some (linked.chained y inside) in
       let last = chain.1 in
       let last_inside = last.inside in
       let nothing_later : IsNextPlace y (c.last + 1) xs None = λ k from within at. last.after k (omega arith) within at in

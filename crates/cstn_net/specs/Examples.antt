@@ -7,17 +7,17 @@ use Rattle.cstn_net.specs.Networks.{Constraint, Network}
 use Rattle.cstn_net.specs.Strategies.{Table}
 
 -- p has the mark m, and no other proposition has a mark
-abbrev pub only : Mark → Label
-only m zero = m
-only m (suc p) = Absent
+abbrev pub only_mark : Mark → Label
+only_mark m zero = m
+only_mark m (suc p) = Absent
 
 -- X is at 10 or later where p is true
 abbrev pub ten_if_true : Constraint
-ten_if_true = record { id = 0; from = 2; to = 0; most = negsuc 9; label = only Yes }
+ten_if_true = record { id = 0; from = 2; to = 0; most = negsuc 9; label = only_mark Yes }
 
 -- X is at 3 or earlier where p is false
 abbrev pub three_if_false : Constraint
-three_if_false = record { id = 1; from = 0; to = 2; most = pos 3; label = only No }
+three_if_false = record { id = 1; from = 0; to = 2; most = pos 3; label = only_mark No }
 
 -- P is at 3 or later
 abbrev pub observed_late : Constraint
@@ -33,8 +33,8 @@ branch = record {
 }
 
 -- the branch network with P at 3 or later
-abbrev pub late : Network
-late = record branch { constraints = branch.constraints ++ observed_late ∷ [] }
+abbrev pub branch_late : Network
+branch_late = record branch { constraints = branch.constraints ++ observed_late ∷ [] }
 
 -- 10 for true, and 1 for false
 abbrev pub ten_or_one : Bool → ℕ

@@ -36,13 +36,13 @@ pub record IsLastPlace (x : ℕ) (xs : List ℕ) (p : ℕ) : Type 0 where
   pub after : (k : ℕ) → p < k → k < length xs → slice_index_or xs k 0 ≡ x → ⊥
 
 -- the first and the last place at which x stands; none where it stands nowhere
-abbrev pub IsChain : ℕ → List ℕ → Option Chain → Type 0
-IsChain x xs None = IsNextPlace x 0 xs None
-IsChain x xs (Some c) = IsPlaceOf x 0 xs c.first × IsLastPlace x xs c.last
+abbrev pub StandsFromTo : ℕ → List ℕ → Option Chain → Type 0
+StandsFromTo x xs None = IsNextPlace x 0 xs None
+StandsFromTo x xs (Some c) = IsPlaceOf x 0 xs c.first × IsLastPlace x xs c.last
 
 -- `chains` has the first and the last place of each time-point, and `nexts` has the next place of the same time-point for
 -- each place
 pub record AreLinked (xs : List ℕ) (chains : List (Option Chain)) (nexts : List (Option ℕ)) : Type 0 where
   pub long : length nexts ≡ length xs
-  pub chained : (x : ℕ) → x < length chains → IsChain x xs (slice_index_or chains x None)
+  pub chained : (x : ℕ) → x < length chains → StandsFromTo x xs (slice_index_or chains x None)
   pub followed : (k : ℕ) → k < length xs → IsNextPlace (slice_index_or xs k 0) (k + 1) xs (slice_index_or nexts k None)

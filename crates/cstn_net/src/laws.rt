@@ -11,7 +11,7 @@ ghost use Rattle.cstn_net.specs.Bounds.{HoldsIn, IsPossibleIn};
 ghost use Rattle.cstn_net.specs.declared.errors.NetError.{NetError};
 ghost use Rattle.cstn_net.specs.Drafts.{BuilderParts, IsDraftAmong, IsLowestNetFault, constraints_from};
 ghost use Rattle.cstn_net.specs.Read.{the_network};
-ghost use Rattle.cstn_net.specs.Examples.{branch, branch_table, late, coarse, fine, fine_table};
+ghost use Rattle.cstn_net.specs.Examples.{branch, branch_table, branch_late, coarse, fine, fine_table};
 
 /// An observer is a time-point, and observes one proposition.
 pub fn observers_are_time_points()
@@ -139,8 +139,8 @@ pub fn branch_has_a_strategy()
 /// The branch network with P at 3 or later is well-formed and has no strategy: where p is false X is due at 3, and p isn't
 /// known before 4.
 pub fn late_has_no_strategy()
-    ensures network { IsWellFormed late }
-    ensures strategy { IsConsistent late → ⊥ }
+    ensures network { IsWellFormed branch_late }
+    ensures strategy { IsConsistent branch_late → ⊥ }
 {}
 
 /// Halves of ticks would allow more: the network `coarse` has no strategy on ticks, and `fine`, the same network with the deadline and

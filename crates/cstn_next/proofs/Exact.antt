@@ -26,17 +26,17 @@ use Rattle.cstn_plan.proofs.AskedLemmas.{greatest_upper, greatest_attained, aske
 use Rattle.cstn_plan.proofs.Strategies.{asked_least}
 use Rattle.cstn_history.specs.Histories.{History, IsHistory, AgreesWith, known_at}
 use Rattle.cstn_history.specs.Continuations.{IsLeastNow, IsAwaited, IsNamed, IsEventful, IsNext}
-use Rattle.cstn_history.specs.Rest.{is_left, number_of, rest}
+use Rattle.cstn_history.specs.Rest.{is_left, number_left, rest}
 use Rattle.cstn_history.proofs.Settled.{as_told, told_agrees, told_same, told_itself, holds_allows, some_or_none}
 use Rattle.cstn_history.proofs.Places.{left_coming, new_inside, observes_back}
 use Rattle.cstn_history.proofs.ToRest.{executed_left}
 use Rattle.cstn_history.proofs.Decides.{least_both}
 use Rattle.cstn_history.proofs.NextMoment.{quiet_upto}
-use Rattle.cstn_next.specs.Next.{IsPlannedBy, IsAllDone, is_ready, latest, coming_at, coming_moments, awaited_from, awaited_moments, earliest, next_moment, is_upto, named, awaited}
+use Rattle.cstn_next.specs.Next.{IsPlannedBy, IsAllDone, is_ready, latest, coming_at, coming_moments, awaited_from, awaited_moments, earliest, next_moment, is_upto, named_at_next, awaited_props}
 use Rattle.cstn_next.proofs.Lists.{IsBy, by_left, by_right, earlier_one, earliest_by, earliest_one}
 use Rattle.cstn_next.proofs.Coming.{upto_true, upto_by, ready_coming, ready_executed, ready_from, awaited_at, awaited_letter, awaited_now, awaited_back}
 
-least_one : (m : Labelled) (h : History) (s : Scenario) (x t u : ℕ) → IsLeastNow m h s x t → IsLeastNow m h s x u → t ≡ u
+pub least_one : (m : Labelled) (h : History) (s : Scenario) (x t u : ℕ) → IsLeastNow m h s x t → IsLeastNow m h s x u → t ≡ u
 least_one m h s x t u a b =
     let up = a.least b.reached.0 b.reached.1 in
     let up_at = b.reached.2 in
@@ -55,7 +55,7 @@ module _ (m : Labelled) (h : History) (fresh : ℕ) (bounds : List Bound) (plan 
   T = asked net bounds
 
   abbrev new : ℕ → ℕ
-  new = number_of m h
+  new = number_left m h
 
   abbrev good : IsLabelled m
   good = plan.labelled
@@ -162,7 +162,7 @@ module _ (m : Labelled) (h : History) (fresh : ℕ) (bounds : List Bound) (plan 
       let r = latest_reached (new x) within in
       let l = n.least r.scenario r.agrees in
       let same = least_one m h r.scenario x (T r.scenario (new x)) t (least_at r.scenario x r.agrees n.here n.coming l.executed) l in
-      let from = l.reached.1.from_now r.scenario x r.agrees n.here n.coming l.executed in
+      let from = l.reached.1.from_soonest r.scenario x r.agrees n.here n.coming l.executed in
       let at = l.reached.2 in
       let reached = r.same in
       coming_is x t (ready_from m h good x n.coming (λ s agrees. (n.least s agrees).executed)) (omega arith)
@@ -224,7 +224,7 @@ module _ (m : Labelled) (h : History) (fresh : ℕ) (bounds : List Bound) (plan 
     pub is_next : IsNext m h t
     is_next = record { from = found.0; eventful = found.1; first = first_here }
 
-    pub named_exactly : (x : ℕ) → Contains (named m h bounds t) x ↔ IsNamed m h t x
+    pub named_exactly : (x : ℕ) → Contains (named_at_next m h bounds t) x ↔ IsNamed m h t x
     named_exactly x = (
       (λ c.
           let parts = passing_from (λ y. is_upto t (coming_at m h bounds y)) (count m.base) x c in
@@ -233,7 +233,7 @@ module _ (m : Labelled) (h : History) (fresh : ℕ) (bounds : List Bound) (plan 
           (upto_true t (coming_at m h bounds x) (t, named_at t x n, omega arith))),
     )
 
-    pub awaited_exactly : (p : ℕ) → Contains (awaited m h t) p ↔ IsAwaited m h t p
+    pub awaited_exactly : (p : ℕ) → Contains (awaited_props m h t) p ↔ IsAwaited m h t p
     awaited_exactly p = (
       (λ c. awaited_back m h good p t (upto_by t (awaited_from m h p) (passing_from (λ q. is_upto t (awaited_from m h q)) 52 p c).1)),
       (λ a. passing (λ q. is_upto t (awaited_from m h q)) 52 p (awaited_letter m h good p a.1.since a.1.observed)

@@ -19,7 +19,7 @@ use Rattle.cstn_lift.specs.Labelled.{Labelled}
 use Rattle.cstn_plan.specs.Asked.{moment_of}
 use Rattle.cstn_plan.specs.Plans.{the_bounds}
 use Rattle.cstn_history.specs.Histories.{History}
-use Rattle.cstn_history.specs.Rest.{number_of, is_left}
+use Rattle.cstn_history.specs.Rest.{number_left, is_left}
 use Rattle.cstn_history.specs.Handed.{AreNumbers}
 use Rattle.cstn_next.specs.Next.{latest}
 
@@ -39,18 +39,18 @@ latest_more bounds k x b before now at old new =
     new ∙ ap (λ n. cond ((b.node.0 == x) && is_plain (the_bound b).label) (max (moment_of b.least) n) n) old
     ∙ sym (ap (λ l. latest (the_bounds l) x) (drop_next bounds k b at))
 
-pub number_upto : (m : Labelled) (h : History) (x : ℕ) → number_of m h x ≤ x
+pub number_upto : (m : Labelled) (h : History) (x : ℕ) → number_left m h x ≤ x
 number_upto m h x = let both = length-filter_both (is_left m h) (λ y. not (is_left m h y)) (λ y. refl) (range_with_len 0 x) in let long = length-range_with_len 0 x in omega arith
 
 pub numbers_long : (m : Labelled) (h : History) (numbers : List ℕ) → AreNumbers m h numbers → length numbers ≡ count m.base
-numbers_long m h numbers are = ap length are ∙ length-map (range_with_len 0 (count m.base)) (number_of m h) ∙ length-range_with_len 0 (count m.base)
+numbers_long m h numbers are = ap length are ∙ length-map (range_with_len 0 (count m.base)) (number_left m h) ∙ length-range_with_len 0 (count m.base)
 
 pub number_at : (m : Labelled) (h : History) (numbers : List ℕ) (x d : ℕ) → AreNumbers m h numbers → x < count m.base →
-    slice_index_or numbers x d ≡ number_of m h x
+    slice_index_or numbers x d ≡ number_left m h x
 number_at m h numbers x d are here =
     let size = length-range_with_len 0 (count m.base) in
-    ap (λ l. slice_index_or l x d) are ∙ get_or-map (number_of m h) (range_with_len 0 (count m.base)) x 0 d (omega arith)
-    ∙ ap (number_of m h) (get_or-range_with_len 0 (count m.base) x 0 here ∙ (let same : 0 + x ≡ x = omega arith in same))
+    ap (λ l. slice_index_or l x d) are ∙ get_or-map (number_left m h) (range_with_len 0 (count m.base)) x 0 d (omega arith)
+    ∙ ap (number_left m h) (get_or-range_with_len 0 (count m.base) x 0 here ∙ (let same : 0 + x ≡ x = omega arith in same))
 
 -- the next number, where it passes a test
 pub passing_more : {X : Type 0} → (number : X → ℕ) (test : ℕ → Bool) (old new : List X) (x : X) (n : ℕ) (b : Bool) → number x ≡ n →

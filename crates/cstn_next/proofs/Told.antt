@@ -10,7 +10,7 @@ use Rattle.cstn_lift.specs.Labelled.{Labelled}
 use Rattle.cstn_history.specs.Histories.{History}
 use Rattle.cstn_history.specs.Continuations.{IsNext, IsNamed, IsAwaited}
 use Rattle.cstn_next.specs.declared.moments.NextMoment.{NextMoment}
-use Rattle.cstn_next.specs.Next.{IsPlannedBy, IsAllDone, TellsNext, coming_at, coming_moments, awaited_from, awaited_moments, is_upto, named, awaited, next_moment}
+use Rattle.cstn_next.specs.Next.{IsPlannedBy, IsAllDone, TellsNext, coming_at, coming_moments, awaited_from, awaited_moments, is_upto, named_at_next, awaited_props, next_moment}
 use Rattle.cstn_next.proofs.Exact.{is_next, named_exactly, awaited_exactly, done_exactly}
 use Rattle.cstn_next.proofs.Filled.{filled, filled_by}
 
@@ -49,7 +49,7 @@ pub told_by : (m : Labelled) (h : History) (bounds : List Bound) (n : NextMoment
     map (λ p. p.index) n.awaited.items ≡ filter (λ p. is_upto t (slice_index_or awaited_all p None)) (range_with_len 0 52) → TellsNext m h bounds (Some n)
 told_by m h bounds n t coming awaited_all coming_are awaited_are first at steps outcomes = (
   sym first ∙ ap (λ (u : ℕ). Some u) (sym at),
-  steps ∙ filled (is_upto t) (coming_at m h bounds) (count m.base) coming coming_are ∙ ap (named m h bounds) (sym at),
+  steps ∙ filled (is_upto t) (coming_at m h bounds) (count m.base) coming coming_are ∙ ap (named_at_next m h bounds) (sym at),
   outcomes ∙ ap (λ l. filter (λ p. is_upto t (slice_index_or l p None)) (range_with_len 0 52)) awaited_are
-      ∙ filled_by (is_upto t) (awaited_from m h) 52 ∙ ap (awaited m h) (sym at),
+      ∙ filled_by (is_upto t) (awaited_from m h) 52 ∙ ap (awaited_props m h) (sym at),
 )

@@ -13,7 +13,7 @@ use Rattle.cstn_lift.specs.Lowered.{lowered}
 use Rattle.cstn_lift.specs.WellFormed.{IsLabelled}
 use Rattle.cstn_lift.specs.Strategies.{IsExecuted}
 use Rattle.cstn_history.specs.Histories.{History, IsHistory, IsObservedAt, AgreesWith, is_done, is_told, known_at}
-use Rattle.cstn_history.specs.Rest.{number_of, rest}
+use Rattle.cstn_history.specs.Rest.{number_left, rest}
 use Rattle.cstn_history.specs.Facts.{settles, observed_since}
 use Rattle.cstn_next.specs.declared.moments.NextMoment.{NextMoment}
 
@@ -44,7 +44,7 @@ latest bounds k = greatest (λ b. (b.node == k) && is_plain b.label) bounds
 
 -- the moment from now on at which x comes at the latest, where it is ready
 abbrev pub coming_at : Labelled → History → List Bound → ℕ → Option ℕ
-coming_at m h bounds x = if is_ready m h x then Some (max h.now (latest bounds (number_of m h x))) else None
+coming_at m h bounds x = if is_ready m h x then Some (max h.now (latest bounds (number_left m h x))) else None
 
 -- the moment from now on from which the outcome of p is awaited, where it isn't told and its observer was done at the moment given
 abbrev pub awaited_since : Labelled → History → ℕ → Option ℕ → Option ℕ
@@ -82,16 +82,16 @@ is_upto t None = false
 is_upto t (Some u) = nat_le u t
 
 -- the time-points that are named at the next moment t, and the propositions whose outcomes are awaited at it
-abbrev pub named : Labelled → History → List Bound → ℕ → List ℕ
-named m h bounds t = filter (λ x. is_upto t (coming_at m h bounds x)) (range_with_len 0 (count m.base))
+abbrev pub named_at_next : Labelled → History → List Bound → ℕ → List ℕ
+named_at_next m h bounds t = filter (λ x. is_upto t (coming_at m h bounds x)) (range_with_len 0 (count m.base))
 
-abbrev pub awaited : Labelled → History → ℕ → List ℕ
-awaited m h t = filter (λ p. is_upto t (awaited_from m h p)) (range_with_len 0 52)
+abbrev pub awaited_props : Labelled → History → ℕ → List ℕ
+awaited_props m h t = filter (λ p. is_upto t (awaited_from m h p)) (range_with_len 0 52)
 
 -- what is told of the next moment, by the bounds: when it is, and what is named and what is awaited at it; nothing where nothing is left
 abbrev pub TellsNext : Labelled → History → List Bound → Option NextMoment → Type 0
 TellsNext m h bounds None = next_moment m h bounds ≡ None
 TellsNext m h bounds (Some n) =
     (next_moment m h bounds ≡ Some n.moment)
-    × (map (λ x. x.0) n.named.items ≡ named m h bounds n.moment)
-    × (map (λ p. p.index) n.awaited.items ≡ awaited m h n.moment)
+    × (map (λ x. x.0) n.named.items ≡ named_at_next m h bounds n.moment)
+    × (map (λ p. p.index) n.awaited.items ≡ awaited_props m h n.moment)

@@ -5,7 +5,7 @@ ghost use Rattle.cstn_label.specs.Bounds.{Bound};
 ghost use Rattle.cstn_lift.specs.Labelled.{Labelled};
 ghost use Rattle.cstn_history.specs.Histories.{History};
 ghost use Rattle.cstn_history.specs.Continuations.{IsNext, IsNamed, IsAwaited};
-ghost use Rattle.cstn_next.specs.Next.{IsPlannedBy, IsAllDone, next_moment, named, awaited};
+ghost use Rattle.cstn_next.specs.Next.{IsPlannedBy, IsAllDone, next_moment, named_at_next, awaited_props};
 
 /// The bounds of a sound plan of what is left tell what is next. There is a next moment unless nothing is left; at it those time-points
 /// are named that are ready and at which no bound with a plain label asks for a later moment.
@@ -13,9 +13,9 @@ pub fn next_is_exact()
     ensures next { (m : Labelled) (h : History) (fresh : ℕ) (bounds : List Bound) (t : ℕ) → IsPlannedBy m h fresh bounds
         → next_moment m h bounds ≡ Some t → IsNext m h t }
     ensures named { (m : Labelled) (h : History) (fresh : ℕ) (bounds : List Bound) (t x : ℕ) → IsPlannedBy m h fresh bounds
-        → next_moment m h bounds ≡ Some t → (Contains (named m h bounds t) x ↔ IsNamed m h t x) }
+        → next_moment m h bounds ≡ Some t → (Contains (named_at_next m h bounds t) x ↔ IsNamed m h t x) }
     ensures awaited { (m : Labelled) (h : History) (fresh : ℕ) (bounds : List Bound) (t p : ℕ) → IsPlannedBy m h fresh bounds
-        → next_moment m h bounds ≡ Some t → (Contains (awaited m h t) p ↔ IsAwaited m h t p) }
+        → next_moment m h bounds ≡ Some t → (Contains (awaited_props m h t) p ↔ IsAwaited m h t p) }
     ensures done { (m : Labelled) (h : History) (fresh : ℕ) (bounds : List Bound) → IsPlannedBy m h fresh bounds
         → (next_moment m h bounds ≡ None ↔ IsAllDone m h) }
 {}

@@ -18,12 +18,12 @@ use Rattle.cstn_text.proofs.SplitLemmas.{parts_joined}
 use Rattle.cstn_text.proofs.ReadingLemmas.{within_said, part_said, node_said}
 use Rattle.cstn_text.proofs.ListingLemmas.{text_said as listing_said}
 pub use Rattle.cstn_text.proofs.ListingLemmas.{told_first, first_wrong, told_last}
-use Rattle.cstn_outline.specs.Trees.{Tree, Line, lines_of}
+use Rattle.cstn_outline.specs.Trees.{Tree, TreeLine, lines_of_tree}
 use Rattle.cstn_outline.specs.Trees.Tree.{at, ask, done}
-use Rattle.cstn_outline.specs.Trees.Line.{AtLine, AskLine, DoneLine}
-use Rattle.cstn_outline.specs.Texts.{printed_line, printed_lines, shown, put_first, nodes_read, names_read, at_read, ask_read, word_read, line_read, ahead_after, ahead_next, ahead_of, next_read, is_over, tree_lines, tells, without_load, told}
+use Rattle.cstn_outline.specs.Trees.TreeLine.{AtLine, AskLine, DoneLine}
+use Rattle.cstn_outline.specs.Texts.{printed_line, printed_lines, tree_shown, put_first, nodes_read, tree_names_read, at_read, ask_read, tree_word_read, tree_line_read, ahead_after, ahead_next, ahead_of, next_read, is_tree_over, tree_lines, tells, without_load, tree_told}
 use Rattle.cstn_outline.specs.Whole.{all_lines}
-use Rattle.cstn_outline.specs.Written.{NamesSome, depth, FitsText, IsPrintableLine, IsTextOfTree}
+use Rattle.cstn_outline.specs.Written.{NamesSome, depth, TreeFitsText, IsPrintableLine, IsTextOfTree}
 use Rattle.cstn_outline.specs.Read.{the_tree}
 use Rattle.cstn_outline.proofs.TreeLemmas.{tree_back}
 use Rattle.cstn_outline.proofs.ReadLemmas.{along_more}
@@ -76,22 +76,22 @@ module _ (names : List (List ℕ)) where
         text = ap (λ (t : List ℕ). 32 ∷ (t ++ 32 ∷ joined 32 parts tail)) node.1 ∙ ap (λ (t : List ℕ). 32 ∷ (shown_name x.0 ++ t)) below.text;
       })
 
-  names_said : (text : List ℕ) (xs : List ℕ) → names_read names text ≡ Some xs → AreNamesSaid text xs
+  names_said : (text : List ℕ) (xs : List ℕ) → tree_names_read names text ≡ Some xs → AreNamesSaid text xs
   names_said text xs e = subst (λ (t : List ℕ). AreNamesSaid t xs) (parts_joined 32 text) (nodes_said (parts_at 32 text).0 (parts_at 32 text).1 xs e)
 
   -- ---- lines
 
   -- the text is the printed one of a line that can be written
-  record IsLine (bytes : List ℕ) (l : Line) : Type 0 where
+  record IsLine (bytes : List ℕ) (l : TreeLine) : Type 0 where
     named : NamesSome l
     written : IsPrintableLine names l
     text : bytes ≡ printed_line names l
 
-  at_said : (rest : List ℕ) (l : Line) → at_read names rest ≡ Some l → IsLine (codes "at" ++ 32 ∷ rest) l
+  at_said : (rest : List ℕ) (l : TreeLine) → at_read names rest ≡ Some l → IsLine (codes "at" ++ 32 ∷ rest) l
   at_said rest l e =
-      let cut = then_read (part rest) (λ found. option_and_then (λ t. option_map (AtLine t) (names_read names found.1)) (number_within 0 4294967295 found.0)) l e in
-      let t = then_read (number_within 0 4294967295 cut.0.0) (λ t. option_map (AtLine t) (names_read names cut.0.1)) l cut.2 in
-      let xs = map_read (names_read names cut.0.1) (AtLine t.0) l t.2 in
+      let cut = then_read (part rest) (λ found. option_and_then (λ t. option_map (AtLine t) (tree_names_read names found.1)) (number_within 0 4294967295 found.0)) l e in
+      let t = then_read (number_within 0 4294967295 cut.0.0) (λ t. option_map (AtLine t) (tree_names_read names cut.0.1)) l cut.2 in
+      let xs = map_read (tree_names_read names cut.0.1) (AtLine t.0) l t.2 in
       let moment = within_said 0 4294967295 cut.0.0 t.0 t.1 in
       let named = names_said cut.0.1 xs.0 xs.1 in
       let high = moment.1 in
@@ -101,7 +101,7 @@ module _ (names : List (List ℕ)) where
         text = ap (λ (r : List ℕ). codes "at " ++ r) (part_said rest cut.0 cut.1 ∙ ap (λ (n : List ℕ). n ++ 32 ∷ cut.0.1) moment.2 ∙ ap (λ (r : List ℕ). printed_number t.0 ++ r) named.text);
       })
 
-  ask_said : (rest : List ℕ) (l : Line) → ask_read rest ≡ Some l → IsLine (codes "ask" ++ 32 ∷ rest) l
+  ask_said : (rest : List ℕ) (l : TreeLine) → ask_read rest ≡ Some l → IsLine (codes "ask" ++ 32 ∷ rest) l
   ask_said [] l e = absurd (cc)
   ask_said (b ∷ (other ∷ bytes)) l e = absurd (cc)
   ask_said (b ∷ []) l e =
@@ -113,7 +113,7 @@ module _ (names : List (List ℕ)) where
         text = ap (λ n. codes "ask " ++ n ∷ []) letter.1;
       })
 
-  word_said : (word rest : List ℕ) (l : Line) → word_read names word rest ≡ Some l → IsLine (word ++ 32 ∷ rest) l
+  word_said : (word rest : List ℕ) (l : TreeLine) → tree_word_read names word rest ≡ Some l → IsLine (word ++ 32 ∷ rest) l
   word_said word rest l e = by_at (bytes_eq word (codes "at")) refl e
     where
       by_ask : (b : Bool) → bytes_eq word (codes "ask") ≡ b → (if b then ask_read rest else None) ≡ Some l → IsLine (word ++ 32 ∷ rest) l
@@ -124,14 +124,14 @@ module _ (names : List (List ℕ)) where
       by_at true is e = subst (λ (w : List ℕ). IsLine (w ++ 32 ∷ rest) l) (sym ((bytes_eq-Decides word (codes "at")).0 is)) (at_said rest l e)
       by_at false is e = by_ask (bytes_eq word (codes "ask")) refl e
 
-  line_said : (text : List ℕ) (l : Line) → line_read names text ≡ Some l → IsLine text l
+  line_said : (text : List ℕ) (l : TreeLine) → tree_line_read names text ≡ Some l → IsLine text l
   line_said text l e = by_done (bytes_eq text (codes "done")) refl e
     where
       by_done : (b : Bool) → bytes_eq text (codes "done") ≡ b →
-          (if b then Some DoneLine else option_and_then (λ found. word_read names found.0 found.1) (part text)) ≡ Some l → IsLine text l
+          (if b then Some DoneLine else option_and_then (λ found. tree_word_read names found.0 found.1) (part text)) ≡ Some l → IsLine text l
       by_done true is e = subst (IsLine text) (same_Some _ l e) (record { named = tt; written = tt; text = (bytes_eq-Decides text (codes "done")).0 is })
       by_done false is e =
-          let cut = then_read (part text) (λ found. word_read names found.0 found.1) l e in
+          let cut = then_read (part text) (λ found. tree_word_read names found.0 found.1) l e in
           subst (λ (t : List ℕ). IsLine t l) (sym (part_said text cut.0 cut.1)) (word_said cut.0.0 cut.0.1 l cut.2)
 
   -- ---- trees
@@ -144,7 +144,7 @@ module _ (names : List (List ℕ)) where
   AreWithin (d ∷ ahead) (tree ∷ trees) = (d + depth tree ≤ 2101) × AreWithin ahead trees
 
   -- the text is that of the lines, which are those of trees within these depths
-  record AreTrees (ahead : List ℕ) (lines : List Line) (bytes : List ℕ) : Type 0 where
+  record AreTrees (ahead : List ℕ) (lines : List TreeLine) (bytes : List ℕ) : Type 0 where
     trees : List Tree
     within : AreWithin ahead trees
     whole : lines ≡ all_lines trees
@@ -152,7 +152,7 @@ module _ (names : List (List ℕ)) where
     each : All (IsPrintableLine names) (all_lines trees)
     text : bytes ≡ printed_lines names (all_lines trees)
 
-  module _ (d : ℕ) (ahead : List ℕ) (l : Line) (lines : List Line) (line rest : List ℕ) where
+  module _ (d : ℕ) (ahead : List ℕ) (l : TreeLine) (lines : List TreeLine) (line rest : List ℕ) where
     -- the trees that begin with a line, and go on with the lines of other trees
     begun_trees : IsLine line l → (trees : List Tree) → AreWithin (d ∷ ahead) trees → (below : List Tree) → all_lines trees ≡ l ∷ all_lines below →
         lines ≡ all_lines below → All NamesSome (all_lines below) → All (IsPrintableLine names) (all_lines below) → rest ≡ printed_lines names (all_lines below) →
@@ -170,11 +170,11 @@ module _ (names : List (List ℕ)) where
     }
 
   -- a line and the trees that it asks for are the trees that begin with it
-  line_trees : (d : ℕ) (ahead : List ℕ) (l : Line) (lines : List Line) (line rest : List ℕ) → d ≤ 2100 → IsLine line l →
+  line_trees : (d : ℕ) (ahead : List ℕ) (l : TreeLine) (lines : List TreeLine) (line rest : List ℕ) → d ≤ 2100 → IsLine line l →
       AreTrees (ahead_after d ahead l) lines rest → AreTrees (d ∷ ahead) (l ∷ lines) (line ++ 10 ∷ rest)
   line_trees d ahead l lines line rest upto is after = go l is after.trees after.within after.whole after.named after.each after.text
     where
-      go : (l : Line) → IsLine line l → (trees : List Tree) → AreWithin (ahead_after d ahead l) trees → lines ≡ all_lines trees → All NamesSome (all_lines trees) →
+      go : (l : TreeLine) → IsLine line l → (trees : List Tree) → AreWithin (ahead_after d ahead l) trees → lines ≡ all_lines trees → All NamesSome (all_lines trees) →
           All (IsPrintableLine names) (all_lines trees) → rest ≡ printed_lines names (all_lines trees) → AreTrees (d ∷ ahead) (l ∷ lines) (line ++ 10 ∷ rest)
       go (AtLine t xs) is [] within whole named each text = absurd within
       go (AtLine t xs) is (next ∷ trees) within whole named each text =
@@ -186,18 +186,18 @@ module _ (names : List (List ℕ)) where
           let deep = within.0 in
           let also = within.1.0 in
           begun_trees d ahead (AskLine p) lines line rest is (ask p one other ∷ trees) (omega arith, within.1.1) (one ∷ (other ∷ trees))
-          (ap (λ ls. AskLine p ∷ ls) (append_assoc (lines_of one) (lines_of other) (all_lines trees))) whole named each text
+          (ap (λ ls. AskLine p ∷ ls) (append_assoc (lines_of_tree one) (lines_of_tree other) (all_lines trees))) whole named each text
       go DoneLine is trees within whole named each text =
           begun_trees d ahead DoneLine lines line rest is (done ∷ trees) (omega arith, within) trees refl whole named each text
 
-  within_depth : (d : ℕ) (o : Option Line) (l : Line) → (if nat_le d 2100 then o else None) ≡ Some l → (d ≤ 2100) × (o ≡ Some l)
+  within_depth : (d : ℕ) (o : Option TreeLine) (l : TreeLine) → (if nat_le d 2100 then o else None) ≡ Some l → (d ≤ 2100) × (o ≡ Some l)
   within_depth d o l e = let both = if_read (nat_le d 2100) o l e in (upto both.0, both.1)
     where
       upto : nat_le d 2100 ≡ true → d ≤ 2100
       upto e = grind arith
 
   -- lines that are read until no tree is to come are those of trees
-  lines_said : (ahead : List ℕ) (before lines : List Line) (bytes : List ℕ) → ahead_of before ≡ ahead → ahead_of (before ++ lines) ≡ [] →
+  lines_said : (ahead : List ℕ) (before lines : List TreeLine) (bytes : List ℕ) → ahead_of before ≡ ahead → ahead_of (before ++ lines) ≡ [] →
       AreLines (tree_lines names) before lines bytes → AreTrees ahead lines bytes
   lines_said [] before [] bytes is over are =
       record { trees = []; within = tt; whole = refl; named = All-nil NamesSome; each = All-nil (IsPrintableLine names); text = are }
@@ -210,14 +210,14 @@ module _ (names : List (List ℕ)) where
       let f : ⊥ = cc in
       absurd f
   lines_said (d ∷ ahead) before (l ∷ lines) bytes is over (line, rest, read, free, whole, are) =
-      let here = within_depth d (line_read names line) l (sym (ap (λ a. next_read names a line) is) ∙ read) in
+      let here = within_depth d (tree_line_read names line) l (sym (ap (λ a. next_read names a line) is) ∙ read) in
       let next = along_more (1 ∷ []) before l ∙ ap (λ a. ahead_next a l) is in
       subst (AreTrees (d ∷ ahead) (l ∷ lines)) (sym whole)
       (line_trees d ahead l lines line rest here.0 (line_said line l here.1)
       (lines_said (ahead_after d ahead l) (before ++ l ∷ []) lines rest next (ap ahead_of (append_assoc before (l ∷ []) lines) ∙ over) are))
 
   -- the trees after the first line are one tree
-  one_tree : (load : ℕ) (lines : List Line) (bytes text : List ℕ) → 1 ≤ load → load ≤ most_load → bytes ≡ codes "yes " ++ printed_number load ++ 10 ∷ text →
+  one_tree : (load : ℕ) (lines : List TreeLine) (bytes text : List ℕ) → 1 ≤ load → load ≤ most_load → bytes ≡ codes "yes " ++ printed_number load ++ 10 ∷ text →
       AreTrees (1 ∷ []) lines text → IsTextOfTree names lines bytes
   one_tree load lines bytes text low high first are = go are.trees are.within are.whole are.named are.each are.text
     where
@@ -226,7 +226,7 @@ module _ (names : List (List ℕ)) where
       go [] within whole named each is = absurd within
       go (tree ∷ (other ∷ trees)) within whole named each is = absurd within.1
       go (tree ∷ []) within whole named each is =
-          let one = append-nil (lines_of tree) in
+          let one = append-nil (lines_of_tree tree) in
           let deep = within.0 in
           record {
             load = load;
@@ -242,28 +242,28 @@ module _ (names : List (List ℕ)) where
           }
 
 -- what says lines says some load and these lines
-loaded : (t : Listing Line) (lines : List Line) → without_load t ≡ tells lines → (load : ℕ) × (t ≡ tells_with load lines)
+loaded : (t : Listing TreeLine) (lines : List TreeLine) → without_load t ≡ tells lines → (load : ℕ) × (t ≡ tells_with load lines)
 loaded (tells_with load ls) lines e = let same : ls ≡ lines = cc in (load, ap (tells_with load) same)
 loaded (wrong_line line) lines e = let f : ⊥ = cc in absurd f
 
-over_nil : (ahead : List ℕ) → is_over ahead ≡ true → ahead ≡ []
+over_nil : (ahead : List ℕ) → is_tree_over ahead ≡ true → ahead ≡ []
 over_nil [] e = refl
 over_nil (d ∷ ahead) e = absurd (cc)
 
 -- a text that says the lines of a tree is the one that is printed of a load and that tree
-pub text_said : (names : List (List ℕ)) (bytes : List ℕ) (lines : List Line) → told names bytes ≡ tells lines → IsTextOfTree names lines bytes
+pub text_said : (names : List (List ℕ)) (bytes : List ℕ) (lines : List TreeLine) → tree_told names bytes ≡ tells lines → IsTextOfTree names lines bytes
 text_said names bytes lines e =
     let says = loaded (told_by (tree_lines names) bytes) lines e in
     let is = listing_said (tree_lines names) bytes says.0 lines says.1 in
     one_tree names says.0 lines bytes is.lines is.low is.high is.text
     (lines_said names (1 ∷ []) [] lines is.lines refl (over_nil (ahead_of lines) is.ends) is.each)
 
-pub text_says : (names : List (List ℕ)) (bytes : List ℕ) (lines : List Line) → AreNames names → IsTextOfTree names lines bytes → told names bytes ≡ tells lines
+pub text_says : (names : List (List ℕ)) (bytes : List ℕ) (lines : List TreeLine) → AreNames names → IsTextOfTree names lines bytes → tree_told names bytes ≡ tells lines
 text_says names bytes lines are is =
-    ap (told names) (is.text ∙ ap (shown names is.load) is.whole) ∙ shown_back names is.load is.tree are is.written ∙ ap tells (sym is.whole)
+    ap (tree_told names) (is.text ∙ ap (tree_shown names is.load) is.whole) ∙ shown_back names is.load is.tree are is.written ∙ ap tells (sym is.whole)
 
 -- a tree that a text says fits the text
-pub text_fits : (names : List (List ℕ)) (bytes : List ℕ) (lines : List Line) → told names bytes ≡ tells lines → FitsText (the_tree lines)
+pub text_fits : (names : List (List ℕ)) (bytes : List ℕ) (lines : List TreeLine) → tree_told names bytes ≡ tells lines → TreeFitsText (the_tree lines)
 text_fits names bytes lines e =
     let is = text_said names bytes lines e in
-    subst FitsText (sym (ap the_tree is.whole ∙ tree_back is.tree)) is.written.fits
+    subst TreeFitsText (sym (ap the_tree is.whole ∙ tree_back is.tree)) is.written.fits

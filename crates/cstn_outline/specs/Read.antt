@@ -3,19 +3,19 @@ use Rattle.std.specs.Prelude.{ℕ, ◌≡◌, List, [], ◌∷◌, map}
 use Rattle.cstn_label.specs.declared.nodes.NodeId.{NodeId}
 use Rattle.cstn_outline.specs.declared.trees.Line.{Line}
 use Rattle.cstn_outline.specs.declared.trees.Line.TheVariants.{At, Ask, Done}
-use Rattle.cstn_outline.specs.Trees.{Tree, Line as TheLine, lines_of}
+use Rattle.cstn_outline.specs.Trees.{Tree, TreeLine as TheLine, lines_of_tree}
 use Rattle.cstn_outline.specs.Trees.Tree.{at, ask, done}
-use Rattle.cstn_outline.specs.Trees.Line.{AtLine, AskLine, DoneLine}
+use Rattle.cstn_outline.specs.Trees.TreeLine.{AtLine, AskLine, DoneLine}
 
 -- the numbers of time-points
-abbrev pub numbers : List NodeId → List ℕ
-numbers named = map (λ x. x.0) named
+abbrev pub node_numbers : List NodeId → List ℕ
+node_numbers named = map (λ x. x.0) named
 
 -- the line that a program's line stands for
-abbrev pub the_line : Line → TheLine
-the_line (At moment named) = AtLine moment named
-the_line (Ask prop) = AskLine prop.index
-the_line Done = DoneLine
+abbrev pub the_tree_line : Line → TheLine
+the_tree_line (At moment named) = AtLine moment named
+the_tree_line (Ask prop) = AskLine prop.index
+the_tree_line Done = DoneLine
 
 -- the trees of lines in preorder, one after the other
 abbrev pub ask_first : ℕ → List Tree → List Tree
@@ -46,4 +46,4 @@ the_tree ls = first_or_done (trees_of ls)
 
 -- the lines are those of one tree
 abbrev pub AreWhole : List TheLine → Type 0
-AreWhole ls = (tree : Tree) × (ls ≡ lines_of tree)
+AreWhole ls = (tree : Tree) × (ls ≡ lines_of_tree tree)

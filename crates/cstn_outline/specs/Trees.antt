@@ -12,16 +12,16 @@ pub data Tree : Type 0 where
   done : Tree
 
 -- a line of a tree
-pub data Line : Type 0 where
-  AtLine : (moment : ℕ) → (named : List ℕ) → Line
-  AskLine : (prop : ℕ) → Line
-  DoneLine : Line
+pub data TreeLine : Type 0 where
+  AtLine : (moment : ℕ) → (named : List ℕ) → TreeLine
+  AskLine : (prop : ℕ) → TreeLine
+  DoneLine : TreeLine
 
 -- the lines of a tree in preorder: an `ask` is followed by the tree for true and the tree for false
-abbrev pub lines_of : Tree → List Line
-lines_of (at t xs next) = AtLine t xs ∷ lines_of next
-lines_of (ask p one other) = AskLine p ∷ (lines_of one ++ lines_of other)
-lines_of done = DoneLine ∷ []
+abbrev pub lines_of_tree : Tree → List TreeLine
+lines_of_tree (at t xs next) = AtLine t xs ∷ lines_of_tree next
+lines_of_tree (ask p one other) = AskLine p ∷ (lines_of_tree one ++ lines_of_tree other)
+lines_of_tree done = DoneLine ∷ []
 
 -- x stands in the list
 abbrev pub is_named : ℕ → List ℕ → Bool
@@ -43,11 +43,11 @@ abbrev pub table_of : Tree → Table
 table_of tree s x = moment_or_zero (walk tree s x)
 
 -- the time-points that a line names
-abbrev pub names_on : Line → List ℕ
+abbrev pub names_on : TreeLine → List ℕ
 names_on (AtLine t xs) = xs
 names_on (AskLine p) = []
 names_on DoneLine = []
 
 -- each time-point that the tree names is one of the first n
 abbrev pub IsAmong : ℕ → Tree → Type 0
-IsAmong n tree = All (λ l. All (λ x. x < n) (names_on l)) (lines_of tree)
+IsAmong n tree = All (λ l. All (λ x. x < n) (names_on l)) (lines_of_tree tree)

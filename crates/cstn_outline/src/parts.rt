@@ -4,8 +4,8 @@ ghost use Rattle.std.specs.List.{All};
 ghost use Rattle.std.specs.Option.{option_map};
 ghost use Rattle.cstn_label.specs.Limits.{most_ids};
 ghost use Rattle.cstn_outline.specs.Trees.{names_on};
-ghost use Rattle.cstn_outline.specs.Texts.{names_read, at_read, ask_read, word_read, line_read};
-ghost use Rattle.cstn_outline.specs.Read.{the_line};
+ghost use Rattle.cstn_outline.specs.Texts.{tree_names_read, at_read, ask_read, tree_word_read, tree_line_read};
+ghost use Rattle.cstn_outline.specs.Read.{the_tree_line};
 
 use crate::trees::{Line, Named};
 use cstn_label::Prop;
@@ -15,7 +15,7 @@ use std::alloc::{AllocError, Global};
 // The time-points of one name or more, with a space between names; none where the text isn't of that form.
 fn read_names(alloc: Global, names: &Names, bytes: &[u8]) -> Result<Option<Named>, AllocError>
     requires few { length names.now ≤ most_ids }
-    ensures read { IfOk result (λ named. option_map (λ n. n) named ≡ names_read names.now bytes.now) }
+    ensures read { IfOk result (λ named. option_map (λ n. n) named ≡ tree_names_read names.now bytes.now) }
     ensures inside { IfOk result (λ named. IfSome named (λ n. All (λ x. x < length names.now) n)) }
 {
     let mut nodes = Vec::new(alloc);
@@ -36,8 +36,8 @@ fn read_names(alloc: Global, names: &Names, bytes: &[u8]) -> Result<Option<Named
 
 fn read_at(alloc: Global, names: &Names, bytes: &[u8]) -> Result<Option<Line>, AllocError>
     requires few { length names.now ≤ most_ids }
-    ensures read { IfOk result (λ line. option_map the_line line ≡ at_read names.now bytes.now) }
-    ensures inside { IfOk result (λ line. IfSome line (λ l. All (λ x. x < length names.now) (names_on (the_line l)))) }
+    ensures read { IfOk result (λ line. option_map the_tree_line line ≡ at_read names.now bytes.now) }
+    ensures inside { IfOk result (λ line. IfSome line (λ l. All (λ x. x < length names.now) (names_on (the_tree_line l)))) }
 {
     let Some((moment, rest)) = part(bytes) else {
         return Ok(None);
@@ -52,8 +52,8 @@ fn read_at(alloc: Global, names: &Names, bytes: &[u8]) -> Result<Option<Line>, A
 }
 
 fn read_ask(bytes: &[u8]) -> Option<Line>
-    ensures read { option_map the_line result ≡ ask_read bytes.now }
-    ensures names { IfSome result (λ l. names_on (the_line l) ≡ []) }
+    ensures read { option_map the_tree_line result ≡ ask_read bytes.now }
+    ensures names { IfSome result (λ l. names_on (the_tree_line l) ≡ []) }
 {
     match bytes {
         [letter] => {
@@ -71,8 +71,8 @@ fn read_word(
     rest: &[u8],
 ) -> Result<Option<Line>, AllocError>
     requires few { length names.now ≤ most_ids }
-    ensures read { IfOk result (λ line. option_map the_line line ≡ word_read names.now word.now rest.now) }
-    ensures inside { IfOk result (λ line. IfSome line (λ l. All (λ x. x < length names.now) (names_on (the_line l)))) }
+    ensures read { IfOk result (λ line. option_map the_tree_line line ≡ tree_word_read names.now word.now rest.now) }
+    ensures inside { IfOk result (λ line. IfSome line (λ l. All (λ x. x < length names.now) (names_on (the_tree_line l)))) }
 {
     if word == b"at".as_slice() {
         return read_at(alloc, names, rest);
@@ -86,8 +86,8 @@ fn read_word(
 /// The line of a tree that a text is, if it is one. Fails for want of memory alone.
 pub fn read_line(alloc: Global, names: &Names, bytes: &[u8]) -> Result<Option<Line>, AllocError>
     requires few { length names.now ≤ most_ids }
-    ensures read { IfOk result (λ line. option_map the_line line ≡ line_read names.now bytes.now) }
-    ensures inside { IfOk result (λ line. IfSome line (λ l. All (λ x. x < length names.now) (names_on (the_line l)))) }
+    ensures read { IfOk result (λ line. option_map the_tree_line line ≡ tree_line_read names.now bytes.now) }
+    ensures inside { IfOk result (λ line. IfSome line (λ l. All (λ x. x < length names.now) (names_on (the_tree_line l)))) }
 {
     if bytes == b"done".as_slice() {
         return Ok(Some(Line::Done));

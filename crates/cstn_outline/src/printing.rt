@@ -6,10 +6,10 @@ ghost use Rattle.cstn_text.specs.Names.{AreNames};
 ghost use Rattle.cstn_text.specs.Numbers.{printed_number};
 ghost use Rattle.cstn_text.specs.PrintedNames.{printed_name};
 ghost use Rattle.cstn_outline.specs.Trees.{IsAmong, names_on};
-ghost use Rattle.cstn_outline.specs.Texts.{shown, printed_line, told, tells};
-ghost use Rattle.cstn_outline.specs.Written.{FitsText, IsPrintableLine};
-ghost use Rattle.cstn_outline.specs.Read.{the_line, the_tree};
-ghost use Rattle.cstn_outline.specs.Read.{numbers};
+ghost use Rattle.cstn_outline.specs.Texts.{tree_shown, printed_line, tree_told, tells};
+ghost use Rattle.cstn_outline.specs.Written.{TreeFitsText, IsPrintableLine};
+ghost use Rattle.cstn_outline.specs.Read.{the_tree_line, the_tree};
+ghost use Rattle.cstn_outline.specs.Read.{node_numbers};
 
 use crate::trees::{Line, Tree};
 use cstn_label::NodeId;
@@ -23,8 +23,8 @@ use std::alloc::{AllocError, Global};
 pub fn print(alloc: Global, tree: &Tree, load: u32, names: &Names) -> Result<String, AllocError>
     requires named { IsAmong (length names.now) (the_tree tree.now) }
     requires load { (1 ≤ load) × (load ≤ most_load) }
-    ensures shown { IfOk result (λ text. string_bytes text ≡ shown names.now load tree.now) }
-    ensures back { FitsText (the_tree tree.now) → IfOk result (λ text. told names.now (string_bytes text) ≡ tells tree.now) }
+    ensures shown { IfOk result (λ text. string_bytes text ≡ tree_shown names.now load tree.now) }
+    ensures back { TreeFitsText (the_tree tree.now) → IfOk result (λ text. tree_told names.now (string_bytes text) ≡ tells tree.now) }
 {
     // The names are different, and each is one of 1 to 64 bytes.
     names.count();
@@ -40,9 +40,9 @@ pub fn print(alloc: Global, tree: &Tree, load: u32, names: &Names) -> Result<Str
 
 // Appends a line of the tree, without its LF.
 fn push_line(alloc: Global, text: &mut String, names: &Names, line: &Line) -> Result<(), AllocError>
-    requires named { All (λ x. x < length names.now) (names_on (the_line line.now)) }
-    ensures pushed { OnOk result (string_bytes text.new ≡ string_bytes text.old ++ printed_line names.now (the_line line.now)) }
-    ensures written { OnOk result (IsPrintableLine names.now (the_line line.now)) }
+    requires named { All (λ x. x < length names.now) (names_on (the_tree_line line.now)) }
+    ensures pushed { OnOk result (string_bytes text.new ≡ string_bytes text.old ++ printed_line names.now (the_tree_line line.now)) }
+    ensures written { OnOk result (IsPrintableLine names.now (the_tree_line line.now)) }
 {
     match line {
         Line::At { moment, named } => {
@@ -67,7 +67,7 @@ fn push_names(
 ) -> Result<(), AllocError>
     requires named { All (λ x. x.0 < length names.now) named.now }
     ensures pushed { OnOk result (string_bytes text.new ≡ string_bytes text.old
-        ++ flat_map (λ x. 32 ∷ printed_name (slice_index_or names.now x [])) (numbers named.now)) }
+        ++ flat_map (λ x. 32 ∷ printed_name (slice_index_or names.now x [])) (node_numbers named.now)) }
 {
     for x in named {
         text.push(' ')?;

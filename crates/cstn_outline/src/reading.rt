@@ -6,10 +6,10 @@ ghost use Rattle.cstn_label.specs.Limits.{most_ids};
 ghost use Rattle.cstn_outline.specs.Trees.{IsAmong, names_on};
 ghost use Rattle.cstn_text.specs.Parts.{parts_at};
 ghost use Rattle.cstn_text.specs.Listings.{at_end, told_after};
-ghost use Rattle.cstn_outline.specs.Texts.{Told, tells, without_load, tree_lines, is_whole, told, line_within, ahead_after};
-ghost use Rattle.cstn_outline.specs.Written.{FitsText};
-ghost use Rattle.cstn_outline.specs.Read.{the_line, the_tree};
-ghost use Rattle.cstn_outline.specs.Reading.{the_ahead, the_lines, IsReader, IsWrong};
+ghost use Rattle.cstn_outline.specs.Texts.{TreeTold, tells, without_load, tree_lines, is_whole, tree_told, line_within, ahead_after};
+ghost use Rattle.cstn_outline.specs.Written.{TreeFitsText};
+ghost use Rattle.cstn_outline.specs.Read.{the_tree_line, the_tree};
+ghost use Rattle.cstn_outline.specs.Reading.{the_ahead, the_lines, IsReader, IsWrongTreeLine};
 
 use crate::errors::TreeError;
 use crate::parts::read_line;
@@ -27,12 +27,12 @@ const MOST_DEPTH: u16 = 2100;
 pub fn read(alloc: Global, names: &Names, bytes: &[u8]) -> Result<Tree, TreeError>
     requires few { length names.now ≤ most_ids }
     requires short { length bytes.now < 2 ^ 32 }
-    ensures accepted { IfOk result (λ t. told names.now bytes.now ≡ tells t) }
-    ensures line { IfErr result (IsWrong (told names.now bytes.now)) }
+    ensures accepted { IfOk result (λ t. tree_told names.now bytes.now ≡ tells t) }
+    ensures line { IfErr result (IsWrongTreeLine (tree_told names.now bytes.now)) }
 
     ensures named { IfOk result (λ t. IsAmong (length names.now) (the_tree t)) }
     ensures few { IfOk result (λ t. length t + 1 < 2 ^ 32) }
-    ensures fits { IfOk result (λ t. FitsText (the_tree t)) }
+    ensures fits { IfOk result (λ t. TreeFitsText (the_tree t)) }
 {
     let Some((_load, rest)) = read_start("yes", MAX_LOAD, bytes) else {
         return Err(TreeError::Line { line: 1 });
@@ -47,7 +47,7 @@ fn read_lines(alloc: Global, names: &Names, bytes: &[u8]) -> Result<Tree, TreeEr
     ensures accepted { IfOk result (λ t. (load : ℕ)
         → without_load (told_after (tree_lines names.now) load [] (parts_at 10 bytes.now).0 (parts_at 10 bytes.now).1) ≡ tells t) }
     ensures line { IfErr result (λ e. (load : ℕ)
-        → IsWrong (without_load (told_after (tree_lines names.now) load [] (parts_at 10 bytes.now).0 (parts_at 10 bytes.now).1)) e) }
+        → IsWrongTreeLine (without_load (told_after (tree_lines names.now) load [] (parts_at 10 bytes.now).0 (parts_at 10 bytes.now).1)) e) }
     ensures named { IfOk result (λ t. IsAmong (length names.now) (the_tree t)) }
     ensures few { IfOk result (λ t. length t + 1 < 2 ^ 32) }
 {
@@ -97,7 +97,7 @@ impl Reader {
             → told_after (tree_lines names.now) load (the_lines self.old) (text.now ∷ texts) tail
             ≡ told_after (tree_lines names.now) load (the_lines self.new) texts tail) }
         ensures wrong { IfErr result (λ e. (load : ℕ) (texts : List (List ℕ)) (tail : List ℕ)
-            → IsWrong (without_load (told_after (tree_lines names.now) load (the_lines self.old) (text.now ∷ texts) tail)) e) }
+            → IsWrongTreeLine (without_load (told_after (tree_lines names.now) load (the_lines self.old) (text.now ∷ texts) tail)) e) }
         ensures reader { OnOk result (IsReader (length names.now) self.new) }
         ensures count { OnOk result (length self.new.lines.items ≡ length self.old.lines.items + 1) }
     {
@@ -121,7 +121,7 @@ impl Reader {
     // Puts a line of this depth, with which the next tree begins, behind the others.
     fn put(&mut self, depth: u16, line: Line) -> Result<(), AllocError>
         requires { depth ≤ 2100 }
-        ensures ahead { OnOk result (the_ahead self.new ≡ ahead_after depth (the_ahead self.old) (the_line line)) }
+        ensures ahead { OnOk result (the_ahead self.new ≡ ahead_after depth (the_ahead self.old) (the_tree_line line)) }
         ensures lines { OnOk result (self.new.lines.items ≡ self.old.lines.items ++ line ∷ []) }
     {
         self.open(depth, &line)?;
@@ -132,7 +132,7 @@ impl Reader {
     // Notes the trees that come after a line.
     fn open(&mut self, depth: u16, line: &Line) -> Result<(), AllocError>
         requires { depth ≤ 2100 }
-        ensures ahead { OnOk result (the_ahead self.new ≡ ahead_after depth (the_ahead self.old) (the_line line.now)) }
+        ensures ahead { OnOk result (the_ahead self.new ≡ ahead_after depth (the_ahead self.old) (the_tree_line line.now)) }
         ensures lines { self.new.lines ≡ self.old.lines }
     {
         match line {
@@ -154,7 +154,7 @@ impl Reader {
         requires reader { (n : ℕ) × IsReader n self }
         requires short { length self.lines.items + 2 < 2 ^ 32 }
         ensures accepted { IfOk result (λ t. (load : ℕ) → without_load (at_end is_whole load (the_lines self) left.now) ≡ tells t) }
-        ensures line { IfErr result (λ e. (load : ℕ) → IsWrong (without_load (at_end is_whole load (the_lines self) left.now)) e) }
+        ensures line { IfErr result (λ e. (load : ℕ) → IsWrongTreeLine (without_load (at_end is_whole load (the_lines self) left.now)) e) }
         ensures lines { IfOk result (λ t. t ≡ the_lines self) }
         ensures named { (n : ℕ) → IsReader n self → IfOk result (λ t. IsAmong n (the_tree t)) }
     {
@@ -174,8 +174,8 @@ fn read_within(
     text: &[u8],
 ) -> Result<Option<Line>, AllocError>
     requires few { length names.now ≤ most_ids }
-    ensures read { IfOk result (λ line. option_map the_line line ≡ line_within names.now depth text.now) }
-    ensures inside { IfOk result (λ line. IfSome line (λ l. All (λ x. x < length names.now) (names_on (the_line l)))) }
+    ensures read { IfOk result (λ line. option_map the_tree_line line ≡ line_within names.now depth text.now) }
+    ensures inside { IfOk result (λ line. IfSome line (λ l. All (λ x. x < length names.now) (names_on (the_tree_line l)))) }
     ensures depth { IfOk result (λ line. IfSome line (λ l. depth ≤ 2100)) }
 {
     if depth > MOST_DEPTH {

@@ -1,7 +1,7 @@
 // Trees, as their lines.
 ghost use Rattle.std.specs.Prelude.{◌≡◌, map};
-ghost use Rattle.cstn_outline.specs.Trees.{lines_of};
-ghost use Rattle.cstn_outline.specs.Read.{the_line, the_tree, AreWhole};
+ghost use Rattle.cstn_outline.specs.Trees.{lines_of_tree};
+ghost use Rattle.cstn_outline.specs.Read.{the_tree_line, the_tree, AreWhole};
 
 use cstn_label::{NodeId, Prop};
 use std::marker::Model;
@@ -55,21 +55,21 @@ pub struct Tree {
 
 impl Model for Tree {
     ghost use Rattle.std.specs.Prelude.{List, map};
-    ghost use Rattle.cstn_outline.specs.Trees.{Line};
-    ghost use Rattle.cstn_outline.specs.Read.{the_line, AreWhole};
+    ghost use Rattle.cstn_outline.specs.Trees.{TreeLine};
+    ghost use Rattle.cstn_outline.specs.Read.{the_tree_line, AreWhole};
 
-    ghost Value = { List Line };
+    ghost Value = { List TreeLine };
 
-    ghost view = { λ t. map the_line t.lines.items };
+    ghost view = { λ t. map the_tree_line t.lines.items };
 
-    ghost invariant = { λ t. AreWhole (map the_line t.lines.items) };
+    ghost invariant = { λ t. AreWhole (map the_tree_line t.lines.items) };
 }
 
 impl Tree {
     /// The tree of these lines.
     pub fn new(lines: Vec<Line>) -> Tree
-        requires whole { AreWhole (map the_line lines.items) }
-        ensures lines { result ≡ map the_line lines.items }
+        requires whole { AreWhole (map the_tree_line lines.items) }
+        ensures lines { result ≡ map the_tree_line lines.items }
     {
         Tree { lines }
     }
@@ -77,8 +77,8 @@ impl Tree {
     /// The lines in preorder.
     #[tactic(auto, using(crate::proofs::TreeLemmas::whole_back))]
     pub fn lines(&self) -> &[Line]
-        ensures lines { map the_line result.now ≡ self.now }
-        ensures whole { self.now ≡ lines_of (the_tree self.now) }
+        ensures lines { map the_tree_line result.now ≡ self.now }
+        ensures whole { self.now ≡ lines_of_tree (the_tree self.now) }
     {
         &self.lines
     }

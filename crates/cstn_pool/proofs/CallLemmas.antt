@@ -3,11 +3,11 @@ use Rattle.std.specs.Prelude.{IsSome}
 use Rattle.std.proofs.lemmas.List.{length-replicate}
 use Rattle.cstn_pool.specs.Slots.{Slots, value_at}
 use Rattle.cstn_pool.proofs.PaddedLemmas.{none_held}
-use Rattle.cstn_pool.specs.Calls.{Call, AfterCall, AfterCalls, emptied_at}
-use Rattle.cstn_pool.specs.Calls.Call.{Take, Give, Clear}
+use Rattle.cstn_pool.specs.Calls.{PoolCall, AfterCall, AfterCalls, emptied_at}
+use Rattle.cstn_pool.specs.Calls.PoolCall.{Take, Give, Clear}
 
 -- a call leaves the number of slots as it is
-call_keeps_size : {T : Type 0} (call : Call T) (before after : Slots T) → AfterCall call before after → length after.slots ≡ length before.slots
+call_keeps_size : {T : Type 0} (call : PoolCall T) (before after : Slots T) → AfterCall call before after → length after.slots ≡ length before.slots
 call_keeps_size (Take value) before after is = elim is [
   | inl refused ↦ ap (λ p. length p.slots) refused.1
   | inr taken ↦ ap (λ p. length p.slots) taken.2 ∙ length-set before.slots taken.0 (Some (before.births, value))
@@ -19,16 +19,16 @@ call_keeps_size (Give slot birth) before after is = elim is [
 call_keeps_size {T} Clear before after is = ap (λ p. length p.slots) is ∙ length-replicate {A = Option (ℕ × T)} (length before.slots) None
 
 -- and so does a list of calls
-pub calls_keep_size : {T : Type 0} (calls : List (Call T)) (before after : Slots T) → AfterCalls calls before after → length after.slots ≡ length before.slots
+pub calls_keep_size : {T : Type 0} (calls : List (PoolCall T)) (before after : Slots T) → AfterCalls calls before after → length after.slots ≡ length before.slots
 calls_keep_size [] before after is = ap (λ p. length p.slots) (sym is)
 calls_keep_size (call ∷ calls) before after is = calls_keep_size calls is.0 after is.2 ∙ call_keeps_size call before is.0 is.1
 
 -- after any calls on a new pool it has the slots that it began with
-pub calls_keep_capacity : {T : Type 0} (capacity : ℕ) (calls : List (Call T)) (after : Slots T) → AfterCalls calls (record { slots = replicate capacity None; births = 0 }) after → length after.slots ≡ capacity
+pub calls_keep_capacity : {T : Type 0} (capacity : ℕ) (calls : List (PoolCall T)) (after : Slots T) → AfterCalls calls (record { slots = replicate capacity None; births = 0 }) after → length after.slots ≡ capacity
 calls_keep_capacity {T} capacity calls after is = calls_keep_size calls (record { slots = replicate capacity None; births = 0 }) after is ∙ length-replicate {A = Option (ℕ × T)} capacity None
 
 -- births never fall
-call_keeps_births : {T : Type 0} (call : Call T) (before after : Slots T) → AfterCall call before after → before.births ≤ after.births
+call_keeps_births : {T : Type 0} (call : PoolCall T) (before after : Slots T) → AfterCall call before after → before.births ≤ after.births
 call_keeps_births (Take value) before after is = elim is [
   | inl refused ↦ omega (arith, ap (λ p. p.births) refused.1)
   | inr taken ↦ omega (arith, ap (λ p. p.births) taken.2)
@@ -39,7 +39,7 @@ call_keeps_births (Give slot birth) before after is = elim is [
 ]
 call_keeps_births Clear before after is = omega (arith, ap (λ p. p.births) is)
 
-pub calls_keep_births : {T : Type 0} (calls : List (Call T)) (before after : Slots T) → AfterCalls calls before after → before.births ≤ after.births
+pub calls_keep_births : {T : Type 0} (calls : List (PoolCall T)) (before after : Slots T) → AfterCalls calls before after → before.births ≤ after.births
 calls_keep_births [] before after is = omega (arith, ap (λ p. p.births) is)
 calls_keep_births (call ∷ calls) before after is = omega (arith, call_keeps_births call before is.0 is.1, calls_keep_births calls is.0 after is.2)
 
@@ -60,7 +60,7 @@ gone_where_emptied (x ∷ slots) zero (suc s) birth none = none
 gone_where_emptied (x ∷ slots) (suc slot) zero birth none = none
 gone_where_emptied (x ∷ slots) (suc slot) (suc s) birth none = gone_where_emptied slots slot s birth none
 
-call_leaves_gone : {T : Type 0} (call : Call T) (before after : Slots T) (s birth : ℕ) → AfterCall call before after → birth < before.births → value_at before.slots s birth ≡ None → value_at after.slots s birth ≡ None
+call_leaves_gone : {T : Type 0} (call : PoolCall T) (before after : Slots T) (s birth : ℕ) → AfterCall call before after → birth < before.births → value_at before.slots s birth ≡ None → value_at after.slots s birth ≡ None
 call_leaves_gone (Take value) before after s birth is less none = elim is [
   | inl refused ↦ ap (λ p. value_at p.slots s birth) refused.1 ∙ none
   | inr taken ↦ ap (λ p. value_at p.slots s birth) taken.2 ∙ gone_where_filled before.slots taken.0 s before.births birth value less none
@@ -71,7 +71,7 @@ call_leaves_gone (Give slot at') before after s birth is less none = elim is [
 ]
 call_leaves_gone Clear before after s birth is less none = ap (λ p. value_at p.slots s birth) is ∙ none_held (length before.slots) s birth
 
-pub calls_leave_gone : {T : Type 0} (calls : List (Call T)) (before after : Slots T) (s birth : ℕ) → AfterCalls calls before after → birth < before.births → value_at before.slots s birth ≡ None → value_at after.slots s birth ≡ None
+pub calls_leave_gone : {T : Type 0} (calls : List (PoolCall T)) (before after : Slots T) (s birth : ℕ) → AfterCalls calls before after → birth < before.births → value_at before.slots s birth ≡ None → value_at after.slots s birth ≡ None
 calls_leave_gone [] before after s birth is less none = ap (λ p. value_at p.slots s birth) (sym is) ∙ none
 calls_leave_gone (call ∷ calls) before after s birth is less none =
     calls_leave_gone calls is.0 after s birth is.2 (omega (arith, call_keeps_births call before is.0 is.1, less)) (call_leaves_gone call before is.0 s birth is.1 less none)

@@ -44,10 +44,10 @@ abbrev pub entry_of : {T : Type 0} → ℕ → T → Option (ℕ × T)
 entry_of birth value = if birth == no_birth then None else Some (birth, value)
 
 -- what the slots of these births and values hold
-abbrev pub joined : {T : Type 0} → List ℕ → List T → List (Option (ℕ × T))
-joined [] values = []
-joined (birth ∷ born) [] = []
-joined (birth ∷ born) (value ∷ values) = entry_of birth value ∷ joined born values
+abbrev pub joined_slots : {T : Type 0} → List ℕ → List T → List (Option (ℕ × T))
+joined_slots [] values = []
+joined_slots (birth ∷ born) [] = []
+joined_slots (birth ∷ born) (value ∷ values) = entry_of birth value ∷ joined_slots born values
 
 -- how many slots there is room for
 pub record Room : Type 0 where
@@ -58,11 +58,11 @@ pub record Room : Type 0 where
 -- a pool that is in order: its free list has all empty slots of those that were used, and there is room for every slot
 pub record IsPool {T : Type 0} (capacity : ℕ) (born : List ℕ) (values : List T) (free : List ℕ) (births : ℕ) (room : Room) : Type 0 where
   pub same : length born ≡ length values
-  pub empty : IsFree (joined born values) free
+  pub empty : IsFree (joined_slots born values) free
   pub within : length born ≤ capacity
   pub room_for_born : capacity ≤ room.born
   pub room_for_values : capacity ≤ room.values
   pub room_for_free : capacity ≤ room.free
   pub short : capacity < 2 ^ 32
   pub few : births ≤ 2 ^ 63
-  pub in_order : IsBorn births (joined born values)
+  pub in_order : IsBorn births (joined_slots born values)

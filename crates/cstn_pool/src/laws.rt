@@ -1,13 +1,13 @@
 // Laws of lists of calls on a pool, and of lists that blanks fill up.
 ghost use Rattle.std.specs.Prelude.{◌≡◌, ◌<◌, ◌≤◌, ◌-◌, ◌++◌, ℕ, List, None, length, take, replicate, slice_index_or, slice_set};
 ghost use Rattle.cstn_pool.specs.Slots.{Slots, value_at, padded};
-ghost use Rattle.cstn_pool.specs.Calls.{Call, AfterCalls};
+ghost use Rattle.cstn_pool.specs.Calls.{PoolCall, AfterCalls};
 
 /// No call lowers the number of births, and an id whose value is gone never names a value again.
 /// A new id has the number of births so far as its birth, so no birth is returned twice.
 pub fn births_never_come_back<T: Copy>()
-    ensures births { (calls : List (Call T)) (before after : Slots T) → AfterCalls calls before after → before.births ≤ after.births }
-    ensures gone { (calls : List (Call T)) (before after : Slots T) (slot birth : ℕ) → AfterCalls calls before after → birth < before.births
+    ensures births { (calls : List (PoolCall T)) (before after : Slots T) → AfterCalls calls before after → before.births ≤ after.births }
+    ensures gone { (calls : List (PoolCall T)) (before after : Slots T) (slot birth : ℕ) → AfterCalls calls before after → birth < before.births
         → value_at before.slots slot birth ≡ None → value_at after.slots slot birth ≡ None }
 {}
 

@@ -1,7 +1,7 @@
 ghost use Rattle.std.specs.Prelude.{◌≡◌, ◌<◌, ◌≤◌, ◌+◌, ◌^◌, ◌↔◌, Some, None, length, IfOk, OnErr, IsErr, IsOk, IsSome, ℕ, List, IfNone, IfSome, []};
 ghost use Rattle.std.specs.Prelude.{slice_set, slice_get, slice_index_or, replicate};
-ghost use Rattle.cstn_pool.specs.Slots.{Slots, IsBorn, live_of, value_at, joined};
-ghost use Rattle.cstn_pool.specs.Calls.{Call, Take, Give, Clear, AfterCall, AfterCalls};
+ghost use Rattle.cstn_pool.specs.Slots.{Slots, IsBorn, live_of, value_at, joined_slots};
+ghost use Rattle.cstn_pool.specs.Calls.{PoolCall, Take, Give, Clear, AfterCall, AfterCalls};
 
 use crate::slot_id::SlotId;
 use std::alloc::{AllocError, Global};
@@ -35,11 +35,11 @@ pub struct Pool<T: Copy> {
 
 impl<T: Copy> Model for Pool<T> {
     ghost use Rattle.std.specs.Prelude.{vec_capacity, None};
-    ghost use Rattle.cstn_pool.specs.Slots.{Slots, IsPool, joined, padded};
+    ghost use Rattle.cstn_pool.specs.Slots.{Slots, IsPool, joined_slots, padded};
 
     ghost Value = { Slots T };
 
-    ghost view = { λ p. record { slots = padded None p.capacity (joined p.born.items p.values.items); births = p.births } };
+    ghost view = { λ p. record { slots = padded None p.capacity (joined_slots p.born.items p.values.items); births = p.births } };
 
     ghost invariant = { λ p. IsPool p.capacity p.born.items p.values.items p.free.items p.births
         (record { born = vec_capacity p.born; values = vec_capacity p.values; free = vec_capacity p.free }) };
@@ -78,7 +78,7 @@ impl<T: Copy> Pool<T> {
         ensures step { AfterCall (Take value) self.old self.new }
 
         // After any calls there is room up to the capacity, whichever slots were given back.
-        ensures after_calls { (capacity : ℕ) (calls : List (Call T)) → AfterCalls calls (record { slots = replicate capacity None; births = 0 }) self.old
+        ensures after_calls { (capacity : ℕ) (calls : List (PoolCall T)) → AfterCalls calls (record { slots = replicate capacity None; births = 0 }) self.old
             → (IsOk result ↔ (live_of self.old.slots < capacity)) }
     {
         let birth = self.births;
@@ -164,7 +164,7 @@ impl<T: Copy> Pool<T> {
 // The value under this id among the used slots.
 fn value_in<T: Copy>(born: &[u64], values: &[T], id: SlotId) -> Option<T>
     requires { length born.now ≡ length values.now }
-    ensures { result ≡ value_at (joined born.now values.now) id.slot id.birth }
+    ensures { result ≡ value_at (joined_slots born.now values.now) id.slot id.birth }
 {
     match born.get(id.slot as usize) {
         Some(birth) if *birth == id.birth && *birth != FREE => Some(values[id.slot as usize]),

@@ -15,9 +15,9 @@ use Rattle.cstn_text.proofs.ReadingLemmas.{word_part, part_back, within_back, Is
 use Rattle.cstn_text.proofs.PlaceLemmas.{AreReadBack, listing_back, printed_back}
 pub use Rattle.cstn_text.proofs.PlaceLemmas.{listing_grows}
 use Rattle.cstn_refute.specs.Steps.{◌>>=◌, places_read, why_read, is_place, rule_read, named_bound_read, step_read, printed_why, printed_step}
-use Rattle.cstn_refute.specs.Texts.{tells, told, shown}
+use Rattle.cstn_refute.specs.Texts.{tells, refutation_told, refutation_shown}
 use Rattle.cstn_refute.specs.Orders.{bound_with, step_with, IsStepLine, IsTextOfSteps}
-use Rattle.cstn_refute.specs.Written.{ArePlaces, IsPrintableBound, IsPrintableStep, AreWritten}
+use Rattle.cstn_refute.specs.Written.{ArePlaces, IsPrintableBound, IsPrintableStep, AreStepsWritten}
 use Rattle.cstn_refute.proofs.BoundLemmas.{named_back, bound_free}
 
 places_back : (i j : ℕ) (rest : List ℕ) → i < 2 ^ 32 → j < 2 ^ 32 →
@@ -101,15 +101,15 @@ steps_read names are = λ k e line small is its.
     (back, subst IsFree (sym its.2) (step_free names k e its.0 are small is its.1))
 
 -- a text of a load and steps, in any order of marks, says them
-pub text_back : (names : List (List ℕ)) (load : ℕ) (steps : List Entry) (text : List ℕ) → AreNames names → AreWritten names load steps → IsTextOfSteps names load steps text →
-    told names text ≡ tells load steps
+pub text_back : (names : List (List ℕ)) (load : ℕ) (steps : List Entry) (text : List ℕ) → AreNames names → AreStepsWritten names load steps → IsTextOfSteps names load steps text →
+    refutation_told names text ≡ tells load steps
 text_back names load steps text are is lines =
     listing_back (codes "no") most_load (step_read names) (IsPrintableStep names) (IsStepLine names) (word_part (codes "no") (omega arith) refl) (omega arith)
     (steps_read names are) load steps text is lines
 
 -- what is shown of a load and steps says them
-pub shown_back : (names : List (List ℕ)) (load : ℕ) (steps : List Entry) → AreNames names → AreWritten names load steps →
-    told names (shown names load steps) ≡ tells load steps
+pub shown_back : (names : List (List ℕ)) (load : ℕ) (steps : List Entry) → AreNames names → AreStepsWritten names load steps →
+    refutation_told names (refutation_shown names load steps) ≡ tells load steps
 shown_back names load steps are is =
     printed_back (codes "no") most_load (step_read names) (IsPrintableStep names) (IsStepLine names) (word_part (codes "no") (omega arith) refl) (omega arith)
     (steps_read names are) (printed_step names) (λ k e here. (printed_label e.bound.label, label_back e.bound.label here.marks, refl)) load steps is

@@ -16,9 +16,9 @@ use Rattle.cstn_text.proofs.ReadingLemmas.{within_said, part_said}
 use Rattle.cstn_text.proofs.PlaceLemmas.{AreSaid, listing_said}
 pub use Rattle.cstn_text.proofs.ListingLemmas.{told_first, first_wrong, told_viewed, wrong_viewed, told_last}
 use Rattle.cstn_refute.specs.Steps.{◌>>=◌, places_read, chain_read, wait_read, why_read, is_place, rule_read, named_bound_read, step_read, printed_why}
-use Rattle.cstn_refute.specs.Texts.{tells, told}
+use Rattle.cstn_refute.specs.Texts.{tells, refutation_told}
 use Rattle.cstn_refute.specs.Orders.{bound_with, step_with, IsStepLine, IsTextOfSteps}
-use Rattle.cstn_refute.specs.Written.{IsPrintableStep, AreWritten}
+use Rattle.cstn_refute.specs.Written.{IsPrintableStep, AreStepsWritten}
 use Rattle.cstn_refute.proofs.BoundLemmas.{named_said}
 use Rattle.cstn_refute.proofs.SaidLemmas.{step_said}
 
@@ -120,15 +120,15 @@ step_text names k line e is =
 steps_said : (names : List (List ℕ)) → AreSaid most_load (step_read names) (IsPrintableStep names) (IsStepLine names)
 steps_said names = λ k line e is. let said = step_said names k line e is in (said.0, said.1, step_text names k line e is)
 
-text_says : (names : List (List ℕ)) (bytes : List ℕ) (load : ℕ) (steps : List Entry) → told names bytes ≡ tells load steps →
-    AreWritten names load steps × IsTextOfSteps names load steps bytes
+text_says : (names : List (List ℕ)) (bytes : List ℕ) (load : ℕ) (steps : List Entry) → refutation_told names bytes ≡ tells load steps →
+    AreStepsWritten names load steps × IsTextOfSteps names load steps bytes
 text_says names bytes load steps e =
     listing_said (codes "no") most_load (step_read names) (IsPrintableStep names) (IsStepLine names) (steps_said names) bytes load steps e
 
 -- what a text says can be written
-pub text_said : (names : List (List ℕ)) (bytes : List ℕ) (load : ℕ) (steps : List Entry) → told names bytes ≡ tells load steps → AreWritten names load steps
+pub text_said : (names : List (List ℕ)) (bytes : List ℕ) (load : ℕ) (steps : List Entry) → refutation_told names bytes ≡ tells load steps → AreStepsWritten names load steps
 text_said names bytes load steps e = (text_says names bytes load steps e).0
 
 -- a text that says a load and steps is the one that is printed, but for the order of the marks in the labels
-pub text_is : (names : List (List ℕ)) (bytes : List ℕ) (load : ℕ) (steps : List Entry) → told names bytes ≡ tells load steps → IsTextOfSteps names load steps bytes
+pub text_is : (names : List (List ℕ)) (bytes : List ℕ) (load : ℕ) (steps : List Entry) → refutation_told names bytes ≡ tells load steps → IsTextOfSteps names load steps bytes
 text_is names bytes load steps e = (text_says names bytes load steps e).1

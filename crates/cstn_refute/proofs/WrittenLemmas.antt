@@ -8,8 +8,8 @@ use Rattle.cstn_rules.specs.declared.entries.Entry.{Entry as DeclaredEntry}
 use Rattle.cstn_rules.specs.Read.{the_entry}
 use Rattle.cstn_text.specs.Names.{AreNames}
 use Rattle.cstn_refute.specs.Refutations.{RefutationParts, IsStep, AreSteps, FitsText, the_steps}
-use Rattle.cstn_refute.specs.Texts.{told, tells, shown}
-use Rattle.cstn_refute.specs.Written.{ArePlaces, IsPrintableStep, AreWritten}
+use Rattle.cstn_refute.specs.Texts.{refutation_told, tells, refutation_shown}
+use Rattle.cstn_refute.specs.Written.{ArePlaces, IsPrintableStep, AreStepsWritten}
 use Rattle.cstn_refute.proofs.BackLemmas.{shown_back}
 use Rattle.cstn_label.proofs.LetterLemmas.{MarksEnd}
 
@@ -33,16 +33,16 @@ are_written end names (x ∷ xs) named steps places =
 
 -- what is printed of a refutation is read again
 pub refutation_back : MarksEnd → (names : List (List ℕ)) (r : RefutationParts) (text : List ℕ) → AreNames names → AreSteps r.steps → All (IsNamed names) r.steps →
-    All HasPlaces r.steps → FitsText r → text ≡ shown names r.load (the_steps r) → told names text ≡ tells r.load (the_steps r)
+    All HasPlaces r.steps → FitsText r → text ≡ refutation_shown names r.load (the_steps r) → refutation_told names text ≡ tells r.load (the_steps r)
 refutation_back end names r text are steps named places fits is =
-    let written : AreWritten names r.load (the_steps r) = record {
+    let written : AreStepsWritten names r.load (the_steps r) = record {
       load_low = fits.load_low;
       load_high = fits.load_high;
       some = rw (length-map r.steps the_entry) steps.some;
       few = rw (length-map r.steps the_entry) fits.few;
       each = are_written end names r.steps named steps.each places;
     } in
-    subst (λ t. told names t ≡ tells r.load (the_steps r)) (sym is) (shown_back names r.load (the_steps r) are written)
+    subst (λ t. refutation_told names t ≡ tells r.load (the_steps r)) (sym is) (shown_back names r.load (the_steps r) are written)
 
 -- steps that can be written are at time-points that have names
 pub are_named : (names : List (List ℕ)) (xs : List DeclaredEntry) → All (IsPrintableStep names) (map the_entry xs) → All (IsNamed names) xs

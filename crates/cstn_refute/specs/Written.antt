@@ -31,5 +31,5 @@ pub record IsPrintableStep (names : List (List ℕ)) (e : Entry) : Type 0 where
   pub places : ArePlaces e.why
 
 -- a load and steps that a text can say
-abbrev pub AreWritten : List (List ℕ) → ℕ → List Entry → Type 0
-AreWritten names load steps = AreListable most_load (IsPrintableStep names) load steps
+abbrev pub AreStepsWritten : List (List ℕ) → ℕ → List Entry → Type 0
+AreStepsWritten names load steps = AreListable most_load (IsPrintableStep names) load steps

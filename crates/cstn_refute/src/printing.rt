@@ -8,7 +8,7 @@ ghost use Rattle.cstn_text.specs.PrintedLabels.{printed_label};
 ghost use Rattle.cstn_text.specs.PrintedNames.{printed_name};
 ghost use Rattle.cstn_refute.specs.Refutations.{FitsText, the_steps};
 ghost use Rattle.cstn_refute.specs.Steps.{printed_why};
-ghost use Rattle.cstn_refute.specs.Texts.{shown, told, tells};
+ghost use Rattle.cstn_refute.specs.Texts.{refutation_shown, refutation_told, tells};
 ghost use Rattle.cstn_refute.specs.Written.{ArePlaces};
 
 use crate::refutations::Refutation;
@@ -27,8 +27,8 @@ impl Refutation {
     /// refutation. Beside the text it takes memory for the printed names, and none for a line.
     pub fn print(&self, alloc: Global, names: &Names) -> Result<String, AllocError>
         requires named { All (λ e. e.bound.node.0 < length names.now) self.now.steps }
-        ensures shown { IfOk result (λ text. string_bytes text ≡ shown names.now self.now.load (the_steps self.now)) }
-        ensures back { FitsText self.now → IfOk result (λ text. told names.now (string_bytes text) ≡ tells self.now.load (the_steps self.now)) }
+        ensures shown { IfOk result (λ text. string_bytes text ≡ refutation_shown names.now self.now.load (the_steps self.now)) }
+        ensures back { FitsText self.now → IfOk result (λ text. refutation_told names.now (string_bytes text) ≡ tells self.now.load (the_steps self.now)) }
     {
         labels_are_their_marks();
         let printed = print_names(alloc, names)?;

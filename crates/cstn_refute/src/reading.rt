@@ -7,9 +7,9 @@ ghost use Rattle.cstn_rules.specs.Read.{the_entry};
 ghost use Rattle.cstn_refute.specs.Refutations.{IsStep, the_steps};
 ghost use Rattle.cstn_text.specs.Parts.{parts_at};
 ghost use Rattle.cstn_text.specs.Listings.{at_end, is_some_listed, told_after};
-ghost use Rattle.cstn_refute.specs.Texts.{tells, step_lines, told};
-ghost use Rattle.cstn_refute.specs.Written.{AreWritten};
-ghost use Rattle.cstn_refute.specs.Read.{IsWrong};
+ghost use Rattle.cstn_refute.specs.Texts.{tells, step_lines, refutation_told};
+ghost use Rattle.cstn_refute.specs.Written.{AreStepsWritten};
+ghost use Rattle.cstn_refute.specs.Read.{IsWrongStepLine};
 
 use crate::errors::RefuteError;
 use crate::parts::read_step;
@@ -25,11 +25,11 @@ impl Refutation {
     /// memory is refused.
     pub fn read(alloc: Global, names: &Names, bytes: &[u8]) -> Result<Refutation, RefuteError>
         requires few { length names.now ≤ most_ids }
-        ensures accepted { IfOk result (λ r. told names.now bytes.now ≡ tells r.load (the_steps r)) }
-        ensures line { IfErr result (IsWrong (told names.now bytes.now)) }
+        ensures accepted { IfOk result (λ r. refutation_told names.now bytes.now ≡ tells r.load (the_steps r)) }
+        ensures line { IfErr result (IsWrongStepLine (refutation_told names.now bytes.now)) }
 
         ensures named { IfOk result (λ r. All (λ e. e.bound.node.0 < length names.now) r.steps) }
-        ensures ranges { IfOk result (λ r. AreWritten names.now r.load (the_steps r)) }
+        ensures ranges { IfOk result (λ r. AreStepsWritten names.now r.load (the_steps r)) }
     {
         let Some((load, rest)) = read_start("no", MAX_LOAD, bytes) else {
             return Err(RefuteError::Line { line: 1 });
@@ -48,7 +48,7 @@ fn read_steps(
     requires few { length names.now ≤ most_ids }
     ensures accepted { IfOk result (λ r. told_after (step_lines names.now) load [] (parts_at 10 bytes.now).0 (parts_at 10 bytes.now).1
         ≡ tells r.load (the_steps r)) }
-    ensures line { IfErr result (IsWrong (told_after (step_lines names.now) load [] (parts_at 10 bytes.now).0 (parts_at 10 bytes.now).1)) }
+    ensures line { IfErr result (IsWrongStepLine (told_after (step_lines names.now) load [] (parts_at 10 bytes.now).0 (parts_at 10 bytes.now).1)) }
 {
     let mut steps = Vec::new(alloc);
     let mut left = bytes;
@@ -70,7 +70,7 @@ fn finish(load: u32, steps: Vec<Entry>, left: &[u8]) -> Result<Refutation, Refut
     requires few { length steps.items ≤ most_load }
     requires each { All IsStep steps.items }
     ensures accepted { IfOk result (λ r. at_end is_some_listed load (map the_entry steps.items) left.now ≡ tells r.load (the_steps r)) }
-    ensures line { IfErr result (IsWrong (at_end is_some_listed load (map the_entry steps.items) left.now)) }
+    ensures line { IfErr result (IsWrongStepLine (at_end is_some_listed load (map the_entry steps.items) left.now)) }
 {
     let count = steps.len() as u32;
     if count == 0 || !left.is_empty() {

@@ -6,7 +6,7 @@ use Rattle.std.proofs.lemmas.Option.{slice_get_within}
 use Rattle.cstn_net.specs.Networks.{Network}
 use Rattle.cstn_rules.specs.Rules.{Refutes}
 use Rattle.cstn_rules.specs.Derivations.{Entry, IsDerivation, IsRefutation}
-use Rattle.cstn_replay.specs.Wrong.{IsRight, AreRightBefore, IsFirstWrong}
+use Rattle.cstn_replay.specs.Wrong.{FollowsByItsRule, AreRightBefore, IsFirstWrong}
 
 -- where each step follows, the steps are a derivation
 pub right_all : (net : Network) (steps : List Entry) → AreRightBefore net steps (length steps) → IsDerivation net steps
@@ -43,9 +43,9 @@ last_refutes net steps last derivation there = (
 pub none_right : (net : Network) (steps : List Entry) → AreRightBefore net steps 0
 none_right net steps i h = absurd (omega arith)
 
-pub one_more : (net : Network) (steps : List Entry) (k : ℕ) → AreRightBefore net steps k → IsRight net steps k →
+pub one_more : (net : Network) (steps : List Entry) (k : ℕ) → AreRightBefore net steps k → FollowsByItsRule net steps k →
     AreRightBefore net steps (k + 1)
 one_more net steps k before here i h = elim (cases_lt i k) [
   | inl earlier ↦ before i earlier
-  | inr past ↦ let same : k ≡ i = omega arith in subst (IsRight net steps) same here
+  | inr past ↦ let same : k ≡ i = omega arith in subst (FollowsByItsRule net steps) same here
 ]

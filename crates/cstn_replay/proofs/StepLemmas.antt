@@ -17,7 +17,7 @@ use Rattle.cstn_rules.specs.Derivations.{Entry, IsEarlier, Follows}
 use Rattle.cstn_rules.specs.Read.{the_entry}
 use Rattle.cstn_refute.specs.Refutations.{IsStep}
 use Rattle.cstn_replay.proofs.IdLemmas.{one_id}
-use Rattle.cstn_replay.specs.Wrong.{IsRight, AreRightBefore}
+use Rattle.cstn_replay.specs.Wrong.{FollowsByItsRule, AreRightBefore}
 
 -- each step's least value is 0 or more
 abbrev pub AreLow : List Entry → Type 0
@@ -84,7 +84,7 @@ steps_low xs each i e there = elim (slice_get_cases xs i).1 [
 
 -- the step at a place is the one that stands there
 pub right_there : (net : Network) (xs : List DeclaredEntry) (k : ℕ) (x : DeclaredEntry) → slice_get xs k ≡ Some x →
-    Follows net (map the_entry xs) k x.why (the_bound x.bound) → IsRight net (map the_entry xs) k
+    Follows net (map the_entry xs) k x.why (the_bound x.bound) → FollowsByItsRule net (map the_entry xs) k
 right_there net xs k x there f e found =
     let image = there_image xs k x there in
     let same : the_entry x ≡ e = cc in

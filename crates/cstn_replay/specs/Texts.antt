@@ -2,7 +2,7 @@
 use Rattle.std.specs.Prelude.{◌≡◌, ◌⊎◌, ℕ, List, ◌++◌, codes, decimal}
 use Rattle.cstn_net.specs.Networks.{Network}
 use Rattle.cstn_rules.specs.Derivations.{Entry, IsRefutation}
-use Rattle.cstn_refute.specs.Texts.{Told, tells, wrong, told}
+use Rattle.cstn_refute.specs.Texts.{RefutationTold, tells, wrong, refutation_told}
 use Rattle.cstn_reply.specs.Texts.{Said, say}
 use Rattle.cstn_reply.specs.Sessions.{script}
 use Rattle.cstn_reply.specs.declared.output.Outcome.TheVariants.{Good, Bad}
@@ -16,10 +16,10 @@ IsReplay steps net said =
     ⊎ ((k : ℕ) × (IsFirstWrong net steps k ⊎ EndsInVain net steps k) × (said ≡ say Bad (codes "rejected " ++ decimal k)))
 
 -- the steps of a text are replayed, or its first wrong line is told
-abbrev pub IsReplayOfSteps : Told → Network → Said → Type 0
+abbrev pub IsReplayOfSteps : RefutationTold → Network → Said → Type 0
 IsReplayOfSteps (tells load steps) net said = IsReplay steps net said
 IsReplayOfSteps (wrong at) net said = said ≡ script at
 
 -- what `replay` says of a network by a text
 abbrev pub IsReplayOf : List (List ℕ) → List ℕ → Network → Said → Type 0
-IsReplayOf names text net said = IsReplayOfSteps (told names text) net said
+IsReplayOf names text net said = IsReplayOfSteps (refutation_told names text) net said

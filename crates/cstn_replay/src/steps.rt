@@ -9,7 +9,7 @@ ghost use Rattle.cstn_rules.specs.Rules.{IsBase, IsBoundOf, base};
 ghost use Rattle.cstn_rules.specs.Derivations.{IsEarlier, Follows};
 ghost use Rattle.cstn_rules.specs.Read.{the_entry};
 ghost use Rattle.cstn_refute.specs.Refutations.{AreSteps};
-ghost use Rattle.cstn_replay.specs.Wrong.{IsRight, AreRightBefore};
+ghost use Rattle.cstn_replay.specs.Wrong.{FollowsByItsRule, AreRightBefore};
 
 use cstn_label::{Bound, Label, NodeId, labels_are_their_marks};
 use cstn_net::{Constraint, Network, network_is_well_formed};
@@ -22,7 +22,7 @@ pub(crate) fn follows(net: &Network, steps: &[Entry], k: usize) -> bool
     requires form { AreSteps steps.now }
     requires inside { k < length steps.now }
     requires before { AreRightBefore (the_network net.now) (map the_entry steps.now) k }
-    ensures follows { IsTrue result ↔ IsRight (the_network net.now) (map the_entry steps.now) k }
+    ensures follows { IsTrue result ↔ FollowsByItsRule (the_network net.now) (map the_entry steps.now) k }
 {
     let step = step_at(steps, k);
     is_given(net, steps, k, step.why, step.bound)

@@ -39,12 +39,12 @@ pub record ComesToLine (heard : List (List ℕ) → Option (List ℕ)) (kind : L
 -- What is said by an opening and then a session over the lines of the live source, which has these bytes, before it comes to a
 -- line of this kind: `heard` gives the answers to the lines before that one.
 abbrev pub StopsAtLine : (ends : Bool) → (List (List ℕ) → Option (List ℕ)) → (List ℕ → Bool) → List ℕ → Option (List ℕ) → List ℕ → Type 0
-StopsAtLine ends heard kind opening told said =
-    (live : List ℕ) × IsAllOf told live × (comes : ComesToLine heard kind (heard_lines ends live)) × (said ≡ opening ++ comes.said)
+StopsAtLine ends heard kind opening source said =
+    (live : List ℕ) × IsAllOf source live × (comes : ComesToLine heard kind (heard_lines ends live)) × (said ≡ opening ++ comes.said)
 
 -- what is said before an answer for which memory is refused, where only those to lines of this kind may want memory
 abbrev pub session_stops : {S : Type 0} → (ends : Bool) → (S → List ℕ → Turn S) → (List ℕ → Bool) → List ℕ → S → Option (List ℕ) → List ℕ → Type 0
-session_stops ends turn kind opening start told said = StopsAtLine ends (heard turn start) kind opening told said
+session_stops ends turn kind opening start source said = StopsAtLine ends (heard turn start) kind opening source said
 
 -- How far a session has come: the bytes that it took are the lines `before`, each of which was answered and leads on, and then
 -- the bytes kept. Unless the source has ended, each read took a byte or more.

@@ -17,15 +17,15 @@ status_of Script = IsScript
 status_of Wide = IsWide
 
 -- the program's exit status
-abbrev pub number_of : Status → ℕ
-number_of IsGood = 0
-number_of IsBad = 1
-number_of IsWords = 2
-number_of IsDocument = 3
-number_of IsFull = 4
-number_of ReadFault = 5
-number_of WriteFault = 6
-number_of Memory = 7
-number_of IsUnfinished = 8
-number_of IsScript = 9
-number_of IsWide = 10
+abbrev pub exit_status : Status → ℕ
+exit_status IsGood = 0
+exit_status IsBad = 1
+exit_status IsWords = 2
+exit_status IsDocument = 3
+exit_status IsFull = 4
+exit_status ReadFault = 5
+exit_status WriteFault = 6
+exit_status Memory = 7
+exit_status IsUnfinished = 8
+exit_status IsScript = 9
+exit_status IsWide = 10

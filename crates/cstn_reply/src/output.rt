@@ -23,7 +23,7 @@ pub enum Outcome {
     Document,
     /// A log has more entries than it may.
     Full,
-    /// The lines of a run ended before it was carried out.
+    /// The lines ended before all was carried out.
     Unfinished,
     /// A line, or a text that was handed in, is not of its form.
     Script,

@@ -1,6 +1,6 @@
 // Statuses of requests.
 ghost use Rattle.std.specs.Prelude.{◌≡◌};
-ghost use Rattle.cstn_reply.specs.Statuses.{number_of};
+ghost use Rattle.cstn_reply.specs.Statuses.{exit_status};
 
 /// How a request ended.
 #[derive(Clone, Copy, Debug, PartialEq, Eq)]
@@ -32,7 +32,7 @@ pub enum Status {
 impl Status {
     /// The program's exit status.
     pub fn number(self) -> u8
-        ensures number { result ≡ number_of self }
+        ensures number { result ≡ exit_status self }
     {
         match self {
             Status::Good => 0,

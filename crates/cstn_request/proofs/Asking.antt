@@ -21,8 +21,8 @@ all_of_first is_there (name ∷ names) (suc n) all = by_first (is_there name) (l
     by_first true later all follows = follows all
     by_first false later all follows = absurd (cc)
 
-pub first_there : (told : Option (List ℕ → Option (List ℕ))) (names : List (List ℕ)) (n : ℕ) → AreThere told names → AreThere told (take n names)
-first_there told names n there = λ files e. all_of_first (λ name. is_some (files name)) names n (there files e)
+pub first_there : (shelf : Option (List ℕ → Option (List ℕ))) (names : List (List ℕ)) (n : ℕ) → AreThere shelf names → AreThere shelf (take n names)
+first_there shelf names n there = λ files e. all_of_first (λ name. is_some (files name)) names n (there files e)
 
 -- no further name
 pub and_none : (told : Option (List (List ℕ))) → told ≡ and_names told []
@@ -46,14 +46,14 @@ take_next (first ∷ names) name rest = ap (λ (xs : List (List ℕ)). first ∷
 pub one_less : (n : ℕ) → suc n - 1 ≡ n
 one_less n = omega arith
 
-module _ (told : Option (List ℕ → Option (List ℕ))) (before mid after : Option (List (List ℕ))) (names : List (List ℕ)) (is : mid ≡ and_names before names) (there : AreThere told names) where
+module _ (shelf : Option (List ℕ → Option (List ℕ))) (before mid after : Option (List (List ℕ))) (names : List (List ℕ)) (is : mid ≡ and_names before names) (there : AreThere shelf names) where
   -- one more name was asked for, of files of which those before are there
-  pub first_more : (name : List ℕ) (rest : List (List ℕ)) → after ≡ and_names mid (name ∷ []) → AskedFirst told before after (names ++ name ∷ rest)
+  pub first_more : (name : List ℕ) (rest : List (List ℕ)) → after ≡ and_names mid (name ∷ []) → AskedFirst shelf before after (names ++ name ∷ rest)
   first_more name rest more = record {
     count = suc (length names);
     asked = and_more before mid after names (name ∷ []) is more ∙ ap (and_names before) (sym (take_next names name rest));
-    earlier = subst (λ (n : ℕ). AreThere told (take n (names ++ name ∷ rest))) (sym (one_less (length names)))
-        (subst (AreThere told) (sym (take_front names (name ∷ rest))) there);
+    earlier = subst (λ (n : ℕ). AreThere shelf (take n (names ++ name ∷ rest))) (sym (one_less (length names)))
+        (subst (AreThere shelf) (sym (take_front names (name ∷ rest))) there);
   }
 
   pub first_more_some : (name : List ℕ) (rest : List (List ℕ)) (more : after ≡ and_names mid (name ∷ [])) → 1 ≤ (first_more name rest more).count
@@ -61,15 +61,15 @@ module _ (told : Option (List ℕ → Option (List ℕ))) (before mid after : Op
   first_more_some name rest more = omega arith
 
   -- no further name was asked for
-  pub first_none : (rest : List (List ℕ)) → after ≡ mid → AskedFirst told before after (names ++ rest)
+  pub first_none : (rest : List (List ℕ)) → after ≡ mid → AskedFirst shelf before after (names ++ rest)
   first_none rest same = record {
     count = length names;
     asked = same ∙ is ∙ ap (and_names before) (sym (take_front names rest));
-    earlier = subst (AreThere told) (sym (take-append-le (length names - 1) names rest (omega arith))) (first_there told names (length names - 1) there);
+    earlier = subst (AreThere shelf) (sym (take-append-le (length names - 1) names rest (omega arith))) (first_there shelf names (length names - 1) there);
   }
 
   -- one more file was to be read
-  pub first_once : {T : Type 0} (name : List ℕ) (rest : List (List ℕ)) (r : Result T Unread) → AsksFileOnce name mid after r → AskedFirst told before after (names ++ name ∷ rest)
+  pub first_once : {T : Type 0} (name : List ℕ) (rest : List (List ℕ)) (r : Result T Unread) → AsksFileOnce name mid after r → AskedFirst shelf before after (names ++ name ∷ rest)
   first_once name rest (Ok x) asks = first_more name rest asks
   first_once name rest (Err (Told said)) asks = first_more name rest asks
   first_once name rest (Err ReadFault) asks = first_more name rest asks
@@ -77,13 +77,13 @@ module _ (told : Option (List ℕ → Option (List ℕ))) (before mid after : Op
   first_once name rest (Err Memory) (inr same) = first_none (name ∷ rest) same
 
 -- a file was to be read before any other
-pub only_once : {T : Type 0} (told : Option (List ℕ → Option (List ℕ))) (before after : Option (List (List ℕ))) (name : List ℕ) (rest : List (List ℕ)) (r : Result T Unread) → AreThere told [] → AsksFileOnce name before after r → AskedFirst told before after (name ∷ rest)
-only_once told before after name rest r there asks = first_once told before before after [] (and_none before) there name rest r asks
+pub only_once : {T : Type 0} (shelf : Option (List ℕ → Option (List ℕ))) (before after : Option (List (List ℕ))) (name : List ℕ) (rest : List (List ℕ)) (r : Result T Unread) → AreThere shelf [] → AsksFileOnce name before after r → AskedFirst shelf before after (name ∷ rest)
+only_once shelf before after name rest r there asks = first_once shelf before before after [] (and_none before) there name rest r asks
 
 -- of a file that is refused the name was asked for
 pub once_told : (T : Type 0) (name : List ℕ) (before after : Option (List (List ℕ))) (x : Unread) (said : SaidText) → x ≡ Told said → AsksFileOnce {T = T} name before after (Err x) → after ≡ and_names before (name ∷ [])
 once_told T name before after x said is asks = subst (λ (u : Unread). AsksFileOnce {T = T} name before after (Err u)) is asks
 
 -- the first of equal names
-pub first_names : (told : Option (List ℕ → Option (List ℕ))) (before after : Option (List (List ℕ))) (names others : List (List ℕ)) → names ≡ others → AskedFirst told before after names → AskedFirst told before after others
-first_names told before after names others same is = subst (AskedFirst told before after) same is
+pub first_names : (shelf : Option (List ℕ → Option (List ℕ))) (before after : Option (List (List ℕ))) (names others : List (List ℕ)) → names ≡ others → AskedFirst shelf before after names → AskedFirst shelf before after others
+first_names shelf before after names others same is = subst (AskedFirst shelf before after) same is

@@ -7,7 +7,7 @@ use Rattle.cstn_io.specs.Contents.{IsFile, IsLongFile}
 use Rattle.cstn_request.specs.Files.{file_bytes, bytes_or_none, IsContent, AreContents, AreThere}
 
 -- the bytes that were read of a file are its content
-pub is_content : (told : Option (List ℕ → Option (List ℕ))) (name bytes : List ℕ) → IsFile told name bytes → IsContent told name bytes
+pub is_content : (shelf : Option (List ℕ → Option (List ℕ))) (name bytes : List ℕ) → IsFile shelf name bytes → IsContent shelf name bytes
 is_content None name bytes is = λ files e. absurd (cc)
 is_content (Some known) name bytes is = λ files e. told_bytes known files name bytes (cc) is
   where
@@ -18,7 +18,7 @@ some_long : (n : ℕ) → (bytes : List ℕ) × (n < length bytes)
 some_long n = (replicate (n + 1) 0, omega (arith, length-replicate {A = ℕ} (n + 1) 0))
 
 -- a file above the limit has a content of more bytes than the limit
-pub long_content : (told : Option (List ℕ → Option (List ℕ))) (name : List ℕ) (limit : ℕ) → IsLongFile told name limit → (bytes : List ℕ) × IsContent told name bytes × (limit < length bytes)
+pub long_content : (shelf : Option (List ℕ → Option (List ℕ))) (name : List ℕ) (limit : ℕ) → IsLongFile shelf name limit → (bytes : List ℕ) × IsContent shelf name bytes × (limit < length bytes)
 long_content None name limit long = let w = some_long limit in (w.0, (λ files e. absurd (cc)), w.1)
 long_content (Some known) name limit long = (file_bytes known name, (λ files e. let same : known ≡ files = cc in ap (λ (f : List ℕ → Option (List ℕ)). file_bytes f name) same), longer (known name) limit long)
   where
@@ -27,25 +27,25 @@ long_content (Some known) name limit long = (file_bytes known name, (λ files e.
     longer (Some bs) limit h = h
 
 -- there are contents that agree with what is told of the files
-pub some_contents : (told : Option (List ℕ → Option (List ℕ))) (names : List (List ℕ)) → (contents : List (List ℕ)) × AreContents told names contents
+pub some_contents : (shelf : Option (List ℕ → Option (List ℕ))) (names : List (List ℕ)) → (contents : List (List ℕ)) × AreContents shelf names contents
 some_contents None names = ([], (λ files e. absurd (cc)))
 some_contents (Some known) names = (map (file_bytes known) names, (λ files e. let same : known ≡ files = cc in ap (λ (f : List ℕ → Option (List ℕ)). map (file_bytes f) names) same))
 
 -- a list of one content, from the content of the file
-pub one_content : (told : Option (List ℕ → Option (List ℕ))) (name bytes : List ℕ) → IsContent told name bytes → AreContents told (name ∷ []) (bytes ∷ [])
-one_content told name bytes content = λ files e. ap (λ (bs : List ℕ). bs ∷ []) (content files e)
+pub one_content : (shelf : Option (List ℕ → Option (List ℕ))) (name bytes : List ℕ) → IsContent shelf name bytes → AreContents shelf (name ∷ []) (bytes ∷ [])
+one_content shelf name bytes content = λ files e. ap (λ (bs : List ℕ). bs ∷ []) (content files e)
 
 -- there are bytes that agree with what is told of a file
-pub some_content : (told : Option (List ℕ → Option (List ℕ))) (name : List ℕ) → (bytes : List ℕ) × IsContent told name bytes
+pub some_content : (shelf : Option (List ℕ → Option (List ℕ))) (name : List ℕ) → (bytes : List ℕ) × IsContent shelf name bytes
 some_content None name = ([], (λ files e. absurd (cc)))
 some_content (Some known) name = (file_bytes known name, (λ files e. let same : known ≡ files = cc in ap (λ (f : List ℕ → Option (List ℕ)). file_bytes f name) same))
 
 -- a list of two contents, from the contents of the two files
-pub two_contents : (told : Option (List ℕ → Option (List ℕ))) (name other bytes text : List ℕ) → IsContent told name bytes → IsContent told other text → AreContents told (name ∷ other ∷ []) (bytes ∷ text ∷ [])
-two_contents told name other bytes text content second = λ files e. let one = content files e in let two = second files e in cc
+pub two_contents : (shelf : Option (List ℕ → Option (List ℕ))) (name other bytes text : List ℕ) → IsContent shelf name bytes → IsContent shelf other text → AreContents shelf (name ∷ other ∷ []) (bytes ∷ text ∷ [])
+two_contents shelf name other bytes text content second = λ files e. let one = content files e in let two = second files e in cc
 
 -- a file that was read is there
-pub is_there : (told : Option (List ℕ → Option (List ℕ))) (name bytes : List ℕ) → IsFile told name bytes → AreThere told (name ∷ [])
+pub is_there : (shelf : Option (List ℕ → Option (List ℕ))) (name bytes : List ℕ) → IsFile shelf name bytes → AreThere shelf (name ∷ [])
 is_there None name bytes is = λ files e. absurd (cc)
 is_there (Some known) name bytes is = λ files e. there_at known files name bytes (cc) is
   where
@@ -55,7 +55,7 @@ is_there (Some known) name bytes is = λ files e. there_at known files name byte
         rw found refl
 
 -- a file that is too long is there
-pub long_is_there : (told : Option (List ℕ → Option (List ℕ))) (name : List ℕ) (limit : ℕ) → IsLongFile told name limit → AreThere told (name ∷ [])
+pub long_is_there : (shelf : Option (List ℕ → Option (List ℕ))) (name : List ℕ) (limit : ℕ) → IsLongFile shelf name limit → AreThere shelf (name ∷ [])
 long_is_there None name limit long = λ files e. absurd (cc)
 long_is_there (Some known) name limit long = λ files e.
     let same : known ≡ files = cc in
@@ -66,12 +66,12 @@ long_is_there (Some known) name limit long = λ files e.
     some_there (Some bytes) limit h = refl
 
 -- the files of an empty list are there
-pub none_there : (told : Option (List ℕ → Option (List ℕ))) → AreThere told []
-none_there told = λ files e. refl
+pub none_there : (shelf : Option (List ℕ → Option (List ℕ))) → AreThere shelf []
+none_there shelf = λ files e. refl
 
 -- two files are there where each of them is
-pub two_there : (told : Option (List ℕ → Option (List ℕ))) (name other : List ℕ) → AreThere told (name ∷ []) → AreThere told (other ∷ []) → AreThere told (name ∷ other ∷ [])
-two_there told name other one two = λ files e. both (is_some (files name)) (is_some (files other)) (one files e) (two files e)
+pub two_there : (shelf : Option (List ℕ → Option (List ℕ))) (name other : List ℕ) → AreThere shelf (name ∷ []) → AreThere shelf (other ∷ []) → AreThere shelf (name ∷ other ∷ [])
+two_there shelf name other one two = λ files e. both (is_some (files name)) (is_some (files other)) (one files e) (two files e)
   where
     both : (a b : Bool) → IsTrue (a && true) → IsTrue (b && true) → IsTrue (a && (b && true))
     both true b x y = y

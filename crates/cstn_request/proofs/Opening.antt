@@ -41,34 +41,34 @@ use Rattle.cstn_reply.specs.declared.output.Outcome.TheVariants.{Document, Scrip
 use Rattle.cstn_request.proofs.Contents.{long_content, long_is_there, is_content, is_there}
 
 -- a refusal by the grammar
-refused_said : (told : Result Parts Refusal) (refusal : Refusal) (said : Said) → told ≡ Err refusal → said ≡ say Document (refusal_text refusal) → IsRefusalOfParts told said
-refused_said told refusal said is same = subst (λ (r : Result Parts Refusal). IsRefusalOfParts r said) (sym is) same
+refused_said : (parsed : Result Parts Refusal) (refusal : Refusal) (said : Said) → parsed ≡ Err refusal → said ≡ say Document (refusal_text refusal) → IsRefusalOfParts parsed said
+refused_said parsed refusal said is same = subst (λ (r : Result Parts Refusal). IsRefusalOfParts r said) (sym is) same
 
 -- a refusal of the network
-unfit_said : (told : Result Parts Refusal) (error : NetError) (names : List (List ℕ)) (said : Said) → IsUnfitDocument told error names → said ≡ say Document (fault_text names error) → IsRefusalOfParts told said
-unfit_said told error names said unfit same =
+unfit_said : (parsed : Result Parts Refusal) (error : NetError) (names : List (List ℕ)) (said : Said) → IsUnfitDocument parsed error names → said ≡ say Document (fault_text names error) → IsRefusalOfParts parsed said
+unfit_said parsed error names said unfit same =
     subst (λ (r : Result Parts Refusal). IsRefusalOfParts r said) (sym unfit.told_are)
     (inl (error, unfit.unfit, same ∙ ap (λ (ns : List (List ℕ)). say Document (fault_text ns error)) unfit.names_are))
 
 -- a refusal of its labels
-mislabelled_said : (told : Result Parts Refusal) (error : LiftError) (names : List (List ℕ)) (said : Said) → IsMislabelledDocument told error names → said ≡ say Document (label_fault_text names error) → IsRefusalOfParts told said
-mislabelled_said told error names said is same =
+mislabelled_said : (parsed : Result Parts Refusal) (error : LiftError) (names : List (List ℕ)) (said : Said) → IsMislabelledDocument parsed error names → said ≡ say Document (label_fault_text names error) → IsRefusalOfParts parsed said
+mislabelled_said parsed error names said is same =
     subst (λ (r : Result Parts Refusal). IsRefusalOfParts r said) (sym is.told_are)
     (inr (error, is.mislabelled, same ∙ ap (λ (ns : List (List ℕ)). say Document (label_fault_text ns error)) is.names_are))
 
-error_said : (told : Result Parts Refusal) (error : DocError) (said : Said) → RefusesDocument told error → IsToldBy error said → IsRefusalOfParts told said
-error_said told (NotUtf8 at) said is same = refused_said told (not_utf8 at) said is same
-error_said told (Shape at) said is same = refused_said told (shape at) said is same
-error_said told (NameTwice at) said is same = refused_said told (name_twice at) said is same
-error_said told (UnknownNode at) said is same = refused_said told (unknown_node at) said is same
-error_said told (Value at) said is same = refused_said told (bad_value at) said is same
-error_said told (LabelText at) said is same = refused_said told (label_text at) said is same
-error_said told (Contingent at) said is same = refused_said told (contingent at) said is same
-error_said told (EdgeType at) said is same = refused_said told (edge_type at) said is same
-error_said told NoDeadline said is same = refused_said told no_deadline said is same
-error_said told (Net error names) said is same = unfit_said told error names said is same
-error_said told (Lift error names) said is same = mislabelled_said told error names said is same
-error_said told (Memory e) said is same = absurd same
+error_said : (parsed : Result Parts Refusal) (error : DocError) (said : Said) → RefusesDocument parsed error → IsToldBy error said → IsRefusalOfParts parsed said
+error_said parsed (NotUtf8 at) said is same = refused_said parsed (not_utf8 at) said is same
+error_said parsed (Shape at) said is same = refused_said parsed (shape at) said is same
+error_said parsed (NameTwice at) said is same = refused_said parsed (name_twice at) said is same
+error_said parsed (UnknownNode at) said is same = refused_said parsed (unknown_node at) said is same
+error_said parsed (Value at) said is same = refused_said parsed (bad_value at) said is same
+error_said parsed (LabelText at) said is same = refused_said parsed (label_text at) said is same
+error_said parsed (Contingent at) said is same = refused_said parsed (contingent at) said is same
+error_said parsed (EdgeType at) said is same = refused_said parsed (edge_type at) said is same
+error_said parsed NoDeadline said is same = refused_said parsed no_deadline said is same
+error_said parsed (Net error names) said is same = unfit_said parsed error names said is same
+error_said parsed (Lift error names) said is same = mislabelled_said parsed error names said is same
+error_said parsed (Memory e) said is same = absurd same
 
 told_by : (error : DocError) (said : Said) → IsToldBy error said → said.outcome ≡ Document
 told_by (NotUtf8 at) said same = ap (λ (s : Said). s.outcome) same
@@ -89,30 +89,30 @@ pub refused_is : (bytes : List ℕ) (deadline : Option ℕ) (error : DocError) (
 refused_is bytes deadline error said short is same = (inr (short, error_said (document bytes deadline) error (the_said said) is same), told_by error (the_said said) same)
 
 -- a file that is too long for a document
-pub long_document : (told : Option (List ℕ → Option (List ℕ))) (name : List ℕ) (deadline : Option ℕ) (said : SaidText) → IsLongFile told name most_document → the_said said ≡ say Document (codes "document long") → HasFile told name (λ bytes. IsDocumentRefusal bytes deadline said)
-long_document told name deadline said long is =
-    let found = long_content told name most_document long in
-    record { bytes = found.0; content = found.1; there = long_is_there told name most_document long; is = (inl (found.2, is), ap (λ (s : Said). s.outcome) is) }
+pub long_document : (shelf : Option (List ℕ → Option (List ℕ))) (name : List ℕ) (deadline : Option ℕ) (said : SaidText) → IsLongFile shelf name most_document → the_said said ≡ say Document (codes "document long") → HasFile shelf name (λ bytes. IsDocumentRefusal bytes deadline said)
+long_document shelf name deadline said long is =
+    let found = long_content shelf name most_document long in
+    record { bytes = found.0; content = found.1; there = long_is_there shelf name most_document long; is = (inl (found.2, is), ap (λ (s : Said). s.outcome) is) }
 
 -- a file that is too long for a text
-pub long_text : (told : Option (List ℕ → Option (List ℕ))) (name : List ℕ) (said : SaidText) → IsLongFile told name most_text → the_said said ≡ say Script (codes "script long") → HasFile told name (IsLongText said)
-long_text told name said long is =
-    let found = long_content told name most_text long in
-    record { bytes = found.0; content = found.1; there = long_is_there told name most_text long; is = (found.2, is) }
+pub long_text : (shelf : Option (List ℕ → Option (List ℕ))) (name : List ℕ) (said : SaidText) → IsLongFile shelf name most_text → the_said said ≡ say Script (codes "script long") → HasFile shelf name (IsLongText said)
+long_text shelf name said long is =
+    let found = long_content shelf name most_text long in
+    record { bytes = found.0; content = found.1; there = long_is_there shelf name most_text long; is = (found.2, is) }
 
 -- a file that is too long for a plan in sentences
-pub long_plan : (told : Option (List ℕ → Option (List ℕ))) (name : List ℕ) (said : SaidText) → IsLongFile told name most_document → the_said said ≡ say Document (codes "plan long") → HasFile told name (IsLongPlan said)
-long_plan told name said long is =
-    let found = long_content told name most_document long in
-    record { bytes = found.0; content = found.1; there = long_is_there told name most_document long; is = (found.2, is) }
+pub long_plan : (shelf : Option (List ℕ → Option (List ℕ))) (name : List ℕ) (said : SaidText) → IsLongFile shelf name most_document → the_said said ≡ say Document (codes "plan long") → HasFile shelf name (IsLongPlan said)
+long_plan shelf name said long is =
+    let found = long_content shelf name most_document long in
+    record { bytes = found.0; content = found.1; there = long_is_there shelf name most_document long; is = (found.2, is) }
 
 -- a file that was read
-pub whole_file : (told : Option (List ℕ → Option (List ℕ))) (name bytes : List ℕ) (holds : List ℕ → Type 0) → IsRead told name bytes → holds bytes → HasFile told name holds
-whole_file told name bytes holds read is = record { bytes = bytes; content = is_content told name bytes read; there = is_there told name bytes read; is = is }
+pub whole_file : (shelf : Option (List ℕ → Option (List ℕ))) (name bytes : List ℕ) (holds : List ℕ → Type 0) → IsRead shelf name bytes → holds bytes → HasFile shelf name holds
+whole_file shelf name bytes holds read is = record { bytes = bytes; content = is_content shelf name bytes read; there = is_there shelf name bytes read; is = is }
 
 -- what follows of the bytes of a file
-pub file_as : (told : Option (List ℕ → Option (List ℕ))) (name : List ℕ) (one other : List ℕ → Type 0) → HasFile told name one → ((bytes : List ℕ) → one bytes → other bytes) → HasFile told name other
-file_as told name one other file follows = record { bytes = file.bytes; content = file.content; there = file.there; is = follows file.bytes file.is }
+pub file_as : (shelf : Option (List ℕ → Option (List ℕ))) (name : List ℕ) (one other : List ℕ → Type 0) → HasFile shelf name one → ((bytes : List ℕ) → one bytes → other bytes) → HasFile shelf name other
+file_as shelf name one other file follows = record { bytes = file.bytes; content = file.content; there = file.there; is = follows file.bytes file.is }
 
 -- the ids of a document's constraints are their places
 numbered_id : (k : ℕ) (cs : List DrawnConstraint) (i : ℕ) (d : Constraint) → i < length (numbered_drawn k cs) → (get_or (numbered_drawn k cs) i d).id ≡ k + i
@@ -134,12 +134,12 @@ plain_network is_numbered same parts good empties =
     ∙ ap (λ (cs : List Constraint). record (network_of parts) { constraints = cs }) (same 0 (numbered_drawn 0 parts.constraints) (λ i d inside. numbered_id 0 parts.constraints i d inside))
 
 -- a document with labels
-labels_said : (told : Result Parts Refusal) (parts : Parts) (said : Said) → told ≡ Ok parts → IsFit parts → (AreEmpty parts.labels → ⊥) → said ≡ say Document (codes "document labels") → IsLabelsTold told said
-labels_said told parts said is fit labelled same = subst (λ (r : Result Parts Refusal). IsLabelsTold r said) (sym is) (fit, labelled, same)
+labels_said : (parsed : Result Parts Refusal) (parts : Parts) (said : Said) → parsed ≡ Ok parts → IsFit parts → (AreEmpty parts.labels → ⊥) → said ≡ say Document (codes "document labels") → IsLabelsTold parsed said
+labels_said parsed parts said is fit labelled same = subst (λ (r : Result Parts Refusal). IsLabelsTold r said) (sym is) (fit, labelled, same)
 
 -- the ids of a document's constraints are small
-document_ids : (told : Result Parts Refusal) (net : NetworkParts) (names : List (List ℕ)) → IsPlainDocument told net names → IsWellFormed (the_network net) → All (λ (c : LentConstraint). c.id < 2 ^ 31) net.constraints
-document_ids told net names is good = λ i d inside.
+document_ids : (parsed : Result Parts Refusal) (net : NetworkParts) (names : List (List ℕ)) → IsPlainDocument parsed net names → IsWellFormed (the_network net) → All (λ (c : LentConstraint). c.id < 2 ^ 31) net.constraints
+document_ids parsed net names is good = λ i d inside.
     let few : length (the_network net).constraints ≤ most_constraints = good.few_constraints in
     let long : length (the_network net).constraints ≡ length net.constraints = length-map net.constraints the_constraint in
     let all : (the_network net).constraints ≡ numbered_drawn 0 is.parts.constraints = ap (λ (n : Network). n.constraints) is.network_is in
@@ -171,9 +171,9 @@ plain_refused bytes deadline l said opens taken =
     )
 
 -- a document that was taken as a plain one
-pub plainly_asked : {E : Type 0} → IsNumbered → IsSameNumbered → (told : Option (List ℕ → Option (List ℕ))) (asked : AskedFile) (l : NamedLabelled) (r : Result NamedNetwork E) → HasAskedFile told asked (λ bytes deadline. IsLabelledOf bytes deadline l) → IfOk r (IsTakenOf l.labelled l.names) → IfOk r (λ d. HasAskedFile told asked (λ bytes deadline. IsPlainOf bytes deadline d))
-plainly_asked is_numbered same_numbered told asked l (Err e) opened taken = tt
-plainly_asked is_numbered same_numbered told asked l (Ok d) opened taken = file_as told asked.file (λ bytes. IsLabelledOf bytes asked.deadline l) (λ bytes. IsPlainOf bytes asked.deadline d) opened (λ bytes is. plain_opens is_numbered same_numbered bytes asked.deadline l d is taken)
+pub plainly_asked : {E : Type 0} → IsNumbered → IsSameNumbered → (shelf : Option (List ℕ → Option (List ℕ))) (asked : AskedFile) (l : NamedLabelled) (r : Result NamedNetwork E) → HasAskedFile shelf asked (λ bytes deadline. IsLabelledOf bytes deadline l) → IfOk r (IsTakenOf l.labelled l.names) → IfOk r (λ d. HasAskedFile shelf asked (λ bytes deadline. IsPlainOf bytes deadline d))
+plainly_asked is_numbered same_numbered shelf asked l (Err e) opened taken = tt
+plainly_asked is_numbered same_numbered shelf asked l (Ok d) opened taken = file_as shelf asked.file (λ bytes. IsLabelledOf bytes asked.deadline l) (λ bytes. IsPlainOf bytes asked.deadline d) opened (λ bytes is. plain_opens is_numbered same_numbered bytes asked.deadline l d is taken)
 
 -- a label that can't differ from the empty one is empty
 empty_unless : (a : Label) → (a ≢ empty → ⊥) → a ≡ empty

@@ -21,8 +21,8 @@ pub sound_more : (old new : List NamedNetwork) (document : NamedNetwork) → new
 sound_more old new document is all one = subst (λ (ds : List NamedNetwork). All IsSoundNetwork ds) (sym is) (All-append IsSoundNetwork old (document ∷ []) all (All-cons IsSoundNetwork document [] one (All-nil IsSoundNetwork)))
 
 -- the contents of some files, and those of further files, are the contents of all
-pub contents_more : (told : Option (List ℕ → Option (List ℕ))) (names more contents later : List (List ℕ)) → AreContents told names contents → AreContents told more later → AreContents told (names ++ more) (contents ++ later)
-contents_more told names more contents later one two = λ files e.
+pub contents_more : (shelf : Option (List ℕ → Option (List ℕ))) (names more contents later : List (List ℕ)) → AreContents shelf names contents → AreContents shelf more later → AreContents shelf (names ++ more) (contents ++ later)
+contents_more shelf names more contents later one two = λ files e.
     ap (λ (xs : List (List ℕ)). xs ++ later) (one files e) ∙ ap (λ (xs : List (List ℕ)). map (file_bytes files) names ++ xs) (two files e) ∙ sym (map-append (file_bytes files) names more)
 
 both : (a b : Bool) → a ≡ true → b ≡ true → (a && b) ≡ true
@@ -31,8 +31,8 @@ both true false x y = absurd (cc)
 both false b x y = absurd (cc)
 
 -- where some files are there, and further files are, all are
-pub there_more : (told : Option (List ℕ → Option (List ℕ))) (names more : List (List ℕ)) → AreThere told names → AreThere told more → AreThere told (names ++ more)
-there_more told names more one two = λ files e.
+pub there_more : (shelf : Option (List ℕ → Option (List ℕ))) (names more : List (List ℕ)) → AreThere shelf names → AreThere shelf more → AreThere shelf (names ++ more)
+there_more shelf names more one two = λ files e.
     list_all-append (λ name. is_some (files name)) names more
     ∙ both (list_all (λ name. is_some (files name)) names) (list_all (λ name. is_some (files name)) more) (one files e) (two files e)
 
@@ -41,8 +41,8 @@ abbrev pub asked_for : List ℕ → Option ℕ → AskedFile
 asked_for file deadline = record { file = file; deadline = deadline }
 
 -- no document was read yet
-pub read_none : (told : Option (List ℕ → Option (List ℕ))) (deadline : Option ℕ) → HasRead told deadline [] []
-read_none told deadline = record { contents = []; are = λ files e. refl; many = refl; there = none_there told; accepted = tt }
+pub read_none : (shelf : Option (List ℕ → Option (List ℕ))) (deadline : Option ℕ) → HasRead shelf deadline [] []
+read_none shelf deadline = record { contents = []; are = λ files e. refl; many = refl; there = none_there shelf; accepted = tt }
 
 accepted_more : (contents : List (List ℕ)) (deadline : Option ℕ) (documents : List NamedNetwork) (bytes : List ℕ) (document : NamedNetwork) → WereOpened contents deadline documents → IsPlainOf bytes deadline document → WereOpened (contents ++ bytes ∷ []) deadline (documents ++ document ∷ [])
 accepted_more [] deadline [] bytes document are is = (is, tt)
@@ -50,21 +50,21 @@ accepted_more [] deadline (d ∷ ds) bytes document are is = absurd are
 accepted_more (first ∷ rest) deadline [] bytes document are is = absurd are
 accepted_more (first ∷ rest) deadline (d ∷ ds) bytes document are is = (are.0, accepted_more rest deadline ds bytes document are.1 is)
 
-module _ (told : Option (List ℕ → Option (List ℕ))) (deadline : Option ℕ) (files : List (List ℕ)) (documents : List NamedNetwork) (so_far : HasRead told deadline files documents) (file : List ℕ) where
+module _ (shelf : Option (List ℕ → Option (List ℕ))) (deadline : Option ℕ) (files : List (List ℕ)) (documents : List NamedNetwork) (so_far : HasRead shelf deadline files documents) (file : List ℕ) where
   -- the next document is accepted
-  pub read_more : (d : NamedNetwork) → HasAskedFile told (asked_for file deadline) (λ bytes asked. IsPlainOf bytes asked d) → HasRead told deadline (files ++ file ∷ []) (documents ++ d ∷ [])
+  pub read_more : (d : NamedNetwork) → HasAskedFile shelf (asked_for file deadline) (λ bytes asked. IsPlainOf bytes asked d) → HasRead shelf deadline (files ++ file ∷ []) (documents ++ d ∷ [])
   read_more d opened = record {
     contents = so_far.contents ++ opened.bytes ∷ [];
-    are = contents_more told files (file ∷ []) so_far.contents (opened.bytes ∷ []) so_far.are (one_content told file opened.bytes opened.content);
+    are = contents_more shelf files (file ∷ []) so_far.contents (opened.bytes ∷ []) so_far.are (one_content shelf file opened.bytes opened.content);
     many = length-append so_far.contents (opened.bytes ∷ []) ∙ ap (λ (n : ℕ). n + 1) so_far.many ∙ sym (length-append files (file ∷ []));
-    there = there_more told files (file ∷ []) so_far.there opened.there;
+    there = there_more shelf files (file ∷ []) so_far.there opened.there;
     accepted = accepted_more so_far.contents deadline documents opened.bytes d so_far.accepted opened.is;
   }
 
   -- the next document is refused
-  pub read_refused : (before after : Option (List (List ℕ))) (all rest : List (List ℕ)) (said : SaidText) → files ++ file ∷ rest ≡ all → HasAskedFile told (asked_for file deadline) (λ bytes asked. IsPlainRefusal bytes asked said) → after ≡ and_names before (files ++ file ∷ []) → HasRefusedFile told before after deadline all said
+  pub read_refused : (before after : Option (List (List ℕ))) (all rest : List (List ℕ)) (said : SaidText) → files ++ file ∷ rest ≡ all → HasAskedFile shelf (asked_for file deadline) (λ bytes asked. IsPlainRefusal bytes asked said) → after ≡ and_names before (files ++ file ∷ []) → HasRefusedFile shelf before after deadline all said
   read_refused before after all rest said is opened asked =
-      subst (λ (names : List (List ℕ)). HasRefusedFile told before after deadline names said) is (record {
+      subst (λ (names : List (List ℕ)). HasRefusedFile shelf before after deadline names said) is (record {
         contents = so_far.contents ++ opened.bytes ∷ later.0;
         are = contents_all;
         file = record {
@@ -80,14 +80,14 @@ module _ (told : Option (List ℕ → Option (List ℕ))) (deadline : Option ℕ
         outcome = opened.is.1;
       })
     where
-      later : (contents : List (List ℕ)) × AreContents told rest contents
-      later = some_contents told rest
+      later : (contents : List (List ℕ)) × AreContents shelf rest contents
+      later = some_contents shelf rest
 
-      contents_all : AreContents told (files ++ file ∷ rest) (so_far.contents ++ opened.bytes ∷ later.0)
-      contents_all = contents_more told files (file ∷ rest) so_far.contents (opened.bytes ∷ later.0) so_far.are (contents_more told (file ∷ []) rest (opened.bytes ∷ []) later.0 (one_content told file opened.bytes opened.content) later.1)
+      contents_all : AreContents shelf (files ++ file ∷ rest) (so_far.contents ++ opened.bytes ∷ later.0)
+      contents_all = contents_more shelf files (file ∷ rest) so_far.contents (opened.bytes ∷ later.0) so_far.are (contents_more shelf (file ∷ []) rest (opened.bytes ∷ []) later.0 (one_content shelf file opened.bytes opened.content) later.1)
 
       up_to_it : take (suc (length so_far.contents)) (files ++ file ∷ rest) ≡ files ++ file ∷ []
       up_to_it = ap (λ (n : ℕ). take (suc n) (files ++ file ∷ rest)) so_far.many ∙ take_next files file rest
 
-      up_to_place : AreThere told (take (suc (length so_far.contents)) (files ++ file ∷ rest))
-      up_to_place = subst (AreThere told) (sym up_to_it) (there_more told files (file ∷ []) so_far.there opened.there)
+      up_to_place : AreThere shelf (take (suc (length so_far.contents)) (files ++ file ∷ rest))
+      up_to_place = subst (AreThere shelf) (sym up_to_it) (there_more shelf files (file ∷ []) so_far.there opened.there)

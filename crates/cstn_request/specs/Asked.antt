@@ -13,12 +13,12 @@ AsksFileOnce name before after (Err ReadFault) = after ≡ and_names before (nam
 AsksFileOnce name before after (Err Memory) = (after ≡ and_names before (name ∷ [])) ⊎ (after ≡ before)
 
 -- these files were asked for, in their order and each once, and no other was; each of them is there
-pub record WereRead (told : Option (List ℕ → Option (List ℕ))) (before after : Option (List (List ℕ))) (names : List (List ℕ)) : Type 0 where
+pub record WereRead (shelf : Option (List ℕ → Option (List ℕ))) (before after : Option (List (List ℕ))) (names : List (List ℕ)) : Type 0 where
   pub asked : after ≡ and_names before names
-  pub there : AreThere told names
+  pub there : AreThere shelf names
 
 -- the first of these files were asked for, in their order and each once, and no other was; each of them but the last is there
-pub record AskedFirst (told : Option (List ℕ → Option (List ℕ))) (before after : Option (List (List ℕ))) (names : List (List ℕ)) : Type 0 where
+pub record AskedFirst (shelf : Option (List ℕ → Option (List ℕ))) (before after : Option (List (List ℕ))) (names : List (List ℕ)) : Type 0 where
   pub count : ℕ
   pub asked : after ≡ and_names before (take count names)
-  pub earlier : AreThere told (take (count - 1) names)
+  pub earlier : AreThere shelf (take (count - 1) names)

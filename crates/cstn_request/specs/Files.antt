@@ -13,12 +13,12 @@ file_bytes files name = bytes_or_none (files name)
 
 -- the bytes are those of the named file, where it is told what files there are
 abbrev pub IsContent : Option (List ℕ → Option (List ℕ)) → List ℕ → List ℕ → Type 0
-IsContent told name bytes = (files : List ℕ → Option (List ℕ)) → told ≡ Some files → bytes ≡ file_bytes files name
+IsContent shelf name bytes = (files : List ℕ → Option (List ℕ)) → shelf ≡ Some files → bytes ≡ file_bytes files name
 
 -- the contents are those of the named files, one after another, where it is told what files there are
 abbrev pub AreContents : Option (List ℕ → Option (List ℕ)) → List (List ℕ) → List (List ℕ) → Type 0
-AreContents told names contents = (files : List ℕ → Option (List ℕ)) → told ≡ Some files → contents ≡ map (file_bytes files) names
+AreContents shelf names contents = (files : List ℕ → Option (List ℕ)) → shelf ≡ Some files → contents ≡ map (file_bytes files) names
 
 -- the named files are there, where it is told what files there are
 abbrev pub AreThere : Option (List ℕ → Option (List ℕ)) → List (List ℕ) → Type 0
-AreThere told names = (files : List ℕ → Option (List ℕ)) → told ≡ Some files → IsTrue (list_all (λ name. is_some (files name)) names)
+AreThere shelf names = (files : List ℕ → Option (List ℕ)) → shelf ≡ Some files → IsTrue (list_all (λ name. is_some (files name)) names)

@@ -43,15 +43,15 @@ IsToldBy (Lift error names) said = said ≡ say Document (label_fault_text names
 IsToldBy (Memory e) said = ⊥
 
 -- the named file is there, and has bytes of which this holds
-pub record HasFile (told : Option (List ℕ → Option (List ℕ))) (name : List ℕ) (holds : List ℕ → Type 0) : Type 0 where
+pub record HasFile (shelf : Option (List ℕ → Option (List ℕ))) (name : List ℕ) (holds : List ℕ → Type 0) : Type 0 where
   pub bytes : List ℕ
-  pub content : IsContent told name bytes
-  pub there : AreThere told (name ∷ [])
+  pub content : IsContent shelf name bytes
+  pub there : AreThere shelf (name ∷ [])
   pub is : holds bytes
 
 -- the file that is asked for is there, and has bytes of which this holds with the deadline that is asked for
 abbrev pub HasAskedFile : Option (List ℕ → Option (List ℕ)) → AskedFile → (List ℕ → Option ℕ → Type 0) → Type 0
-HasAskedFile told asked holds = HasFile told asked.file (λ bytes. holds bytes asked.deadline)
+HasAskedFile shelf asked holds = HasFile shelf asked.file (λ bytes. holds bytes asked.deadline)
 
 -- the names are those of the time-points of a network, and the first is the name of the origin
 pub record AreDocumentNames (names : List (List ℕ)) (net : Network) : Type 0 where
@@ -74,9 +74,9 @@ pub record IsLoweredOf (bytes : List ℕ) (deadline : Option ℕ) (d : NamedNetw
   pub names : AreDocumentNames d.names (the_network d.network)
 
 -- the document has these parts, without labels: this is their network, and these are the names of its time-points
-pub record IsPlainDocument (told : Result Parts Refusal) (network : NetworkParts) (names : List (List ℕ)) : Type 0 where
+pub record IsPlainDocument (parsed : Result Parts Refusal) (network : NetworkParts) (names : List (List ℕ)) : Type 0 where
   pub parts : Parts
-  pub told_are : told ≡ Ok parts
+  pub told_are : parsed ≡ Ok parts
   pub unlabelled : AreUnlabelled parts
   pub network_is : the_network network ≡ network_of parts
   pub names_are : names ≡ parts.names

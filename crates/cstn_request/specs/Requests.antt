@@ -9,7 +9,7 @@ use Rattle.cstn_request.specs.declared.words.Release.{Release}
 use Rattle.cstn_request.specs.declared.words.NetworkVerb.{NetworkVerb}
 use Rattle.cstn_request.specs.declared.words.NetworkVerb.TheVariants.{Check, Closed, Tight, Conflict, Tree, Edit}
 use Rattle.cstn_request.specs.declared.words.LabelledVerb.{LabelledVerb}
-use Rattle.cstn_request.specs.declared.words.LabelledVerb.TheVariants.{Follow, Run}
+use Rattle.cstn_request.specs.declared.words.LabelledVerb.TheVariants.{Follow, Run, Cases}
 use Rattle.cstn_request.specs.declared.words.TextVerb.{TextVerb}
 use Rattle.cstn_request.specs.declared.words.TextVerb.TheVariants.{Replay, Closedcheck, Treecheck}
 use Rattle.cstn_request.specs.declared.words.DocumentVerb.{DocumentVerb}
@@ -62,6 +62,9 @@ follow asked cap = of_labelled Follow asked cap
 
 abbrev pub run : AskedFile → ℕ → Request
 run asked cap = of_labelled Run asked cap
+
+abbrev pub cases : AskedFile → ℕ → Request
+cases asked cap = of_labelled Cases asked cap
 
 abbrev pub replay : AskedFile → List ℕ → Request
 replay asked proof = of_text Replay asked proof
@@ -175,7 +178,8 @@ capped_at command found =
     else if same_text command (codes "closed") then Some (closed found.0 found.1)
     else if same_text command (codes "tight") then Some (tight found.0 found.1)
     else if same_text command (codes "conflict") then Some (conflict found.0 found.1)
-    else if same_text command (codes "tree") then Some (tree found.0 found.1) else None
+    else if same_text command (codes "tree") then Some (tree found.0 found.1)
+    else if same_text command (codes "cases") then Some (cases found.0 found.1) else None
 
 -- the request of a command with these words after it, to a program of this release
 abbrev pub request_at : Release → List ℕ → List (List ℕ) → Option Request

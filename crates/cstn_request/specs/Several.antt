@@ -25,16 +25,16 @@ WereOpened (bytes ∷ rest) deadline [] = ⊥
 WereOpened (bytes ∷ rest) deadline (document ∷ documents) = IsPlainOf bytes deadline document × WereOpened rest deadline documents
 
 -- these files are there, and these documents of them were accepted
-pub record HasRead (told : Option (List ℕ → Option (List ℕ))) (deadline : Option ℕ) (files : List (List ℕ)) (documents : List NamedNetwork) : Type 0 where
+pub record HasRead (shelf : Option (List ℕ → Option (List ℕ))) (deadline : Option ℕ) (files : List (List ℕ)) (documents : List NamedNetwork) : Type 0 where
   pub contents : List (List ℕ)
-  pub are : AreContents told files contents
+  pub are : AreContents shelf files contents
   pub many : length contents ≡ length files
-  pub there : AreThere told files
+  pub there : AreThere shelf files
   pub accepted : WereOpened contents deadline documents
 
 -- Where the files have these contents, the documents of the first of them were accepted, and that of the next one is refused: this is said
 -- of it. It is there, and so is each file before it; these were asked for, and no other.
-pub record IsRefusedFile (told : Option (List ℕ → Option (List ℕ))) (before after : Option (List (List ℕ))) (deadline : Option ℕ) (files contents : List (List ℕ)) (said : Said) : Type 0 where
+pub record IsRefusedFile (shelf : Option (List ℕ → Option (List ℕ))) (before after : Option (List (List ℕ))) (deadline : Option ℕ) (files contents : List (List ℕ)) (said : Said) : Type 0 where
   pub earlier : List (List ℕ)
   pub bytes : List ℕ
   pub later : List (List ℕ)
@@ -42,11 +42,11 @@ pub record IsRefusedFile (told : Option (List ℕ → Option (List ℕ))) (befor
   pub documents : List NamedNetwork
   pub accepted : WereOpened earlier deadline documents
   pub is : IsSaidPlainly bytes deadline said
-  pub read : WereRead told before after (take (suc (length earlier)) files)
+  pub read : WereRead shelf before after (take (suc (length earlier)) files)
 
 -- a document of these files is refused, and this is said of it
-pub record HasRefusedFile (told : Option (List ℕ → Option (List ℕ))) (before after : Option (List (List ℕ))) (deadline : Option ℕ) (files : List (List ℕ)) (said : SaidText) : Type 0 where
+pub record HasRefusedFile (shelf : Option (List ℕ → Option (List ℕ))) (before after : Option (List (List ℕ))) (deadline : Option ℕ) (files : List (List ℕ)) (said : SaidText) : Type 0 where
   pub contents : List (List ℕ)
-  pub are : AreContents told files contents
-  pub file : IsRefusedFile told before after deadline files contents (the_said said)
+  pub are : AreContents shelf files contents
+  pub file : IsRefusedFile shelf before after deadline files contents (the_said said)
   pub outcome : said.outcome ≡ Document

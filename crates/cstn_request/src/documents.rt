@@ -9,7 +9,8 @@ ghost use Rattle.cstn_reply.specs.Read.{the_said};
 ghost use Rattle.cstn_reply.specs.Texts.{say};
 ghost use Rattle.cstn_request.specs.Read.{the_asked_file};
 ghost use Rattle.cstn_request.specs.Asked.{AsksFileOnce};
-ghost use Rattle.cstn_request.specs.Opened.{HasAskedFile, IsLabelledOf, IsLoweredOf, IsPlainOf, IsNetworkOf, IsDocumentRefusal, IsPlainRefusal, IsNetworkRefusal, IsTakenOf, TellsLabels};
+ghost use Rattle.cstn_request.specs.Opened.{HasAskedFile, IsLabelledOf, IsLoweredOf, IsPlainOf, IsNetworkOf, IsDocumentRefusal, IsPlainRefusal};
+ghost use Rattle.cstn_request.specs.Opened.{IsNetworkRefusal, IsTakenOf, TellsLabels};
 
 use crate::refusals::refuse;
 use crate::{Asked, NamedLabelled, NamedNetwork, Unread};
@@ -77,7 +78,8 @@ pub fn open_network<F: Shelf>(
     shelf: &mut F,
 ) -> Result<NamedNetwork, Unread>
     requires may_ask { IsTrue (F.may_ask shelf.old asked.file.now) }
-    ensures opened { IfOk result (λ d. HasAskedFile (F.files shelf.old) (the_asked_file asked.entry) (λ bytes deadline. IsNetworkOf takes_labels bytes deadline d)) }
+    ensures opened { IfOk result (λ d. HasAskedFile (F.files shelf.old) (the_asked_file asked.entry)
+        (λ bytes deadline. IsNetworkOf takes_labels bytes deadline d)) }
     ensures refused { (said : SaidText) → result ≡ Err (Unread.Told said)
         → HasAskedFile (F.files shelf.old) (the_asked_file asked.entry) (λ bytes deadline. IsNetworkRefusal takes_labels bytes deadline said) }
     ensures once { AsksFileOnce asked.entry.file.now (F.asked shelf.old) (F.asked shelf.new) result }

@@ -57,6 +57,7 @@ impl NetworkVerb {
 pub enum LabelledVerb {
     Follow,
     Run,
+    Cases,
 }
 
 /// What is asked of a network and a text that is to be checked against it.
@@ -203,6 +204,7 @@ fn capped_at<'a>(command: &str, asked: Asked<'a>, cap: Cap) -> Option<Request<'a
         "tight" => Some(on_network(NetworkVerb::Tight, asked, cap)),
         "conflict" => Some(on_network(NetworkVerb::Conflict, asked, cap)),
         "tree" => Some(on_network(NetworkVerb::Tree, asked, cap)),
+        "cases" => Some(on_labelled(LabelledVerb::Cases, asked, cap)),
         _ => None,
     }
 }

@@ -12,7 +12,7 @@ use Rattle.cstn_text.specs.Names.{IsName, number_of}
 use Rattle.cstn_graphml.specs.DrawnGraph.{Observation}
 use Rattle.cstn_graphml.specs.Document.{or_nothing}
 use Rattle.cstn_save.specs.Names.{AreNamesOf}
-use Rattle.cstn_save.specs.Canonical.{observed_by, timed_observations}
+use Rattle.cstn_save.specs.Canonical.{observation_by, timed_observations}
 use Rattle.cstn_sentences.specs.Results.{◌>>?◌, holds_or}
 use Rattle.cstn_sentences.specs.Refusals.{PlanRefusal, stands_twice}
 use Rattle.cstn_sentences.specs.declared.declarations.Meant.{Meant}
@@ -49,7 +49,7 @@ step_declared n m names x d new =
 -- ---- what is observed
 
 back_by : (net : Network) (x : ℕ) (o : Option ℕ) → IsWellFormed net → slice_index_or net.observes x None ≡ o
-    → step_observation (option_map (observed_of net.reaction) o) ≡ observed_by net.reaction o
+    → step_observation (option_map (observed_of net.reaction) o) ≡ observation_by net.reaction o
 back_by net x None well e = refl
 back_by net x (Some p) well e =
     ap (option_map (λ (q : ℕ). let o : Observation = record { prop = q; reaction = net.reaction p } in o))
@@ -59,7 +59,7 @@ back_by net x (Some p) well e =
 observed_back : (net : Network) (x : ℕ) → IsWellFormed net → x < count net
     → step_observation (step_observed net x) ≡ slice_index_or (timed_observations net) x None
 observed_back net x well inside =
-    back_by net x (slice_index_or net.observes x None) well refl ∙ sym (get_or-map (observed_by net.reaction) net.observes x None None inside)
+    back_by net x (slice_index_or net.observes x None) well refl ∙ sym (get_or-map (observation_by net.reaction) net.observes x None None inside)
 
 -- ---- all steps
 
@@ -83,7 +83,7 @@ pub record DeclaresFirst (m : Labelled) (names : List (List ℕ)) (n : ℕ) : Ty
 
 sized : (m : Labelled) (names : List (List ℕ)) (n : ℕ) → AreNamesOf m.base names → n < count m.base
     → (n < length names) × (n < length (timed_observations m.base))
-sized m names n is inside = (omega (arith, is.each, inside), omega (arith, inside, length-map m.base.observes (observed_by m.base.reaction)))
+sized m names n is inside = (omega (arith, is.each, inside), omega (arith, inside, length-map m.base.observes (observation_by m.base.reaction)))
 
 -- the first name is the origin's
 pub first_named : (m : Labelled) (names : List (List ℕ)) → AreNamesOf m.base names → slice_index_or names 0 [] ≡ codes "Z"

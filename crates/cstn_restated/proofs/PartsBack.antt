@@ -8,12 +8,12 @@ use Rattle.cstn_net.proofs.Observed.{prop_true}
 use Rattle.cstn_graphml.specs.DrawnGraph.{Observation, DrawnConstraint}
 use Rattle.cstn_graphml.specs.Document.{Parts}
 use Rattle.cstn_graphml.specs.Networks.{numbered_drawn, observed_prop, observed_reaction, network_of, labelled_of}
-use Rattle.cstn_save.specs.Canonical.{observed_by, timed_observations}
-use Rattle.cstn_save.specs.ReadBack.{drawn, parts}
+use Rattle.cstn_save.specs.Canonical.{observation_by, timed_observations}
+use Rattle.cstn_save.specs.ReadBack.{without_its_id, parts}
 
 -- ---- constraints
 
-drawn_again : (k : ℕ) (cs : List DrawnConstraint) → map drawn (numbered_drawn k cs) ≡ cs
+drawn_again : (k : ℕ) (cs : List DrawnConstraint) → map without_its_id (numbered_drawn k cs) ≡ cs
 drawn_again k [] = refl
 drawn_again k (c ∷ cs) = ap (λ (later : List DrawnConstraint). c ∷ later) (drawn_again (k + 1) cs)
 
@@ -41,11 +41,11 @@ reaction_at (b ∷ os) (suc x) o e one =
 
 observed_again : (reaction : ℕ → ℕ) (os : List (Option Observation))
     → ((x : ℕ) (o : Observation) → slice_index_or os x None ≡ Some o → reaction o.prop ≡ o.reaction)
-    → map (observed_by reaction) (map observed_prop os) ≡ os
+    → map (observation_by reaction) (map observed_prop os) ≡ os
 observed_again reaction [] same = refl
 observed_again reaction (None ∷ os) same = ap (λ (later : List (Option Observation)). None ∷ later) (observed_again reaction os (λ x o e. same (suc x) o e))
 observed_again reaction (Some o ∷ os) same =
-    ap (λ (n : ℕ). let first : Observation = record { prop = o.prop; reaction = n } in Some first ∷ map (observed_by reaction) (map observed_prop os))
+    ap (λ (n : ℕ). let first : Observation = record { prop = o.prop; reaction = n } in Some first ∷ map (observation_by reaction) (map observed_prop os))
     (same 0 o refl)
     ∙ ap (λ (later : List (Option Observation)). Some o ∷ later) (observed_again reaction os (λ x b e. same (suc x) b e))
 
@@ -58,6 +58,6 @@ timed_again p is =
 -- the parts of the network that parts make are these parts
 pub parts_again : (p : Parts) → IsNetwork (network_of p) → parts (labelled_of p) p.names ≡ p
 parts_again p is =
-    ap (λ (os : List (Option Observation)). let q : Parts = record p { observes = os; constraints = map drawn (numbered_drawn 0 p.constraints) } in q)
+    ap (λ (os : List (Option Observation)). let q : Parts = record p { observes = os; constraints = map without_its_id (numbered_drawn 0 p.constraints) } in q)
     (timed_again p is)
     ∙ ap (λ (cs : List DrawnConstraint). let q : Parts = record p { constraints = cs } in q) (drawn_again 0 p.constraints)

@@ -7,7 +7,7 @@ use Rattle.std.proofs.lemmas.List.Elements.{All-head, All-tail}
 use Rattle.cstn_label.specs.Labels.{Label}
 use Rattle.cstn_net.specs.Networks.{Constraint, IsValue}
 use Rattle.cstn_graphml.specs.DrawnGraph.{DrawnConstraint}
-use Rattle.cstn_save.specs.ReadBack.{drawn}
+use Rattle.cstn_save.specs.ReadBack.{without_its_id}
 use Rattle.cstn_sentences.specs.Results.{◌>>?◌}
 use Rattle.cstn_sentences.specs.Refusals.{PlanRefusal}
 use Rattle.cstn_sentences.specs.Judged.{is_sized}
@@ -84,15 +84,15 @@ inside_from names (suc y) inside = inside
 abbrev IsMeant : Declared → Meaning → Rule → List DrawnConstraint → Type 0
 IsMeant d m r cs = (n : ℕ) → mean n d m (rule r) ≡ Ok (record m { constraints = m.constraints ++ cs })
 
-least_drawn : (c : Constraint) → at_least c.from c.to (neg_ℤ c.most) c.label ≡ drawn c
+least_drawn : (c : Constraint) → at_least c.from c.to (neg_ℤ c.most) c.label ≡ without_its_id c
 least_drawn c = ap (λ (v : ℤ). let e : DrawnConstraint = record { from = c.from; to = c.to; most = v; label = c.label } in e) (neg_twice c.most)
 
-most_drawn : (c d : Constraint) → c.from ≡ d.to → c.to ≡ d.from → c.label ≡ d.label → at_most c.from c.to d.most c.label ≡ drawn d
+most_drawn : (c d : Constraint) → c.from ≡ d.to → c.to ≡ d.from → c.label ≡ d.label → at_most c.from c.to d.most c.label ≡ without_its_id d
 most_drawn c d one other same = rw (one, other, same) refl
 
 -- the rule of a pair means both
 pair_meant : (names : List (List ℕ)) (d : Declared) (m : Meaning) (b c : Constraint) → HasNames names d → IsKnown names b → IsKnown names c → is_pair b c ≡ true
-    → IsMeant d m (pair_rule names b c) (drawn b ∷ drawn c ∷ [])
+    → IsMeant d m (pair_rule names b c) (without_its_id b ∷ without_its_id c ∷ [])
 pair_meant names d m b c has one other pair n =
     let parts = and_parts (are_turned b c) (are_one_range b c) pair in
     let turned = and_parts (b.from == c.to) (b.to == c.from) parts.0 in
@@ -106,16 +106,16 @@ pair_meant names d m b c has one other pair n =
     rule_meant n d m names b.from (range_says (counted_from b.to) (neg_ℤ b.most) c.most) (counted_from b.to) b.label _ has one.from
     (inside_from names b.to one.to) one.label form
     ∙ ap (λ (e : DrawnConstraint). Ok (record m { constraints = m.constraints ++ (e ∷ at_most b.from b.to c.most b.label ∷ []) })) (least_drawn b)
-    ∙ ap (λ (e : DrawnConstraint). Ok (record m { constraints = m.constraints ++ (drawn b ∷ e ∷ []) }))
+    ∙ ap (λ (e : DrawnConstraint). Ok (record m { constraints = m.constraints ++ (without_its_id b ∷ e ∷ []) }))
     (most_drawn b c (eqb-true b.from c.to turned.0) (eqb-true b.to c.from turned.1) same)
 
 -- the rule of a constraint alone means it
 alone_meant : (names : List (List ℕ)) (d : Declared) (m : Meaning) (c : Constraint) → HasNames names d → IsKnown names c
-    → IsMeant d m (alone_rule names c) (drawn c ∷ [])
+    → IsMeant d m (alone_rule names c) (without_its_id c ∷ [])
 alone_meant names d m c has known n = at (c.from == 0 && int_le (pos 0) c.most) (int_le c.most (pos 0)) refl refl
   where
     at : (by least : Bool) → (c.from == 0 && int_le (pos 0) c.most) ≡ by → int_le c.most (pos 0) ≡ least
-        → mean n d m (rule (alone_by names c by least)) ≡ Ok (record m { constraints = m.constraints ++ (drawn c ∷ []) })
+        → mean n d m (rule (alone_by names c by least)) ≡ Ok (record m { constraints = m.constraints ++ (without_its_id c ∷ []) })
     at true least e f =
         let origin : 0 ≡ c.from = sym (eqb-true c.from 0 (and_parts (c.from == 0) (int_le (pos 0) c.most) e).0) in
         rule_meant n d m names c.to (By (ticks c.most)) None c.label _ has known.to tt known.label
@@ -181,40 +181,40 @@ none_dropped (suc skip) = refl
 
 -- these rules mean the constraints but for the first `skip`
 abbrev AreRules : List (List ℕ) → Declared → ℕ → List Constraint → Meaning → Type 0
-AreRules names d skip cs m = Means d m (texts rule_words (rules_after names skip cs)) (with_all m (map drawn (drop skip cs)))
+AreRules names d skip cs m = Means d m (texts rule_words (rules_after names skip cs)) (with_all m (map without_its_id (drop skip cs)))
 
 first_rule : (names : List (List ℕ)) (d : Declared) (m : Meaning) (skip : ℕ) (r : Rule) (cs : List Constraint) (one all : List DrawnConstraint) → IsRuleRead r
     → IsMeant d m r one
-    → one ++ map drawn (drop skip cs) ≡ all → ((n : Meaning) → AreRules names d skip cs n)
+    → one ++ map without_its_id (drop skip cs) ≡ all → ((n : Meaning) → AreRules names d skip cs n)
     → Means d m (texts rule_words (r ∷ rules_after names skip cs)) (with_all m all)
 first_rule names d m skip r cs one all read means same later =
     let more : Meaning = with_all m one in
     subst (λ (n : Meaning). Means d m (texts rule_words (r ∷ rules_after names skip cs)) n)
-    (with_both m one (map drawn (drop skip cs)) ∙ ap (with_all m) same)
-    (means_both d m more (with_all more (map drawn (drop skip cs))) (texts rule_words (r ∷ [])) (texts rule_words (rules_after names skip cs))
+    (with_both m one (map without_its_id (drop skip cs)) ∙ ap (with_all m) same)
+    (means_both d m more (with_all more (map without_its_id (drop skip cs))) (texts rule_words (r ∷ [])) (texts rule_words (rules_after names skip cs))
     (means_line d m more (rule_words r) (rule r) read means) (later more))
 
 two_rules : (names : List (List ℕ)) (d : Declared) (m : Meaning) (b c : Constraint) (cs : List Constraint) (pair : Bool) → is_pair b c ≡ pair
     → HasNames names d → IsKnown names b → IsKnown names c
     → IsRuleRead (if pair then pair_rule names b c else alone_rule names b) → ((k : ℕ) (n : Meaning) → AreRules names d k (c ∷ cs) n)
     → Means d m (texts rule_words ((if pair then pair_rule names b c else alone_rule names b) ∷ rules_after names (if pair then 1 else 0) (c ∷ cs)))
-    (with_all m (map drawn (b ∷ c ∷ cs)))
+    (with_all m (map without_its_id (b ∷ c ∷ cs)))
 two_rules names d m b c cs true e has one other read later =
-    first_rule names d m 1 (pair_rule names b c) (c ∷ cs) (drawn b ∷ drawn c ∷ []) (map drawn (b ∷ c ∷ cs)) read
+    first_rule names d m 1 (pair_rule names b c) (c ∷ cs) (without_its_id b ∷ without_its_id c ∷ []) (map without_its_id (b ∷ c ∷ cs)) read
     (pair_meant names d m b c has one other e) refl (later 1)
 two_rules names d m b c cs false e has one other read later =
-    first_rule names d m 0 (alone_rule names b) (c ∷ cs) (drawn b ∷ []) (map drawn (b ∷ c ∷ cs)) read (alone_meant names d m b has one) refl (later 0)
+    first_rule names d m 0 (alone_rule names b) (c ∷ cs) (without_its_id b ∷ []) (map without_its_id (b ∷ c ∷ cs)) read (alone_meant names d m b has one) refl (later 0)
 
 -- the rules of a network mean its constraints
 pub rules_meant : (names : List (List ℕ)) (d : Declared) (m : Meaning) (skip : ℕ) (cs : List Constraint) → HasNames names d → All (IsNamed names) cs
     → All (IsKnown names) cs → AreRules names d skip cs m
 unfolding rules_after
 rules_meant names d m skip [] has named known =
-    let same : m.constraints ≡ m.constraints ++ map drawn (drop skip []) =
-    sym (append-nil m.constraints) ∙ ap (λ (cs : List Constraint). m.constraints ++ map drawn cs) (sym (none_dropped skip)) in
+    let same : m.constraints ≡ m.constraints ++ map without_its_id (drop skip []) =
+    sym (append-nil m.constraints) ∙ ap (λ (cs : List Constraint). m.constraints ++ map without_its_id cs) (sym (none_dropped skip)) in
     subst (λ (cs : List DrawnConstraint). Means d m [] (record m { constraints = cs })) same (means_none d m)
 rules_meant names d m zero (c ∷ []) has named known =
-    means_line d m (with_all m (drawn c ∷ [])) (rule_words (alone_rule names c)) (rule (alone_rule names c))
+    means_line d m (with_all m (without_its_id c ∷ [])) (rule_words (alone_rule names c)) (rule (alone_rule names c))
     (next_is names c [] (All-head (IsNamed names) c [] named) (All-tail (IsNamed names) c [] named))
     (alone_meant names d m c has (All-head (IsKnown names) c [] known))
 rules_meant names d m zero (b ∷ c ∷ cs) has named known =

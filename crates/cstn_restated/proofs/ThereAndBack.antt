@@ -9,8 +9,8 @@ use Rattle.cstn_lift.specs.WellFormed.{IsLabelled}
 use Rattle.cstn_graphml.specs.DrawnGraph.{Observation, DrawnConstraint}
 use Rattle.cstn_graphml.specs.Document.{Parts, first_of_two}
 use Rattle.cstn_save.specs.Names.{AreNamesOf}
-use Rattle.cstn_save.specs.Canonical.{observed_by, timed_observations}
-use Rattle.cstn_save.specs.ReadBack.{drawn, parts}
+use Rattle.cstn_save.specs.Canonical.{observation_by, timed_observations}
+use Rattle.cstn_save.specs.ReadBack.{without_its_id, parts}
 use Rattle.cstn_sentences.specs.Limits.{most_plan}
 use Rattle.cstn_sentences.specs.Results.{◌>>?◌, some_or, holds_or}
 use Rattle.cstn_sentences.specs.Refusals.{PlanRefusal, too_long, no_deadline}
@@ -112,7 +112,7 @@ has_names m names is so = record {
 record IsAllMeant (m : Labelled) (names : List (List ℕ)) (so : AreDeclared m names) : Type 0 where
   all : Meaning
   labels_are : all.origin_label ∷ all.labels ≡ m.labels
-  constraints_are : all.constraints ≡ map drawn m.base.constraints
+  constraints_are : all.constraints ≡ map without_its_id m.base.constraints
   means : Means so.all nothing_meant (all_lines m names) all
 
 meant : (m : Labelled) (names : List (List ℕ)) → IsLabelled m → AreNamesOf m.base names → (so : AreDeclared m names) → IsAllMeant m names so
@@ -122,7 +122,7 @@ meant m names good is so =
     let t : Span = ticks (pos net.deadline) in
     let first = first_meant m names d so.n good is (omega (arith, so.count_is)) in
     let before : Meaning = first.all in
-    let more : Meaning = with_all before (map drawn net.constraints) in
+    let more : Meaning = with_all before (map without_its_id net.constraints) in
     let steps : Means d nothing_meant (steps_of m names) before =
     subst (λ (k : ℕ). Means d nothing_meant (texts step_words (steps_below m names k)) before) so.count_is first.means in
     let line : Means d nothing_meant (deadline_line m) nothing_meant =
@@ -131,7 +131,7 @@ meant m names good is so =
     record {
       all = more;
       labels_are = first.are.labels_are ∙ take_all (suc so.n) m.labels (omega (arith, so.count_is, good.one_each));
-      constraints_are = ap (λ (cs : List DrawnConstraint). cs ++ map drawn net.constraints) first.are.none;
+      constraints_are = ap (λ (cs : List DrawnConstraint). cs ++ map without_its_id net.constraints) first.are.none;
       means = means_both d nothing_meant nothing_meant more (deadline_line m) (steps_of m names ++ rules_of m names) line
           (means_both d nothing_meant before more (steps_of m names) (rules_of m names) steps
           (rules_meant names d before 0 net.constraints (has_names m names is so) (are_named m names good is) (all_known m names good is)));
@@ -173,10 +173,10 @@ there_and_back m names word good is short =
     let d : Declared = so.all in
     let lines : List (List ℕ) = all_lines m names ++ ([] ∷ []) in
     let told : plan_parts (handed word m.base.deadline) d all.all ≡ record (parts m names) { deadline = handed word m.base.deadline } =
-    same_parts (handed word m.base.deadline) names d.names (timed_observations m.base) _ m.labels _ (map drawn m.base.constraints) all.all.constraints
+    same_parts (handed word m.base.deadline) names d.names (timed_observations m.base) _ m.labels _ (map without_its_id m.base.constraints) all.all.constraints
     (has_names m names is so).names_are
     (so.are.observes_are
-    ∙ take_all (suc so.n) (timed_observations m.base) (omega (arith, so.count_is, length-map m.base.observes (observed_by m.base.reaction))))
+    ∙ take_all (suc so.n) (timed_observations m.base) (omega (arith, so.count_is, length-map m.base.observes (observation_by m.base.reaction))))
     all.labels_are all.constraints_are in
     ap (λ (b : Bool). holds_or b too_long >>? λ fits. read_by word (plan_lines (sentences m names))) (le_true (length (sentences m names)) short)
     ∙ ap (read_by word) (lines_are m names good is)

@@ -7,8 +7,8 @@ use Rattle.cstn_label.specs.Bounds.{Bound}
 use Rattle.cstn_net.specs.Networks.{Network}
 use Rattle.cstn_lift.specs.Labelled.{Labelled}
 use Rattle.cstn_lift.specs.Lowered.{lowered}
-use Rattle.cstn_exec.specs.Runs.{Run, after, next, is_done, awaited, due}
-use Rattle.cstn_exec.specs.Moves.{Refusal, Done, Past, Late, Awaiting, NotExecuted, Known, moment_refusal, unless_past, unless_awaiting, unless_late}
+use Rattle.cstn_exec.specs.Runs.{Run, first_after, next, is_run_done, awaited, due}
+use Rattle.cstn_exec.specs.Moves.{EventRefusal, Done, Past, Late, Awaiting, NotExecuted, Known, moment_refusal, unless_past, unless_awaiting, unless_late}
 use Rattle.cstn_exec.specs.Right.{IsDue, IsFirstAwaited}
 use Rattle.cstn_exec.proofs.Judging.{judged, not_refused, refusal_done}
 use Rattle.cstn_exec.proofs.Running.{awaits_none, awaited_least}
@@ -24,54 +24,54 @@ neither_below a b one other = elim (cases_lt a b) [
   | inr upto ↦ elim (cases_lt b a) [ inl below ↦ absurd (other below) | inr above ↦ omega arith ]
 ]
 
-not_past : (t : ℕ) (now : Option ℕ) (other : Option Refusal) → after now ≤ t → unless_past t now other ≡ other
+not_past : (t : ℕ) (now : Option ℕ) (other : Option EventRefusal) → first_after now ≤ t → unless_past t now other ≡ other
 not_past t None other from = refl
 not_past t (Some m) other from = cond-true (nat_lt m t) other (Some (Past m)) (lt-ltb m t (omega arith))
 
 -- ---- each refusal, by its part
 
 module _ (net : Network) (bounds : List Bound) (run : Run) (t : ℕ) where
-  abbrev by_awaited : Option Refusal
+  abbrev by_awaited : Option EventRefusal
   by_awaited = unless_awaiting (awaited net run (t + 1)) (unless_late t (due net bounds run))
 
-  refusal_waits : is_done run ≡ false → moment_refusal net bounds run t ≡ unless_past t run.now by_awaited
-  refusal_waits waits = cond-false (is_done run) (Some Done) (unless_past t run.now by_awaited) waits
+  refusal_waits : is_run_done run ≡ false → moment_refusal net bounds run t ≡ unless_past t run.now by_awaited
+  refusal_waits waits = cond-false (is_run_done run) (Some Done) (unless_past t run.now by_awaited) waits
 
-  refusal_past : is_done run ≡ false → (now : ℕ) → run.now ≡ Some now → t ≤ now → moment_refusal net bounds run t ≡ Some (Past now)
+  refusal_past : is_run_done run ≡ false → (now : ℕ) → run.now ≡ Some now → t ≤ now → moment_refusal net bounds run t ≡ Some (Past now)
   refusal_past waits now at upto =
       refusal_waits waits ∙ ap (λ o. unless_past t o by_awaited) at ∙ cond-false (nat_lt now t) by_awaited (Some (Past now)) (le-ltb now t upto)
 
-  refusal_from : is_done run ≡ false → next run ≤ t → moment_refusal net bounds run t ≡ by_awaited
+  refusal_from : is_run_done run ≡ false → next run ≤ t → moment_refusal net bounds run t ≡ by_awaited
   refusal_from waits from = refusal_waits waits ∙ not_past t run.now by_awaited from
 
-  refusal_awaiting : is_done run ≡ false → next run ≤ t → (p : ℕ) → awaited net run (t + 1) ≡ Some p → moment_refusal net bounds run t ≡ Some (Awaiting p)
+  refusal_awaiting : is_run_done run ≡ false → next run ≤ t → (p : ℕ) → awaited net run (t + 1) ≡ Some p → moment_refusal net bounds run t ≡ Some (Awaiting p)
   refusal_awaiting waits from p at = refusal_from waits from ∙ ap (λ o. unless_awaiting o (unless_late t (due net bounds run))) at
 
-  refusal_late : is_done run ≡ false → next run ≤ t → awaited net run (t + 1) ≡ None → (u : ℕ) → due net bounds run ≡ Some u → u < t → moment_refusal net bounds run t ≡ Some (Late u)
+  refusal_late : is_run_done run ≡ false → next run ≤ t → awaited net run (t + 1) ≡ None → (u : ℕ) → due net bounds run ≡ Some u → u < t → moment_refusal net bounds run t ≡ Some (Late u)
   refusal_late waits from nobody u at late =
       refusal_from waits from ∙ ap (λ o. unless_awaiting o (unless_late t (due net bounds run))) nobody ∙ ap (unless_late t) at
       ∙ cond-true (nat_lt u t) (Some (Late u)) None (lt-ltb u t late)
 
   -- ---- what comes before it
 
-  module _ (o : Option Refusal) (is : moment_refusal net bounds run t ≡ o) where
-    waits_where : (o ≡ Some Done → ⊥) → is_done run ≡ false
-    waits_where other = elim (cases_Bool (is_done run)) [
+  module _ (o : Option EventRefusal) (is : moment_refusal net bounds run t ≡ o) where
+    waits_where : (o ≡ Some Done → ⊥) → is_run_done run ≡ false
+    waits_where other = elim (cases_Bool (is_run_done run)) [
       | inl all ↦ absurd (other (sym is ∙ refusal_done net bounds run t all))
       | inr waits ↦ waits
     ]
 
-    from_where : is_done run ≡ false → ((now : ℕ) → o ≡ Some (Past now) → ⊥) → next run ≤ t
+    from_where : is_run_done run ≡ false → ((now : ℕ) → o ≡ Some (Past now) → ⊥) → next run ≤ t
     from_where waits other = by_now run.now refl
       where
         by_now : (now : Option ℕ) → run.now ≡ now → next run ≤ t
-        by_now None at = let first = ap after at in omega arith
+        by_now None at = let first = ap first_after at in omega arith
         by_now (Some m) at = elim (cases_lt m t) [
-          | inl below ↦ let first = ap after at in omega arith
+          | inl below ↦ let first = ap first_after at in omega arith
           | inr upto ↦ absurd (other m (sym is ∙ refusal_past waits m at upto))
         ]
 
-    nobody_where : is_done run ≡ false → next run ≤ t → ((p : ℕ) → o ≡ Some (Awaiting p) → ⊥) → awaited net run (t + 1) ≡ None
+    nobody_where : is_run_done run ≡ false → next run ≤ t → ((p : ℕ) → o ≡ Some (Awaiting p) → ⊥) → awaited net run (t + 1) ≡ None
     nobody_where waits from other = elim (cases_option (awaited net run (t + 1))) [
       | inl none ↦ none
       | inr some ↦ absurd (other some.0 (sym is ∙ refusal_awaiting waits from some.0 some.1))
@@ -83,11 +83,11 @@ module _ (m : Labelled) (bounds : List Bound) (plan : IsPlanned m bounds) (g : G
   abbrev net : Network
   net = lowered m
 
-  more_to_do : is_done g.run ≡ false → IsUnfinished m g
+  more_to_do : is_run_done g.run ≡ false → IsUnfinished m g
   more_to_do waits all = true≢false (sym (done_to net g.run right.right.moments all) ∙ waits)
 
-  not_done : IsUnfinished m g → is_done g.run ≡ false
-  not_done more = elim (cases_Bool (is_done g.run)) [
+  not_done : IsUnfinished m g → is_run_done g.run ≡ false
+  not_done more = elim (cases_Bool (is_run_done g.run)) [
     | inl all ↦ absurd (more (done_from net g.run right.right.moments all))
     | inr waits ↦ waits
   ]
@@ -158,7 +158,7 @@ module _ (m : Labelled) (bounds : List Bound) (plan : IsPlanned m bounds) (g : G
     pub accepted_where : moment_refusal (lowered m) bounds g.run t ≡ None ↔ IsAcceptable m g t
     accepted_where = (acceptable, accepted)
 
-    stands : (why : Refusal) → moment_refusal (lowered m) bounds g.run t ≡ Some why → IsRefusedFor m g t why
+    stands : (why : EventRefusal) → moment_refusal (lowered m) bounds g.run t ≡ Some why → IsRefusedFor m g t why
     stands Done is = done_from net g.run right.right.moments (judged net bounds g.run t (Some Done) is)
     stands (Past now) is =
         let past = judged net bounds g.run t (Some (Past now)) is in
@@ -177,7 +177,7 @@ module _ (m : Labelled) (bounds : List Bound) (plan : IsPlanned m bounds) (g : G
     stands (NotExecuted p) is = judged net bounds g.run t (Some (NotExecuted p)) is
     stands (Known p v) is = judged net bounds g.run t (Some (Known p v)) is
 
-    refused : (why : Refusal) → IsRefusedFor m g t why → moment_refusal (lowered m) bounds g.run t ≡ Some why
+    refused : (why : EventRefusal) → IsRefusedFor m g t why → moment_refusal (lowered m) bounds g.run t ≡ Some why
     refused Done all = refusal_done net bounds g.run t (done_to net g.run right.right.moments all)
     refused (Past now) past = refusal_past net bounds g.run t (not_done past.0) now past.1 past.2
     refused (Awaiting p) first = refusal_awaiting net bounds g.run t (not_done first.0) first.1 p (awaited_first t p first.2)
@@ -185,5 +185,5 @@ module _ (m : Labelled) (bounds : List Bound) (plan : IsPlanned m bounds) (g : G
     refused (NotExecuted p) never = absurd never
     refused (Known p v) never = absurd never
 
-    pub refused_where : (why : Refusal) → moment_refusal (lowered m) bounds g.run t ≡ Some why ↔ IsRefusedFor m g t why
+    pub refused_where : (why : EventRefusal) → moment_refusal (lowered m) bounds g.run t ≡ Some why ↔ IsRefusedFor m g t why
     refused_where why = (stands why, refused why)

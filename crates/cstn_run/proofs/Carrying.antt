@@ -9,10 +9,10 @@ use Rattle.cstn_lift.specs.Lowered.{lowered}
 use Rattle.cstn_lines.specs.LiveLines.{Live, moment_at, seen, due_now, live_read}
 use Rattle.cstn_lines.proofs.LiveLemmas.{live_is}
 use Rattle.cstn_exec.specs.Runs.{due}
-use Rattle.cstn_exec.specs.Moves.{Refusal, moment_refusal}
+use Rattle.cstn_exec.specs.Moves.{EventRefusal, moment_refusal}
 use Rattle.cstn_exec.specs.Right.{IsDone}
 use Rattle.cstn_exec.proofs.Dues.{done_from, due_none, due_is_due}
-use Rattle.cstn_exec.specs.Guides.{Guided, begun, named, advanced, see_refusal, noted}
+use Rattle.cstn_exec.specs.Guides.{Guided, guide_begun, named, advanced, see_refusal, outcome_noted}
 use Rattle.cstn_exec.specs.Sound.{IsPlanned, IsGuided}
 use Rattle.cstn_exec.proofs.GuideNaming.{named_ascend, named_exactly}
 use Rattle.cstn_exec.proofs.Advancing.{begun_guided, open_from, noted_guided}
@@ -41,7 +41,7 @@ pub record LastAt (m : Labelled) (bounds : List Bound) (g : Guided) (o : Option 
 -- what an answer that isn't the last tells of the state after it
 pub data Follows (m : Labelled) (bounds : List Bound) (g : Guided) (o : Option Live) (next : Guided) : Type 0 where
   follows_moment : (t : ℕ) → o ≡ Some (moment_at t) → moment_refusal (lowered m) bounds g.run t ≡ None → next ≡ advanced m bounds g t → Follows m bounds g o next
-  follows_outcome : (p : ℕ) (v : Bool) → o ≡ Some (seen p v) → see_refusal m g p ≡ None → next ≡ noted g p v → Follows m bounds g o next
+  follows_outcome : (p : ℕ) (v : Bool) → o ≡ Some (seen p v) → see_refusal m g p ≡ None → next ≡ outcome_noted g p v → Follows m bounds g o next
   follows_same : next ≡ g → Follows m bounds g o next
 
 -- what an answer tells of its line
@@ -57,14 +57,14 @@ tells_moment names m bounds g t = by_refusal (moment_refusal (lowered m) bounds 
     by_due ok None is = record { at = t; moment = refl; accepted = ok; good = refl; done = is }
     by_due ok (Some u) is = follows_moment t refl ok refl
 
-    by_refusal : (r : Option Refusal) → moment_refusal (lowered m) bounds g.run t ≡ r → Tells m bounds g (Some (moment_at t)) (named_turn names m bounds g t r)
+    by_refusal : (r : Option EventRefusal) → moment_refusal (lowered m) bounds g.run t ≡ r → Tells m bounds g (Some (moment_at t)) (named_turn names m bounds g t r)
     by_refusal None ok = by_due ok (due (lowered m) bounds (advanced m bounds g t).run) refl
     by_refusal (Some why) is = follows_same refl
 
 tells_outcome : (m : Labelled) (bounds : List Bound) (g : Guided) (p : ℕ) (v : Bool) → Tells m bounds g (Some (seen p v)) (noted_turn g p v (see_refusal m g p))
 tells_outcome m bounds g p v = by_refusal (see_refusal m g p) refl
   where
-    by_refusal : (r : Option Refusal) → see_refusal m g p ≡ r → Tells m bounds g (Some (seen p v)) (noted_turn g p v r)
+    by_refusal : (r : Option EventRefusal) → see_refusal m g p ≡ r → Tells m bounds g (Some (seen p v)) (noted_turn g p v r)
     by_refusal None ok = follows_outcome p v refl ok refl
     by_refusal (Some why) is = follows_same refl
 
@@ -106,11 +106,11 @@ module _ (names : List (List ℕ)) (m : Labelled) (bounds : List Bound) where
         let l = first_leads turn s g count first lines is in
         stays_right l.next g (count + 1) lines (follows_right s first l.next right (follows s first l.text l.next l.answer)) l.rest
 
-    pub begins_right : IsGuided m (begun (count m.base))
+    pub begins_right : IsGuided m (guide_begun (count m.base))
     begins_right = begun_guided m bounds plan.table plan.well_formed plan.earliest
 
     pub reached_right : (before : List (List ℕ)) (next : List ℕ) (g : Guided) → GuidesTo names m bounds before next g → IsGuided m g
-    reached_right before next g leads = stays_right (begun (count m.base)) g 0 before begins_right leads.state
+    reached_right before next g leads = stays_right (guide_begun (count m.base)) g 0 before begins_right leads.state
 
     -- ---- what is due
 
@@ -129,7 +129,7 @@ module _ (names : List (List ℕ)) (m : Labelled) (bounds : List Bound) where
     named_begins : (g : Guided) (next : List ℕ) (t : ℕ) → live_read next ≡ Some (moment_at t) → moment_refusal (lowered m) bounds g.run t ≡ None → Begins (guide_turn names m bounds g next) (moment_line names t (named m bounds g.run t))
     named_begins g next t at ok =
         subst (λ (o : Option Live). Begins (answer_turn names m bounds g o) (moment_line names t (named m bounds g.run t))) (sym at)
-        (subst (λ (r : Option Refusal). Begins (named_turn names m bounds g t r) (moment_line names t (named m bounds g.run t))) (sym ok)
+        (subst (λ (r : Option EventRefusal). Begins (named_turn names m bounds g t r) (moment_line names t (named m bounds g.run t))) (sym ok)
         (by_due (due (lowered m) bounds (advanced m bounds g t).run)))
       where
         by_due : (o : Option ℕ) → Begins (executing (moment_line names t (named m bounds g.run t)) (advanced m bounds g t) o) (moment_line names t (named m bounds g.run t))
@@ -142,17 +142,17 @@ module _ (names : List (List ℕ)) (m : Labelled) (bounds : List Bound) where
         let called = named_exactly m bounds plan.table g.run t plan.labelled plan.well_formed plan.earliest right.right ok in
         record {
           named = named m bounds g.run t;
-          says = says_next turn ending (begun (count m.base)) g before next (moment_line names t (named m bounds g.run t)) leads (named_begins g next t at ok);
+          says = says_next turn ending (guide_begun (count m.base)) g before next (moment_line names t (named m bounds g.run t)) leads (named_begins g next t at ok);
           ascending = named_ascend m bounds g.run t;
           exactly = called;
           least = λ s x agrees there.
               (on_time m plan.labelled plan.well_formed (advanced m bounds g t) (after_guided m bounds plan g right t ok)).named s x t agrees (named_now m bounds plan g right t ok x there);
         }
 
-    refused_begins : (g : Guided) (next : List ℕ) (t : ℕ) (why : Refusal) → live_read next ≡ Some (moment_at t) → moment_refusal (lowered m) bounds g.run t ≡ Some why → Begins (guide_turn names m bounds g next) (line (refused_text why))
+    refused_begins : (g : Guided) (next : List ℕ) (t : ℕ) (why : EventRefusal) → live_read next ≡ Some (moment_at t) → moment_refusal (lowered m) bounds g.run t ≡ Some why → Begins (guide_turn names m bounds g next) (line (refused_text why))
     refused_begins g next t why at is =
         subst (λ (o : Option Live). Begins (answer_turn names m bounds g o) (line (refused_text why))) (sym at)
-        (subst (λ (r : Option Refusal). Begins (named_turn names m bounds g t r) (line (refused_text why))) (sym is) refl)
+        (subst (λ (r : Option EventRefusal). Begins (named_turn names m bounds g t r) (line (refused_text why))) (sym is) refl)
 
     pub accepts_exactly : (before : List (List ℕ)) (next : List ℕ) (g : Guided) (t : ℕ) → GuidesTo names m bounds before next g → live_read next ≡ Some (moment_at t) → AcceptsExactly names m bounds before next g t
     accepts_exactly before next g t leads at =
@@ -160,14 +160,14 @@ module _ (names : List (List ℕ)) (m : Labelled) (bounds : List Bound) where
         record {
           accepted = accepted_where m bounds plan g right t;
           refused = refused_where m bounds plan g right t;
-          says = λ why stands. says_next turn ending (begun (count m.base)) g before next (line (refused_text why)) leads
+          says = λ why stands. says_next turn ending (guide_begun (count m.base)) g before next (line (refused_text why)) leads
               (refused_begins g next t why at ((refused_where m bounds plan g right t why).1 stands));
         }
 
-    sees : (g : Guided) (next : List ℕ) (p : ℕ) (value : Bool) (why : Option Refusal) (text : List ℕ) → live_read next ≡ Some (seen p value) → see_refusal m g p ≡ why → Begins (noted_turn g p value why) text → Begins (guide_turn names m bounds g next) text
+    sees : (g : Guided) (next : List ℕ) (p : ℕ) (value : Bool) (why : Option EventRefusal) (text : List ℕ) → live_read next ≡ Some (seen p value) → see_refusal m g p ≡ why → Begins (noted_turn g p value why) text → Begins (guide_turn names m bounds g next) text
     sees g next p value why text at is begins =
         subst (λ (o : Option Live). Begins (answer_turn names m bounds g o) text) (sym at)
-        (subst (λ (r : Option Refusal). Begins (noted_turn g p value r) text) (sym is) begins)
+        (subst (λ (r : Option EventRefusal). Begins (noted_turn g p value r) text) (sym is) begins)
 
     pub sees_exactly : (before : List (List ℕ)) (next : List ℕ) (g : Guided) (p : ℕ) (value : Bool) → GuidesTo names m bounds before next g → live_read next ≡ Some (seen p value) → SeesExactly names m bounds before next g p value
     sees_exactly before next g p value leads at =
@@ -176,15 +176,15 @@ module _ (names : List (List ℕ)) (m : Labelled) (bounds : List Bound) where
           accepted = seen_accepted m net g p;
           kept = seen_kept m net g p;
           unnamed = seen_unnamed m net g p;
-          says = λ ok. says_next turn ending (begun (count m.base)) g before next (line (seen_text p value)) leads (sees g next p value None (line (seen_text p value)) at ok refl);
-          refuses = λ why is. says_next turn ending (begun (count m.base)) g before next (line (refused_text why)) leads (sees g next p value (Some why) (line (refused_text why)) at is refl);
+          says = λ ok. says_next turn ending (guide_begun (count m.base)) g before next (line (seen_text p value)) leads (sees g next p value None (line (seen_text p value)) at ok refl);
+          refuses = λ why is. says_next turn ending (guide_begun (count m.base)) g before next (line (refused_text why)) leads (sees g next p value (Some why) (line (refused_text why)) at is refl);
         }
 
     pub tells_due : (before : List (List ℕ)) (next : List ℕ) (g : Guided) → GuidesTo names m bounds before next g → live_read next ≡ Some due_now → GuideTellsDue names m bounds before next g
     tells_due before next g leads at = record {
       due = due (lowered m) bounds g.run;
       due_is = refl;
-      says = says_next turn ending (begun (count m.base)) g before next (line (due_text (due (lowered m) bounds g.run))) leads
+      says = says_next turn ending (guide_begun (count m.base)) g before next (line (due_text (due (lowered m) bounds g.run))) leads
           (subst (λ (o : Option Live). Begins (answer_turn names m bounds g o) (line (due_text (due (lowered m) bounds g.run)))) (sym at) refl);
       right = due_right g (reached_right before next g leads);
     }

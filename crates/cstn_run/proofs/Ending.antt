@@ -10,7 +10,7 @@ use Rattle.cstn_lines.specs.LiveLines.{moment_at, live_read}
 use Rattle.cstn_lines.specs.Pieces.{is_past}
 use Rattle.cstn_exec.specs.Runs.{due}
 use Rattle.cstn_exec.specs.Moves.{moment_refusal}
-use Rattle.cstn_exec.specs.Guides.{Guided, begun, named_at, named, advanced}
+use Rattle.cstn_exec.specs.Guides.{Guided, guide_begun, named_at, named, advanced}
 use Rattle.cstn_exec.specs.Sound.{IsPlanned, IsGuided}
 use Rattle.cstn_exec.proofs.GuideNaming.{named_exactly}
 use Rattle.cstn_exec.proofs.Timely.{on_time, led}
@@ -22,7 +22,7 @@ use Rattle.cstn_exec.specs.Running.{moment_line, executing, unfinished}
 use Rattle.cstn_run.specs.Sessions.{named_turn, answer_turn, guide_turn, guide_ending}
 use Rattle.cstn_reply.specs.Reached.{state_after, ended}
 use Rattle.cstn_run.specs.Least.{IsDueMoment}
-use Rattle.cstn_run.specs.Meanings.{led_by, led_to, end_of, said_to, WasNamed, IsTimely, IsCarriedThrough, EndsUnfinished}
+use Rattle.cstn_run.specs.Meanings.{led_by, led_to, guided_end, said_to, WasNamed, IsTimely, IsCarriedThrough, EndsUnfinished}
 use Rattle.cstn_reply.proofs.Sessions.{play_more, answers_more, state_more, ended_more, play_last, ended_last, play_wrong, ended_wrong, play_past, ended_past, plus_none, zero_plus, one_more, ended_split}
 use Rattle.cstn_run.proofs.Moments.{nobody_named, after_guided, named_now, named_still, named_back}
 use Rattle.cstn_run.proofs.Carrying.{Follows, follows_moment, follows_outcome, follows_same, follows, last_at, last_leads, follows_right, stays_right, begins_right, due_right, done_where}
@@ -215,15 +215,15 @@ module _ (names : List (List ℕ)) (m : Labelled) (bounds : List Bound) (plan : 
 
   -- ---- the laws
 
-  first_state : IsGuided m (begun (count m.base))
+  first_state : IsGuided m (guide_begun (count m.base))
   first_state = begins_right names m bounds plan
 
-  end_right : (lines : List (List ℕ)) → IsGuided m (end_of names m bounds lines)
-  end_right lines = ends_right (begun (count m.base)) 0 lines first_state
+  end_right : (lines : List (List ℕ)) → IsGuided m (guided_end names m bounds lines)
+  end_right lines = ends_right (guide_begun (count m.base)) 0 lines first_state
 
-  was_named : (lines : List (List ℕ)) (x t : ℕ) → IsNamedIn names m bounds (begun (count m.base)) 0 lines x t → WasNamed names m bounds lines x t
+  was_named : (lines : List (List ℕ)) (x t : ℕ) → IsNamedIn names m bounds (guide_begun (count m.base)) 0 lines x t → WasNamed names m bounds lines x t
   was_named lines x t r =
-      let right = stays_right names m bounds plan (begun (count m.base)) r.state 0 r.before first_state r.leads in
+      let right = stays_right names m bounds plan (guide_begun (count m.base)) r.state 0 r.before first_state r.leads in
       record {
         before = r.before;
         next = r.next;
@@ -236,34 +236,34 @@ module _ (names : List (List ℕ)) (m : Labelled) (bounds : List Bound) (plan : 
         named = (named_exactly m bounds plan.table r.state.run t plan.labelled plan.well_formed plan.earliest right.right r.accepted x).0 r.there;
       }
 
-  named_where : (lines : List (List ℕ)) (x t : ℕ) → WasNamed names m bounds lines x t → named_at (end_of names m bounds lines) x ≡ Some t
+  named_where : (lines : List (List ℕ)) (x t : ℕ) → WasNamed names m bounds lines x t → named_at (guided_end names m bounds lines) x ≡ Some t
   named_where lines x t w =
-      let right = stays_right names m bounds plan (begun (count m.base)) w.state 0 w.before first_state w.leads.state in
+      let right = stays_right names m bounds plan (guide_begun (count m.base)) w.state 0 w.before first_state w.leads.state in
       let there = (named_exactly m bounds plan.table w.state.run t plan.labelled plan.well_formed plan.earliest right.right w.accepted x).1 w.named in
-      subst (λ (ls : List (List ℕ)). named_at (end_of names m bounds ls) x ≡ Some t) (sym w.lines_are)
-      (subst (λ (g : Guided). named_at g x ≡ Some t) (sym (ended_split turn leading (begun (count m.base)) w.state 0 w.before (w.next ∷ w.later) w.leads.state))
+      subst (λ (ls : List (List ℕ)). named_at (guided_end names m bounds ls) x ≡ Some t) (sym w.lines_are)
+      (subst (λ (g : Guided). named_at g x ≡ Some t) (sym (ended_split turn leading (guide_begun (count m.base)) w.state 0 w.before (w.next ∷ w.later) w.leads.state))
       (named_after w.state (0 + length w.before) w.next w.later x t right (subst (λ (k : ℕ). is_past (k + 1) w.next ≡ false) (sym (zero_plus (length w.before))) w.leads.within) w.moment w.accepted there))
 
   pub timely : (lines : List (List ℕ)) → IsTimely names m bounds lines
   timely lines = record {
     named = λ x t. (
-      λ e. elim (who_named (begun (count m.base)) 0 lines x t first_state e) [
+      λ e. elim (who_named (guide_begun (count m.base)) 0 lines x t first_state e) [
         | inl before ↦ absurd (nobody_named (count m.base) x t before)
         | inr now ↦ was_named lines x t now
       ],
       named_where lines x t,
     );
-    on_time = on_time m plan.labelled plan.well_formed (end_of names m bounds lines) (end_right lines);
+    on_time = on_time m plan.labelled plan.well_formed (guided_end names m bounds lines) (end_right lines);
   }
 
   pub carried_through : (lines : List (List ℕ)) → (said_to names m bounds lines).outcome ≡ Good → IsCarriedThrough names m bounds lines
   carried_through lines good =
       let right = end_right lines in
-      let done = done_where names m bounds plan (end_of names m bounds lines) right (good_done (begun (count m.base)) 0 lines good) in
+      let done = done_where names m bounds plan (guided_end names m bounds lines) right (good_done (guide_begun (count m.base)) 0 lines good) in
       record {
         done = done;
         timely = timely lines;
-        led = led m plan.labelled plan.well_formed (end_of names m bounds lines) right bounds plan.table plan.earliest done;
+        led = led m plan.labelled plan.well_formed (guided_end names m bounds lines) right bounds plan.table plan.earliest done;
       }
 
   -- what is told where the lines end while something is due
@@ -300,6 +300,6 @@ module _ (names : List (List ℕ)) (m : Labelled) (bounds : List Bound) (plan : 
 
   pub ends_unfinished : (lines : List (List ℕ)) → (said_to names m bounds lines).outcome ≡ Unfinished → EndsUnfinished names m bounds lines
   ends_unfinished lines other =
-      let r = unfinished_at (begun (count m.base)) 0 lines other in
-      let right = subst (IsDueMoment (lowered m) (end_of names m bounds lines).run) r.due_at (due_right names m bounds plan (end_of names m bounds lines) (end_right lines)) in
+      let r = unfinished_at (guide_begun (count m.base)) 0 lines other in
+      let right = subst (IsDueMoment (lowered m) (guided_end names m bounds lines).run) r.due_at (due_right names m bounds plan (guided_end names m bounds lines) (end_right lines)) in
       record { due = r.at; right = right.0; in_time = right.1; text = r.text }

@@ -7,7 +7,7 @@ use Rattle.cstn_lift.specs.Labelled.{Labelled}
 use Rattle.cstn_lift.specs.Lowered.{lowered}
 use Rattle.cstn_exec.specs.Runs.{executed_at, outcome_of, observed_at}
 use Rattle.cstn_exec.specs.Moves.{NotExecuted, Known, outcome_refusal, unless_unseen, unless_known}
-use Rattle.cstn_exec.specs.Guides.{Guided, is_left, is_among, is_denied, see_refusal}
+use Rattle.cstn_exec.specs.Guides.{Guided, was_left_out, is_among, is_denied, see_refusal}
 use Rattle.cstn_exec.proofs.Knowing.{observer_at, observed_where, observed_from}
 use Rattle.cstn_run.specs.Meanings.{IsObserved}
 
@@ -24,7 +24,7 @@ never_unseen p None is = let f : ⊥ = cc in f
 never_unseen p (Some v) is = let f : ⊥ = cc in f
 
 module _ (m : Labelled) (net : IsNetwork (lowered m)) (g : Guided) (p : ℕ) where
-  marked_so : (x : ℕ) → Observes (lowered m) x p → is_denied (lowered m) g p ≡ is_left g x
+  marked_so : (x : ℕ) → Observes (lowered m) x p → is_denied (lowered m) g p ≡ was_left_out g x
   marked_so x o = ap (is_among g.left) (observer_at (lowered m) net x p o)
 
   -- the observer of p was named, or an outcome is refused since it was not
@@ -41,7 +41,7 @@ module _ (m : Labelled) (net : IsNetwork (lowered m)) (g : Guided) (p : ℕ) whe
             observer = at.0;
             moment = t;
             observes = at.1;
-            named = cond-false (is_left g at.0) None (executed_at g.run at.0) (sym (marked_so at.0 at.1) ∙ there) ∙ at.2;
+            named = cond-false (was_left_out g at.0) None (executed_at g.run at.0) (sym (marked_so at.0 at.1) ∙ there) ∙ at.2;
           })
 
       by_denied : (b : Bool) → is_denied (lowered m) g p ≡ b → IsObserved m g p ⊎ (see_refusal m g p ≡ Some (NotExecuted p))
@@ -50,17 +50,17 @@ module _ (m : Labelled) (net : IsNetwork (lowered m)) (g : Guided) (p : ℕ) whe
 
   -- where the observer of p was named, an outcome is refused only where one is kept
   where_observed : IsObserved m g p → see_refusal m g p ≡ unless_known p (outcome_of g.run p)
-  where_observed seen = by_left (is_left g seen.observer) refl
+  where_observed seen = by_left (was_left_out g seen.observer) refl
     where
-      by_left : (b : Bool) → is_left g seen.observer ≡ b → see_refusal m g p ≡ unless_known p (outcome_of g.run p)
+      by_left : (b : Bool) → was_left_out g seen.observer ≡ b → see_refusal m g p ≡ unless_known p (outcome_of g.run p)
       by_left true is =
-          let none : None ≡ Some seen.moment = sym (cond-true (is_left g seen.observer) None (executed_at g.run seen.observer) is) ∙ seen.named in
+          let none : None ≡ Some seen.moment = sym (cond-true (was_left_out g seen.observer) None (executed_at g.run seen.observer) is) ∙ seen.named in
           absurd (let f : ⊥ = cc in f)
       by_left false is =
           cond-false (is_denied (lowered m) g p) (Some (NotExecuted p)) (outcome_refusal (lowered m) g.run p) (marked_so seen.observer seen.observes ∙ is)
           ∙ ap (λ o. unless_unseen p o (unless_known p (outcome_of g.run p)))
           (observed_where (lowered m) net g.run seen.observer p seen.observes
-          ∙ sym (cond-false (is_left g seen.observer) None (executed_at g.run seen.observer) is) ∙ seen.named)
+          ∙ sym (cond-false (was_left_out g seen.observer) None (executed_at g.run seen.observer) is) ∙ seen.named)
 
   pub seen_accepted : see_refusal m g p ≡ None ↔ (IsObserved m g p × (outcome_of g.run p ≡ None))
   seen_accepted = (

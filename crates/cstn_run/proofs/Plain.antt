@@ -6,9 +6,9 @@ use Rattle.cstn_net.specs.Networks.{count}
 use Rattle.cstn_lift.specs.Labelled.{Labelled, HasNoLabels}
 use Rattle.cstn_lift.specs.Lowered.{lowered}
 use Rattle.cstn_lines.specs.LiveLines.{Live, moment_at, seen, due_now, live_read}
-use Rattle.cstn_exec.specs.Runs.{Run, start, called, due}
-use Rattle.cstn_exec.specs.Moves.{Refusal, moment_refusal, moved, outcome_refusal}
-use Rattle.cstn_exec.specs.Guides.{Guided, begun, advanced}
+use Rattle.cstn_exec.specs.Runs.{Run, start_of_run, called, due}
+use Rattle.cstn_exec.specs.Moves.{EventRefusal, moment_refusal, run_moved, outcome_refusal}
+use Rattle.cstn_exec.specs.Guides.{Guided, guide_begun, advanced}
 use Rattle.cstn_exec.specs.Sound.{IsPlanned, IsGuided}
 use Rattle.cstn_exec.proofs.Unlabelled.{all_named, just_moved, see_as_before}
 use Rattle.cstn_reply.specs.Sessions.{Turn, more, last, wrong, play}
@@ -26,18 +26,18 @@ with_run g run = record { run = run; left = g.left }
 module _ (names : List (List ℕ)) (m : Labelled) (bounds : List Bound) (plan : IsPlanned m bounds) (none : HasNoLabels m) where
   -- ---- one answer
 
-  same_moment : (g : Guided) (t : ℕ) (r : Option Refusal) → named_turn names m bounds g t r ≡ turn_with (with_run g) (moment_turn names (lowered m) bounds g.run t r)
+  same_moment : (g : Guided) (t : ℕ) (r : Option EventRefusal) → named_turn names m bounds g t r ≡ turn_with (with_run g) (moment_turn names (lowered m) bounds g.run t r)
   same_moment g t (Some why) = refl
   same_moment g t None =
       ap (λ (xs : List ℕ). executing (moment_line names t xs) (advanced m bounds g t) (due (lowered m) bounds (advanced m bounds g t).run)) (all_named m plan.labelled none bounds g.run t)
       ∙ ap (λ (h : Guided). executing (moment_line names t (called (lowered m) bounds g.run t)) h (due (lowered m) bounds h.run)) (just_moved m plan.labelled none bounds g t)
-      ∙ by_due (due (lowered m) bounds (moved (lowered m) bounds g.run t))
+      ∙ by_due (due (lowered m) bounds (run_moved (lowered m) bounds g.run t))
     where
-      by_due : (o : Option ℕ) → executing (moment_line names t (called (lowered m) bounds g.run t)) (with_run g (moved (lowered m) bounds g.run t)) o ≡ turn_with (with_run g) (executing (moment_line names t (called (lowered m) bounds g.run t)) (moved (lowered m) bounds g.run t) o)
+      by_due : (o : Option ℕ) → executing (moment_line names t (called (lowered m) bounds g.run t)) (with_run g (run_moved (lowered m) bounds g.run t)) o ≡ turn_with (with_run g) (executing (moment_line names t (called (lowered m) bounds g.run t)) (run_moved (lowered m) bounds g.run t) o)
       by_due None = refl
       by_due (Some u) = refl
 
-  same_outcome : (g : Guided) (p : ℕ) (v : Bool) (r : Option Refusal) → noted_turn g p v r ≡ turn_with (with_run g) (seen_turn g.run p v r)
+  same_outcome : (g : Guided) (p : ℕ) (v : Bool) (r : Option EventRefusal) → noted_turn g p v r ≡ turn_with (with_run g) (seen_turn g.run p v r)
   same_outcome g p v None = refl
   same_outcome g p v (Some why) = refl
 
@@ -65,11 +65,11 @@ module _ (names : List (List ℕ)) (m : Labelled) (bounds : List Bound) (plan : 
   stays : (g : Guided) (first text : List ℕ) (next : Guided) → IsGuided m g → guide_turn names m bounds g first ≡ more text next → IsGuided m next
   stays g first text next right is = follows_right names m bounds plan g first next right (follows names m bounds g first text next is)
 
-  pub whole_same : (lines : List (List ℕ)) → said_to names m bounds lines ≡ play (run_turn names (lowered m) bounds) (run_ending (lowered m) bounds) (start (count m.base)) 0 lines
+  pub whole_same : (lines : List (List ℕ)) → said_to names m bounds lines ≡ play (run_turn names (lowered m) bounds) (run_ending (lowered m) bounds) (start_of_run (count m.base)) 0 lines
   whole_same lines =
       sym (same_play (guide_turn names m bounds) (run_turn names (lowered m) bounds) (λ g. g.run) (IsGuided m) stays each_same (guide_ending m bounds) (run_ending (lowered m) bounds) (λ g. refl)
-      (begun (count m.base)) 0 lines (begins_right names m bounds plan))
+      (guide_begun (count m.base)) 0 lines (begins_right names m bounds plan))
 
-  pub heard_same : (lines : List (List ℕ)) → heard (guide_turn names m bounds) (begun (count m.base)) lines ≡ heard (run_turn names (lowered m) bounds) (start (count m.base)) lines
+  pub heard_same : (lines : List (List ℕ)) → heard (guide_turn names m bounds) (guide_begun (count m.base)) lines ≡ heard (run_turn names (lowered m) bounds) (start_of_run (count m.base)) lines
   heard_same lines =
-      sym (same_heard (guide_turn names m bounds) (run_turn names (lowered m) bounds) (λ g. g.run) (IsGuided m) stays each_same (begun (count m.base)) lines (begins_right names m bounds plan))
+      sym (same_heard (guide_turn names m bounds) (run_turn names (lowered m) bounds) (λ g. g.run) (IsGuided m) stays each_same (guide_begun (count m.base)) lines (begins_right names m bounds plan))

@@ -8,7 +8,7 @@ use Rattle.cstn_lift.specs.Lowered.{lowered}
 use Rattle.cstn_lift.specs.Read.{the_labelled}
 use Rattle.cstn_lines.specs.LiveLines.{Live, due_now, live_read}
 use Rattle.cstn_exec.specs.Runs.{due}
-use Rattle.cstn_exec.specs.Moves.{Refusal, moment_refusal}
+use Rattle.cstn_exec.specs.Moves.{EventRefusal, moment_refusal}
 use Rattle.cstn_exec.specs.Guides.{Guided, named, advanced}
 use Rattle.cstn_exec.specs.GuideRead.{GuideParts, advanced_on}
 use Rattle.cstn_reply.specs.Texts.{line, Said}
@@ -44,7 +44,7 @@ named_by r t = turn_with (with_state r) (named_turn r.names (the_labelled r.labe
 
 moment_accepted : (r : RunSessionParts) (t : ℕ) (o : Option ℕ) → None ≡ moment_refusal (lowered (the_labelled r.labelled)) (the_bounds r.bounds) r.state.run t → due (lowered (the_labelled r.labelled)) (the_bounds r.bounds) (advanced (the_labelled r.labelled) (the_bounds r.bounds) r.state t).run ≡ o → named_by r t ≡ turn_with (with_state r) (executing (moment_line r.names t (named (the_labelled r.labelled) (the_bounds r.bounds) r.state.run t)) (advanced (the_labelled r.labelled) (the_bounds r.bounds) r.state t) o)
 moment_accepted r t o is due_is =
-    ap (λ (x : Option Refusal). turn_with (with_state r) (named_turn r.names (the_labelled r.labelled) (the_bounds r.bounds) r.state t x)) (sym is)
+    ap (λ (x : Option EventRefusal). turn_with (with_state r) (named_turn r.names (the_labelled r.labelled) (the_bounds r.bounds) r.state t x)) (sym is)
     ∙ ap (λ (x : Option ℕ). turn_with (with_state r) (executing (moment_line r.names t (named (the_labelled r.labelled) (the_bounds r.bounds) r.state.run t)) (advanced (the_labelled r.labelled) (the_bounds r.bounds) r.state t) x)) due_is
 
 -- the session of a guide under printed names
@@ -52,10 +52,10 @@ abbrev seen_with : GuideParts → List (List ℕ) → RunSessionParts
 seen_with e names = record { labelled = e.labelled; bounds = e.bounds; state = e.state; names = names }
 
 -- a moment that is refused
-pub moment_refused : (old : RunSessionParts) (e new : GuideParts) (names : List (List ℕ)) (t : ℕ) (why : Refusal) (text : List ℕ) → seen_with e names ≡ old → Some why ≡ moment_refusal (lowered (the_labelled e.labelled)) (the_bounds e.bounds) e.state.run t → new ≡ e → text ≡ line (refused_text why) → named_by old t ≡ more text (seen_with new names)
+pub moment_refused : (old : RunSessionParts) (e new : GuideParts) (names : List (List ℕ)) (t : ℕ) (why : EventRefusal) (text : List ℕ) → seen_with e names ≡ old → Some why ≡ moment_refusal (lowered (the_labelled e.labelled)) (the_bounds e.bounds) e.state.run t → new ≡ e → text ≡ line (refused_text why) → named_by old t ≡ more text (seen_with new names)
 moment_refused old e new names t why text view is same text_is =
     subst (λ (r : RunSessionParts). named_by r t ≡ more text (seen_with new names)) view
-    (ap (λ (x : Option Refusal). turn_with (with_state (seen_with e names)) (named_turn names (the_labelled e.labelled) (the_bounds e.bounds) e.state t x)) (sym is)
+    (ap (λ (x : Option EventRefusal). turn_with (with_state (seen_with e names)) (named_turn names (the_labelled e.labelled) (the_bounds e.bounds) e.state t x)) (sym is)
     ∙ ap (λ (xs : List ℕ). more xs (seen_with e names)) (sym text_is)
     ∙ ap (λ (x : GuideParts). more text (seen_with x names)) (sym same))
 

@@ -7,9 +7,9 @@ use Rattle.cstn_lift.specs.Lowered.{lowered}
 use Rattle.cstn_lift.specs.Strategies.{IsLabelledLeast}
 use Rattle.cstn_lines.specs.LiveLines.{Live, moment_at, seen, due_now, live_read}
 use Rattle.cstn_exec.specs.Runs.{next as next_moment, outcome_of, is_awaited}
-use Rattle.cstn_exec.specs.Moves.{Refusal, Done, Past, Late, Awaiting, NotExecuted, Known, moment_refusal}
+use Rattle.cstn_exec.specs.Moves.{EventRefusal, Done, Past, Late, Awaiting, NotExecuted, Known, moment_refusal}
 use Rattle.cstn_exec.specs.Right.{IsDue, IsDone, IsFirstAwaited}
-use Rattle.cstn_exec.specs.Guides.{Guided, begun, named_at, advanced, see_refusal}
+use Rattle.cstn_exec.specs.Guides.{Guided, guide_begun, named_at, advanced, see_refusal}
 use Rattle.cstn_exec.specs.Sound.{IsNamedAt, AgreesHanded, IsOnTime, IsLed}
 use Rattle.cstn_reply.specs.Texts.{line, Said}
 use Rattle.cstn_reply.specs.Sessions.{play, answers}
@@ -20,11 +20,11 @@ use Rattle.cstn_reply.specs.Reached.{ended, LeadsTo, Says}
 
 -- the lines lead a guided session from its beginning to this state, and the next line is neither too long nor too late
 abbrev pub GuidesTo : List (List ℕ) → Labelled → List Bound → List (List ℕ) → List ℕ → Guided → Type 0
-GuidesTo names m bounds before next g = LeadsTo (guide_turn names m bounds) (begun (count m.base)) before next g
+GuidesTo names m bounds before next g = LeadsTo (guide_turn names m bounds) (guide_begun (count m.base)) before next g
 
 -- a guided session says this text to a line
 abbrev pub GuideSays : List (List ℕ) → Labelled → List Bound → List (List ℕ) → List ℕ → List ℕ → Type 0
-GuideSays names m bounds before next text = Says (guide_turn names m bounds) (guide_ending m bounds) (begun (count m.base)) before next text
+GuideSays names m bounds before next text = Says (guide_turn names m bounds) (guide_ending m bounds) (guide_begun (count m.base)) before next text
 
 -- The answer to a moment that is accepted names, in ascending number, exactly the time-points that aren't executed yet, whose
 -- least moment it is by what is known, and whose completed labels hold by that. In each scenario that agrees with the outcomes
@@ -61,7 +61,7 @@ pub record IsAcceptable (m : Labelled) (g : Guided) (t : ℕ) : Type 0 where
   pub by_due : (u : ℕ) × IsDueMoment (lowered m) g.run (Some u) × (t ≤ u)
 
 -- this is the first of the parts of `IsAcceptable` that fails
-abbrev pub IsRefusedFor : Labelled → Guided → ℕ → Refusal → Type 0
+abbrev pub IsRefusedFor : Labelled → Guided → ℕ → EventRefusal → Type 0
 IsRefusedFor m g t Done = IsDone (lowered m) g.run
 IsRefusedFor m g t (Past now) = IsUnfinished m g × (g.run.now ≡ Some now) × (t ≤ now)
 IsRefusedFor m g t (Awaiting p) = IsUnfinished m g × IsAbove g t × IsFirstAwaited (lowered m) g.run t p
@@ -73,8 +73,8 @@ IsRefusedFor m g t (Known p value) = ⊥
 -- against it. The answer to a moment that is refused tells the reason.
 pub record AcceptsExactly (names : List (List ℕ)) (m : Labelled) (bounds : List Bound) (before : List (List ℕ)) (next : List ℕ) (g : Guided) (t : ℕ) : Type 0 where
   pub accepted : moment_refusal (lowered m) bounds g.run t ≡ None ↔ IsAcceptable m g t
-  pub refused : (why : Refusal) → moment_refusal (lowered m) bounds g.run t ≡ Some why ↔ IsRefusedFor m g t why
-  pub says : (why : Refusal) → IsRefusedFor m g t why → GuideSays names m bounds before next (line (refused_text why))
+  pub refused : (why : EventRefusal) → moment_refusal (lowered m) bounds g.run t ≡ Some why ↔ IsRefusedFor m g t why
+  pub says : (why : EventRefusal) → IsRefusedFor m g t why → GuideSays names m bounds before next (line (refused_text why))
 
 -- ---- which outcomes are accepted
 
@@ -92,7 +92,7 @@ pub record SeesExactly (names : List (List ℕ)) (m : Labelled) (bounds : List B
   pub kept : (v : Bool) → see_refusal m g p ≡ Some (Known p v) ↔ (IsObserved m g p × (outcome_of g.run p ≡ Some v))
   pub unnamed : see_refusal m g p ≡ Some (NotExecuted p) ↔ (IsObserved m g p → ⊥)
   pub says : see_refusal m g p ≡ None → GuideSays names m bounds before next (line (seen_text p value))
-  pub refuses : (why : Refusal) → see_refusal m g p ≡ Some why → GuideSays names m bounds before next (line (refused_text why))
+  pub refuses : (why : EventRefusal) → see_refusal m g p ≡ Some why → GuideSays names m bounds before next (line (refused_text why))
 
 -- ---- whole sessions
 
@@ -107,12 +107,12 @@ abbrev pub led_to : Labelled → List Bound → Guided → List ℕ → Guided
 led_to m bounds g text = led_by m bounds g (live_read text)
 
 -- the state in which a guided session ends over these lines
-abbrev pub end_of : List (List ℕ) → Labelled → List Bound → List (List ℕ) → Guided
-end_of names m bounds lines = ended (guide_turn names m bounds) (led_to m bounds) (begun (count m.base)) 0 lines
+abbrev pub guided_end : List (List ℕ) → Labelled → List Bound → List (List ℕ) → Guided
+guided_end names m bounds lines = ended (guide_turn names m bounds) (led_to m bounds) (guide_begun (count m.base)) 0 lines
 
 -- what a guided session says to these lines
 abbrev pub said_to : List (List ℕ) → Labelled → List Bound → List (List ℕ) → Said
-said_to names m bounds lines = play (guide_turn names m bounds) (guide_ending m bounds) (begun (count m.base)) 0 lines
+said_to names m bounds lines = play (guide_turn names m bounds) (guide_ending m bounds) (guide_begun (count m.base)) 0 lines
 
 -- x was named at t: one of the lines hands in this moment, it is accepted, and the answer names x
 pub record WasNamed (names : List (List ℕ)) (m : Labelled) (bounds : List Bound) (lines : List (List ℕ)) (x t : ℕ) : Type 0 where
@@ -130,19 +130,19 @@ pub record WasNamed (names : List (List ℕ)) (m : Labelled) (bounds : List Boun
 -- each scenario that agrees with the outcomes that were handed in and are known, each named time-point is executed, at its
 -- least moment, and no time-point that was left out is executed.
 pub record IsTimely (names : List (List ℕ)) (m : Labelled) (bounds : List Bound) (lines : List (List ℕ)) : Type 0 where
-  pub named : (x t : ℕ) → named_at (end_of names m bounds lines) x ≡ Some t ↔ WasNamed names m bounds lines x t
-  pub on_time : IsOnTime m (end_of names m bounds lines)
+  pub named : (x t : ℕ) → named_at (guided_end names m bounds lines) x ≡ Some t ↔ WasNamed names m bounds lines x t
+  pub on_time : IsOnTime m (guided_end names m bounds lines)
 
 -- The session is timely, and each time-point is executed or left out. In each scenario that agrees with the outcomes that were
 -- handed in and are known, the named moments are those of one labelled strategy, and meet each constraint that is in force.
 pub record IsCarriedThrough (names : List (List ℕ)) (m : Labelled) (bounds : List Bound) (lines : List (List ℕ)) : Type 0 where
-  pub done : IsDone (lowered m) (end_of names m bounds lines).run
+  pub done : IsDone (lowered m) (guided_end names m bounds lines).run
   pub timely : IsTimely names m bounds lines
-  pub led : IsLed m (end_of names m bounds lines)
+  pub led : IsLed m (guided_end names m bounds lines)
 
 -- the lines end while something is due, and the due moment, which is within the deadline, is told
 pub record EndsUnfinished (names : List (List ℕ)) (m : Labelled) (bounds : List Bound) (lines : List (List ℕ)) : Type 0 where
   pub due : ℕ
-  pub right : IsDue (lowered m) (end_of names m bounds lines).run due
+  pub right : IsDue (lowered m) (guided_end names m bounds lines).run due
   pub in_time : due ≤ m.base.deadline
-  pub text : (said_to names m bounds lines).text ≡ answers (guide_turn names m bounds) (begun (count m.base)) 0 lines ++ line (codes "unfinished " ++ decimal due)
+  pub text : (said_to names m bounds lines).text ≡ answers (guide_turn names m bounds) (guide_begun (count m.base)) 0 lines ++ line (codes "unfinished " ++ decimal due)

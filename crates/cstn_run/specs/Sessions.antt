@@ -7,21 +7,21 @@ use Rattle.cstn_lift.specs.Labelled.{Labelled}
 use Rattle.cstn_lift.specs.Lowered.{lowered}
 use Rattle.cstn_lift.specs.Read.{LabelledParts, the_labelled}
 use Rattle.cstn_exec.specs.Runs.{due}
-use Rattle.cstn_exec.specs.Moves.{Refusal, moment_refusal}
-use Rattle.cstn_exec.specs.Guides.{Guided, named, advanced, see_refusal, noted}
+use Rattle.cstn_exec.specs.Moves.{EventRefusal, moment_refusal}
+use Rattle.cstn_exec.specs.Guides.{Guided, named, advanced, see_refusal, outcome_noted}
 use Rattle.cstn_lines.specs.LiveLines.{Live, moment_at, seen, due_now, live_read}
 use Rattle.cstn_reply.specs.Texts.{line, Said}
 use Rattle.cstn_reply.specs.Sessions.{Turn, more, wrong}
 use Rattle.cstn_exec.specs.Running.{moment_line, refused_text, seen_text, due_text, executing, unfinished, turn_with}
 
 -- the answer to a moment: it names the time-points whose moment it is and whose completed labels hold
-abbrev pub named_turn : List (List ℕ) → Labelled → List Bound → Guided → ℕ → Option Refusal → Turn Guided
+abbrev pub named_turn : List (List ℕ) → Labelled → List Bound → Guided → ℕ → Option EventRefusal → Turn Guided
 named_turn names m bounds g t None = executing (moment_line names t (named m bounds g.run t)) (advanced m bounds g t) (due (lowered m) bounds (advanced m bounds g t).run)
 named_turn names m bounds g t (Some refusal) = more (line (refused_text refusal)) g
 
 -- the answer to an outcome
-abbrev pub noted_turn : Guided → ℕ → Bool → Option Refusal → Turn Guided
-noted_turn g p value None = more (line (seen_text p value)) (noted g p value)
+abbrev pub noted_turn : Guided → ℕ → Bool → Option EventRefusal → Turn Guided
+noted_turn g p value None = more (line (seen_text p value)) (outcome_noted g p value)
 noted_turn g p value (Some refusal) = more (line (refused_text refusal)) g
 
 -- the answer to what a live line says

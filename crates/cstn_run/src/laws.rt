@@ -8,9 +8,9 @@ ghost use Rattle.cstn_lift.specs.Lowered.{lowered};
 ghost use Rattle.cstn_check.specs.Growth.{log_of, live_bounds};
 ghost use Rattle.cstn_check.specs.declared.verdicts.Verdict.TheVariants.{Yes};
 ghost use Rattle.cstn_lines.specs.LiveLines.{moment_at, seen, due_now, live_read};
-ghost use Rattle.cstn_exec.specs.Runs.{start};
+ghost use Rattle.cstn_exec.specs.Runs.{start_of_run};
 ghost use Rattle.cstn_exec.specs.Moves.{moment_refusal};
-ghost use Rattle.cstn_exec.specs.Guides.{Guided, begun};
+ghost use Rattle.cstn_exec.specs.Guides.{Guided, guide_begun};
 ghost use Rattle.cstn_exec.specs.Sound.{IsPlanned};
 ghost use Rattle.cstn_reply.specs.Sessions.{play};
 ghost use Rattle.cstn_reply.specs.Reached.{heard};
@@ -59,7 +59,7 @@ pub fn good_sessions_are_carried_out()
 /// Where no time-point has a label, a guided session says what the session of an executive says, also before a fault.
 pub fn unlabelled_sessions_are_plain()
     ensures whole { (names : List (List ℕ)) (m : Labelled) (bounds : List Bound) (lines : List (List ℕ)) → IsPlanned m bounds → HasNoLabels m
-        → said_to names m bounds lines ≡ play (run_turn names (lowered m) bounds) (run_ending (lowered m) bounds) (start (count m.base)) 0 lines }
+        → said_to names m bounds lines ≡ play (run_turn names (lowered m) bounds) (run_ending (lowered m) bounds) (start_of_run (count m.base)) 0 lines }
     ensures heard { (names : List (List ℕ)) (m : Labelled) (bounds : List Bound) (lines : List (List ℕ)) → IsPlanned m bounds → HasNoLabels m
-        → heard (guide_turn names m bounds) (begun (count m.base)) lines ≡ heard (run_turn names (lowered m) bounds) (start (count m.base)) lines }
+        → heard (guide_turn names m bounds) (guide_begun (count m.base)) lines ≡ heard (run_turn names (lowered m) bounds) (start_of_run (count m.base)) lines }
 {}

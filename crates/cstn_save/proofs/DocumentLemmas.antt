@@ -14,7 +14,7 @@ use Rattle.cstn_net.specs.declared.constraints.Constraint.{Constraint as NetCons
 use Rattle.cstn_net.specs.Read.{the_constraint}
 use Rattle.cstn_lift.specs.Labelled.{label_in}
 use Rattle.cstn_graphml.specs.DrawnGraph.{Observation}
-use Rattle.cstn_save.specs.Canonical.{literal, literals_below, or_empty, reaction_data, label_data, node_end, node_line, nodes_below, edge_tag, edge_data, edge_line, edges}
+use Rattle.cstn_save.specs.Canonical.{literal_text, literals_below, or_empty, reaction_data, label_data, node_end, node_line, nodes_below, edge_tag, edge_data, edge_line, edges}
 use Rattle.cstn_save.proofs.JoinLemmas.{two, three}
 
 -- the two pieces of a constraint's line are put at the end of the text
@@ -77,9 +77,9 @@ unfolding literals_below
 literals_none a old = sym (append-nil old)
 
 -- one more literal
-pub literals_more : (a : Label) (n : ℕ) (old text new : List ℕ) → text ≡ old ++ literals_below a n → new ≡ text ++ literal (letter_of n) (a n) → new ≡ old ++ literals_below a (n + 1)
+pub literals_more : (a : Label) (n : ℕ) (old text new : List ℕ) → text ≡ old ++ literals_below a n → new ≡ text ++ literal_text (letter_of n) (a n) → new ≡ old ++ literals_below a (n + 1)
 unfolding literals_below
-literals_more a n old text new so_far put = rw add-one (two old (literals_below a n) (literal (letter_of n) (a n)) text new so_far put)
+literals_more a n old text new so_far put = rw add-one (two old (literals_below a n) (literal_text (letter_of n) (a n)) text new so_far put)
 
 -- where the literals add nothing to the text, the sign of the empty label is put
 pub no_literal : (literals old text new : List ℕ) → text ≡ old ++ literals → length text ≡ length old → new ≡ text ++ (226 ∷ 138 ∷ 161 ∷ []) → new ≡ old ++ or_empty literals

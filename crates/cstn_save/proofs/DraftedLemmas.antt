@@ -10,12 +10,12 @@ use Rattle.std.proofs.lemmas.Slice.Eq.{bytes_eq-Decides}
 use Rattle.cstn_facts.proofs.Booleans.{bytes_same}
 use Rattle.cstn_net.specs.Networks.{Constraint}
 use Rattle.cstn_markup.specs.Bytes.{is_same}
-use Rattle.cstn_graphml.specs.DrawnGraph.{Observation, DrawnGraph, node_of, with_node, with_constraint}
+use Rattle.cstn_graphml.specs.DrawnGraph.{Observation, DrawnGraph, node_of, with_node, with_drawn_constraint}
 use Rattle.cstn_save.proofs.WholeLemmas.{drafted, IsInReach}
 use Rattle.cstn_save.proofs.EdgeLemmas.{with_all}
 use Rattle.cstn_label.specs.Labels.{Label, empty}
 use Rattle.cstn_lift.specs.Labelled.{label_in}
-use Rattle.cstn_save.specs.ReadBack.{drawn}
+use Rattle.cstn_save.specs.ReadBack.{without_its_id}
 use Rattle.cstn_save.proofs.ReadBackLemmas.{begun}
 
 differ : (xs ys : List ℕ) → xs ≢ ys → bytes_eq xs ys ≡ false
@@ -125,7 +125,7 @@ found names observes labels deadline n (suc i) d given all so h =
     (position_or_len_is (bytes_eq name) names (suc i) [] (omega arith) (λ k below. other_name names observes labels k (suc i) given below h) (λ below. bytes_same name))
 
 -- constraints are put behind those of the draft
-pub with_all_is : (cs : List Constraint) (d : DrawnGraph) → with_all cs d ≡ record d { constraints = d.constraints ++ map drawn cs }
+pub with_all_is : (cs : List Constraint) (d : DrawnGraph) → with_all cs d ≡ record d { constraints = d.constraints ++ map without_its_id cs }
 unfolding with_all
 with_all_is [] d = rw (append-nil d.constraints) refl
-with_all_is (c ∷ cs) d = with_all_is cs (with_constraint (drawn c) d) ∙ rw (append_assoc d.constraints (drawn c ∷ []) (map drawn cs)) refl
+with_all_is (c ∷ cs) d = with_all_is cs (with_drawn_constraint (without_its_id c) d) ∙ rw (append_assoc d.constraints (without_its_id c ∷ []) (map without_its_id cs)) refl

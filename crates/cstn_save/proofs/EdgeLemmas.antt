@@ -12,9 +12,9 @@ use Rattle.cstn_text.specs.Numbers.{printed_value}
 use Rattle.cstn_markup.specs.Bytes.{is_white}
 use Rattle.cstn_element.specs.WhiteSpace.{trimmed}
 use Rattle.cstn_element.specs.ValueTexts.{values_of}
-use Rattle.cstn_graphml.specs.DrawnGraph.{DrawnGraph, node_of, with_constraint}
+use Rattle.cstn_graphml.specs.DrawnGraph.{DrawnGraph, node_of, with_drawn_constraint}
 use Rattle.cstn_save.specs.Canonical.{escaped_name, or_empty, literals_below, document_label, edge_tag, edge_data, edge_line, edges, tail}
-use Rattle.cstn_save.specs.ReadBack.{drawn}
+use Rattle.cstn_save.specs.ReadBack.{without_its_id}
 use Rattle.cstn_save.proofs.NumberTextLemmas.{decimal_digits}
 use Rattle.cstn_save.proofs.ValueTextLemmas.{values_back, is_of_literal, literals_bytes}
 use Rattle.cstn_save.proofs.RunLemmas.{all_for, both_all, joined_five}
@@ -89,23 +89,23 @@ line_flat source target rest v a =
     ∙ ap (λ (x : List ℕ). codes "<edge source=" ++ 34 ∷ (escaped_name source ++ 34 ∷ (codes " target=" ++ 34 ∷ (escaped_name target ++ 34 ∷ 62 ∷ (codes "<data key=\"Type\">requirement</data><data key=\"LabeledValues\">" ++ x)))))
     (sym (value_flat (codes "{(") (printed_value v) (codes ", ") (document_label a) (codes ")}") (codes "</data></edge>\n" ++ 60 ∷ rest)))
 
-pub edge_line_made : (names : List (List ℕ)) (c : Constraint) (rest : List ℕ) (at : ℕ) (d : DrawnGraph) → IsKnown names d c → Makes d (with_constraint (drawn c) d) at (edge_line names c ++ 60 ∷ rest) (60 ∷ rest)
+pub edge_line_made : (names : List (List ℕ)) (c : Constraint) (rest : List ℕ) (at : ℕ) (d : DrawnGraph) → IsKnown names d c → Makes d (with_drawn_constraint (without_its_id c) d) at (edge_line names c ++ 60 ∷ rest) (60 ∷ rest)
 edge_line_made names c rest at d is =
     let source : List ℕ = slice_index_or names c.from [] in
     let target : List ℕ = slice_index_or names c.to [] in
     let values : values_of (123 ∷ values_inside c.most c.label) ≡ Some (record { most = c.most; label = Some c.label } ∷ []) =
     ap values_of (sym (joined_five (codes "{(") (printed_value c.most) (codes ", ") (document_label c.label) (codes ")}"))) ∙ values_back c.most c.label is.fits is.plain is.letters in
-    subst (λ (x : List ℕ). Makes d (with_constraint (drawn c) d) at x (60 ∷ rest)) (sym (line_flat source target rest c.most c.label))
+    subst (λ (x : List ℕ). Makes d (with_drawn_constraint (without_its_id c) d) at x (60 ∷ rest)) (sym (line_flat source target rest c.most c.label))
     (edge_made source target (values_inside c.most c.label) rest c.from c.to at c.most c.label d (no_less c.most c.label is.fits) (no_ampersand c.most c.label is.fits) (values_trimmed c.most c.label) values is.from is.to)
 
 -- the draft with these constraints put in
 unfoldable pub with_all : List Constraint → DrawnGraph → DrawnGraph
 with_all [] d = d
-with_all (c ∷ cs) d = with_all cs (with_constraint (drawn c) d)
+with_all (c ∷ cs) d = with_all cs (with_drawn_constraint (without_its_id c) d)
 
 unfoldable pub AreKnown : List (List ℕ) → DrawnGraph → List Constraint → Type 0
 AreKnown names d [] = Unit {0}
-AreKnown names d (c ∷ cs) = IsKnown names d c × AreKnown names (with_constraint (drawn c) d) cs
+AreKnown names d (c ∷ cs) = IsKnown names d c × AreKnown names (with_drawn_constraint (without_its_id c) d) cs
 
 pub edges_begin : (names : List (List ℕ)) (cs : List Constraint) → (rest : List ℕ) × (edges names cs ++ tail ≡ 60 ∷ rest)
 edges_begin names [] = (_, refl)
@@ -116,7 +116,7 @@ unfolding with_all AreKnown
 edges_made names [] at d known = record { place = at; told = refl; left = refl }
 edges_made names (c ∷ cs) at d known =
     let begin = edges_begin names cs in
-    let line : Makes d (with_constraint (drawn c) d) at (edge_line names c ++ (edges names cs ++ tail)) (edges names cs ++ tail) =
-    subst (λ (x : List ℕ). Makes d (with_constraint (drawn c) d) at (edge_line names c ++ x) x) (sym begin.1) (edge_line_made names c begin.0 at d known.0) in
-    subst (λ (x : List ℕ). Makes d (with_all cs (with_constraint (drawn c) d)) at x tail) (sym (append_assoc (edge_line names c) (edges names cs) tail))
-    (then line (λ place. edges_made names cs place (with_constraint (drawn c) d) known.1))
+    let line : Makes d (with_drawn_constraint (without_its_id c) d) at (edge_line names c ++ (edges names cs ++ tail)) (edges names cs ++ tail) =
+    subst (λ (x : List ℕ). Makes d (with_drawn_constraint (without_its_id c) d) at (edge_line names c ++ x) x) (sym begin.1) (edge_line_made names c begin.0 at d known.0) in
+    subst (λ (x : List ℕ). Makes d (with_all cs (with_drawn_constraint (without_its_id c) d)) at x tail) (sym (append_assoc (edge_line names c) (edges names cs) tail))
+    (then line (λ place. edges_made names cs place (with_drawn_constraint (without_its_id c) d) known.1))

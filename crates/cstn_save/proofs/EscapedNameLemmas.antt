@@ -9,7 +9,7 @@ use Rattle.std.proofs.lemmas.Bool.{eqb-true}
 use Rattle.std.proofs.lemmas.List.{length-append}
 use Rattle.cstn_text.specs.Numbers.{printed_number}
 use Rattle.cstn_markup.specs.Bytes.{◌>>=◌, resolved, resolved_after, piece_at, reference_at, scalar_of, character_of, number_after, is_character}
-use Rattle.cstn_markup.specs.Tokens.{value_at}
+use Rattle.cstn_markup.specs.Tokens.{attribute_value_at}
 use Rattle.cstn_markup.proofs.Skips.{resolved_skip}
 use Rattle.cstn_save.specs.Canonical.{is_numbered, escaped_byte, escaped_name}
 use Rattle.cstn_save.proofs.NumberTextLemmas.{decimal_digits, number_back}
@@ -118,6 +118,6 @@ name_of_value [] = refl
 name_of_value (b ∷ name) = both_all is_of_value (escaped_byte b) (escaped_name name) (byte_of_value b) (name_of_value name)
 
 -- an escaped name between two quotes is a value
-pub name_quoted : (name rest : List ℕ) → value_at (34 ∷ (escaped_name name ++ 34 ∷ rest)) ≡ Some (escaped_name name, rest)
+pub name_quoted : (name rest : List ℕ) → attribute_value_at (34 ∷ (escaped_name name ++ 34 ∷ rest)) ≡ Some (escaped_name name, rest)
 name_quoted name rest =
     rw (run_len is_of_value (escaped_name name) 34 rest (name_of_value name) refl, drop-append_seam (escaped_name name) (34 ∷ rest), take-append_seam (escaped_name name) (34 ∷ rest), name_back name) refl

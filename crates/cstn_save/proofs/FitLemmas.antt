@@ -17,7 +17,7 @@ use Rattle.cstn_lift.specs.Faults.{HasLiftFault}
 use Rattle.cstn_net.specs.Read.{first_reaction}
 use Rattle.cstn_graphml.specs.Networks.{numbered_drawn, labelled_of, IsFit, observed_prop, observed_reaction}
 use Rattle.cstn_save.specs.Canonical.{timed_observations}
-use Rattle.cstn_save.specs.ReadBack.{drawn, parts}
+use Rattle.cstn_save.specs.ReadBack.{without_its_id, parts}
 use Rattle.cstn_save.proofs.SameLemmas.{props_back, well_formed_back}
 use Rattle.cstn_lift.proofs.ListLemmas.{numbered_length}
 
@@ -53,7 +53,7 @@ module _ (deadline : ℕ) (os : List (Option ℕ)) (r s : ℕ → ℕ) (ds : Lis
   written = record { base = record { deadline = deadline; observes = os; reaction = s; constraints = ds }; labels = ls }
 
   abbrev pub read : Labelled
-  read = record { base = record { deadline = deadline; observes = os; reaction = r; constraints = numbered_drawn 0 (map drawn ds) }; labels = ls }
+  read = record { base = record { deadline = deadline; observes = os; reaction = r; constraints = numbered_drawn 0 (map without_its_id ds) }; labels = ls }
 
   joined_same : (n : ℕ) (a : Label) → joined_upto read n a ≡ joined_upto written n a
   joined_same zero a = refl
@@ -71,7 +71,7 @@ module _ (deadline : ℕ) (os : List (Option ℕ)) (r s : ℕ → ℕ) (ds : Lis
   full_same c id = kept_by _ _ _ _ (ap is_plain (completed_same (joined c.label (joined (label_in ls c.from) (label_in ls c.to)))))
 
   -- as many constraints are kept
-  kept_count : (id : ℕ) (cs : List Constraint) → length (filter_map (with_full_label read) (numbered_drawn id (map drawn cs))) ≡ length (filter_map (with_full_label written) cs)
+  kept_count : (id : ℕ) (cs : List Constraint) → length (filter_map (with_full_label read) (numbered_drawn id (map without_its_id cs))) ≡ length (filter_map (with_full_label written) cs)
   kept_count id [] = refl
   kept_count id (c ∷ cs) = cons_length _ _ _ _ (full_same c id) (kept_count (id + 1) cs)
 

@@ -16,15 +16,16 @@ use Rattle.cstn_label.specs.declared.marks.Mark.TheVariants.{Absent, Yes, No, Un
 use Rattle.cstn_label.specs.Labels.{Label}
 use Rattle.cstn_label.specs.Marks.{is_absent}
 use Rattle.cstn_net.specs.Networks.{Network, Constraint, count, IsWellFormed, IsOnObserved, IsValue}
+use Rattle.cstn_net.proofs.Values.{value_fits}
 use Rattle.cstn_lift.specs.Labelled.{Labelled, label_of}
 use Rattle.cstn_lift.specs.WellFormed.{IsLabelled}
 use Rattle.cstn_markup.specs.Tokens.{tokens}
 use Rattle.cstn_element.specs.Results.{◌>>=◌}
 use Rattle.cstn_element.specs.Contents.{content_of}
-use Rattle.cstn_graphml.specs.DrawnGraph.{Observation, DrawnGraph, with_constraint}
+use Rattle.cstn_graphml.specs.DrawnGraph.{Observation, DrawnGraph, with_drawn_constraint}
 use Rattle.cstn_graphml.specs.Document.{in_document, drawn_parts, document}
-use Rattle.cstn_save.specs.Canonical.{canonical, observed_by, timed_observations, head, nodes_below, edges, tail}
-use Rattle.cstn_save.specs.ReadBack.{drawn, parts}
+use Rattle.cstn_save.specs.Canonical.{canonical, observation_by, timed_observations, head, nodes_below, edges, tail}
+use Rattle.cstn_save.specs.ReadBack.{without_its_id, parts}
 use Rattle.cstn_save.specs.Names.{AreNamesOf}
 use Rattle.cstn_save.proofs.WholeLemmas.{drafted, IsNew, IsInReach}
 use Rattle.cstn_save.proofs.EdgeLemmas.{IsKnown, AreKnown}
@@ -33,12 +34,12 @@ use Rattle.cstn_save.proofs.DraftedLemmas.{AreGiven, IsShaped, shaped, fresh, fo
 use Rattle.cstn_text.proofs.PrintedNameLemmas.{shape_true}
 
 -- what a time-point observes, with the reaction of the proposition
-observed_at : (reaction : ℕ → ℕ) (os : List (Option ℕ)) (i : ℕ) → slice_index_or (map (observed_by reaction) os) i None ≡ observed_by reaction (slice_index_or os i None)
+observed_at : (reaction : ℕ → ℕ) (os : List (Option ℕ)) (i : ℕ) → slice_index_or (map (observation_by reaction) os) i None ≡ observation_by reaction (slice_index_or os i None)
 observed_at reaction [] i = refl
 observed_at reaction (o ∷ os) zero = refl
 observed_at reaction (o ∷ os) (suc i) = observed_at reaction os i
 
-reach_by : (net : Network) (i : ℕ) (o : Option ℕ) → IsWellFormed net → slice_index_or net.observes i None ≡ o → IsInReach (observed_by net.reaction o)
+reach_by : (net : Network) (i : ℕ) (o : Option ℕ) → IsWellFormed net → slice_index_or net.observes i None ≡ o → IsInReach (observation_by net.reaction o)
 reach_by net i None wf e = tt
 reach_by net i (Some p) wf e = (wf.letters i p (record { what = e }), wf.network.reacts i p (record { what = e }), wf.soon i p (record { what = e }))
 
@@ -46,7 +47,7 @@ in_reach : (net : Network) (i : ℕ) → IsWellFormed net → IsInReach (slice_i
 in_reach net i wf = subst IsInReach (sym (observed_at net.reaction net.observes i)) (reach_by net i (slice_index_or net.observes i None) wf refl)
 
 observations_count : (net : Network) → length (timed_observations net) ≡ count net
-observations_count net = length-map net.observes (observed_by net.reaction)
+observations_count net = length-map net.observes (observation_by net.reaction)
 
 given_of : (m : Labelled) (names : List (List ℕ)) → IsLabelled m → AreNamesOf m.base names → AreGiven names (timed_observations m.base) m.labels
 given_of m names good is =
@@ -60,16 +61,6 @@ given_of m names good is =
       some = omega (arith, is.each, good.base.network.origin);
       props = λ i h. in_reach net i good.base;
     }
-
-below_top : (n : ℕ) → pos n ≤ℤ pos most_value → n < 2 ^ 31
-below_top n h = omega (arith, ints)
-
-above_bottom : (n : ℕ) → least_value ≤ℤ negsuc n → n < 2 ^ 31
-above_bottom n h = omega (arith, ints)
-
-value_fits : (v : ℤ) → IsValue v → FitsSigned w32 v
-value_fits (pos n) h = record { sfits = below_top n h.1 }
-value_fits (negsuc n) h = record { sfits = above_bottom n h.0 }
 
 absent_by : (a : Label) (p : ℕ) (mark : Mark) → ((a p ≢ Absent) → p < 52) → a p ≡ mark → 52 ≤ p → a p ≡ Absent
 absent_by a p Absent low e high = e
@@ -86,12 +77,12 @@ unfolding AreKnown
 all_known names [] d all = tt
 all_known names (c ∷ cs) d all = (
   all 0 c (omega arith),
-  all_known names cs (with_constraint (drawn c) d)
+  all_known names cs (with_drawn_constraint (without_its_id c) d)
       (λ k x h. let known = all (suc k) x (omega (arith, h)) in record { fits = known.fits; plain = known.plain; letters = known.letters; from = known.from; to = known.to }),
 )
 
 parts_told : (m : Labelled) (names : List (List ℕ)) (n : ℕ) (d : DrawnGraph) → suc n ≡ length names → suc n ≡ count m.base → suc n ≡ length m.labels → IsShaped names (timed_observations m.base) m.labels m.base.deadline n d
-    → drawn_parts None (record d { constraints = d.constraints ++ map drawn m.base.constraints }) ≡ Ok (parts m names)
+    → drawn_parts None (record d { constraints = d.constraints ++ map without_its_id m.base.constraints }) ≡ Ok (parts m names)
 parts_told m names n d all count_is labels_are so =
     rw (so.deadline_is, so.origin_is, so.names_are, take_all (suc n) names (omega (arith, all)), so.none, so.labels_are, take_all (suc n) m.labels (omega (arith, labels_are)), so.observes_are, take_all (suc n) (timed_observations m.base) (omega (arith, count_is, observations_count m.base))) refl
 

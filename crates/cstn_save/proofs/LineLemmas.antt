@@ -12,10 +12,10 @@ use Rattle.cstn_element.specs.Results.{Refusal, ◌>>=◌}
 use Rattle.cstn_element.specs.WhiteSpace.{trimmed}
 use Rattle.cstn_element.specs.NumberTexts.{short_number}
 use Rattle.cstn_element.specs.ValueTexts.{values_of}
-use Rattle.cstn_graphml.specs.Judged.{with_pairs, observed, reacting, labelled}
+use Rattle.cstn_graphml.specs.Judged.{with_pairs, prop_in_datum, reacting, labelled}
 use Rattle.cstn_element.specs.Contents.{Content, contents, inner, outer, content_of}
 use Rattle.cstn_element.specs.Elements.{Datum, read_by, data_reading, datum_of}
-use Rattle.cstn_graphml.specs.DrawnGraph.{Observation, observation, DrawnGraph, empty_graph, node_of, with_node, with_constraint, with_deadline}
+use Rattle.cstn_graphml.specs.DrawnGraph.{Observation, observation, DrawnGraph, empty_graph, node_of, with_node, with_drawn_constraint, with_deadline}
 use Rattle.cstn_graphml.specs.Document.{in_graph, in_document, root_reading, document_reading}
 use Rattle.cstn_save.specs.Canonical.{escaped_name, tail}
 use Rattle.cstn_save.proofs.EscapedNameLemmas.{name_back}
@@ -104,7 +104,7 @@ finds_then m n = record { place = n.place; told = m.told ∙ n.told; left = m.le
 pub record Says (o : Option Observation) (a : Label) (found : List Datum) : Type 0 where
   pub prop : Option ℕ
   pub ticks : ℕ
-  pub observes : observed (datum_of (codes "Obs") found) ≡ Ok prop
+  pub observes : prop_in_datum (datum_of (codes "Obs") found) ≡ Ok prop
   pub reacts : reacting (datum_of (codes "Reaction") found) ≡ Ok ticks
   pub labels : labelled (datum_of (codes "Label") found) ≡ Ok a
   pub is : observation prop ticks ≡ o
@@ -134,7 +134,7 @@ requirement_read = resolved_plain (codes "requirement") refl
 pub edge_made : (source target raw rest : List ℕ) (from to at : ℕ) (v : ℤ) (a : Label) (draft : DrawnGraph)
     → list_all (λ c. not (c == 60)) (123 ∷ raw) ≡ true → list_all (λ c. not (c == 38)) (123 ∷ raw) ≡ true → trimmed (123 ∷ raw) ≡ 123 ∷ raw
     → values_of (123 ∷ raw) ≡ Some (record { most = v; label = Some a } ∷ []) → node_of source draft ≡ Some from → node_of target draft ≡ Some to
-    → Makes draft (with_constraint (record { from = from; to = to; most = v; label = a }) draft) at
+    → Makes draft (with_drawn_constraint (record { from = from; to = to; most = v; label = a }) draft) at
     (codes "<edge source=" ++ 34 ∷ (escaped_name source ++ 34 ∷ (codes " target=" ++ 34 ∷ (escaped_name target ++ 34 ∷ 62 ∷ (codes "<data key=\"Type\">requirement</data><data key=\"LabeledValues\">" ++ 123 ∷ (raw ++ (codes "</data></edge>\n" ++ 60 ∷ rest))))))) (60 ∷ rest)
 unfolding contents read_by with_pairs
 edge_made source target raw rest from to at v a draft h k trims values is_from is_to =

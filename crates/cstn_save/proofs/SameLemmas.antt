@@ -18,16 +18,16 @@ use Rattle.cstn_lift.specs.Labelled.{Labelled}
 use Rattle.cstn_lift.specs.WellFormed.{IsLabelled}
 use Rattle.cstn_graphml.proofs.Built.{numbered_length, same_network}
 use Rattle.cstn_graphml.proofs.Fits.{fits}
-use Rattle.cstn_save.specs.Canonical.{canonical, observed_by, timed_observations}
-use Rattle.cstn_save.specs.ReadBack.{drawn, parts, AreNumbered, AreSameButIds}
+use Rattle.cstn_save.specs.Canonical.{canonical, observation_by, timed_observations}
+use Rattle.cstn_save.specs.ReadBack.{without_its_id, parts, AreNumbered, AreSameButIds}
 use Rattle.cstn_save.specs.Names.{AreNamesOf}
 use Rattle.cstn_save.proofs.LawLemmas.{document_back}
 
-observed_back : (reaction : ℕ → ℕ) (o : Option ℕ) → observed_prop (observed_by reaction o) ≡ o
+observed_back : (reaction : ℕ → ℕ) (o : Option ℕ) → observed_prop (observation_by reaction o) ≡ o
 observed_back reaction None = refl
 observed_back reaction (Some p) = refl
 
-pub props_back : (reaction : ℕ → ℕ) (os : List (Option ℕ)) → map observed_prop (map (observed_by reaction) os) ≡ os
+pub props_back : (reaction : ℕ → ℕ) (os : List (Option ℕ)) → map observed_prop (map (observation_by reaction) os) ≡ os
 props_back reaction [] = refl
 props_back reaction (o ∷ os) = rw (observed_back reaction o, props_back reaction os) refl
 
@@ -39,26 +39,26 @@ here_or_later reaction q p later true e next = rw e (ap reaction (eqb-true q p e
 here_or_later reaction q p later false e next = rw e (next refl)
 
 -- the reaction of an observed proposition is read back
-reaction_found : (reaction : ℕ → ℕ) (os : List (Option ℕ)) (x p : ℕ) → slice_index_or os x None ≡ Some p → first_reaction observed_prop observed_reaction (map (observed_by reaction) os) p ≡ reaction p
+reaction_found : (reaction : ℕ → ℕ) (os : List (Option ℕ)) (x p : ℕ) → slice_index_or os x None ≡ Some p → first_reaction observed_prop observed_reaction (map (observation_by reaction) os) p ≡ reaction p
 reaction_found reaction [] x p e = absurd (cc)
 reaction_found reaction (None ∷ os) zero p e = absurd (cc)
 reaction_found reaction (None ∷ os) (suc x) p e = reaction_found reaction os x p e
-reaction_found reaction (Some q ∷ os) zero p e = here_or_later reaction q p (first_reaction observed_prop observed_reaction (map (observed_by reaction) os) p) (q == p) refl (λ other. absurd (differs q p other e))
-reaction_found reaction (Some q ∷ os) (suc x) p e = here_or_later reaction q p (first_reaction observed_prop observed_reaction (map (observed_by reaction) os) p) (q == p) refl (λ other. reaction_found reaction os x p e)
+reaction_found reaction (Some q ∷ os) zero p e = here_or_later reaction q p (first_reaction observed_prop observed_reaction (map (observation_by reaction) os) p) (q == p) refl (λ other. absurd (differs q p other e))
+reaction_found reaction (Some q ∷ os) (suc x) p e = here_or_later reaction q p (first_reaction observed_prop observed_reaction (map (observation_by reaction) os) p) (q == p) refl (λ other. reaction_found reaction os x p e)
 
 nowhere : (o : Option ℕ) (os : List (Option ℕ)) (p : ℕ) → (o ≡ Some p → ⊥) → ((x : ℕ) → slice_index_or os x None ≡ Some p → ⊥) → (x : ℕ) → slice_index_or (o ∷ os) x None ≡ Some p → ⊥
 nowhere o os p first later zero e = first e
 nowhere o os p first later (suc x) e = later x e
 
 -- the reaction of each proposition is read back, where it is 1 tick for those that nothing observes
-reaction_all : (reaction : ℕ → ℕ) (os : List (Option ℕ)) (p : ℕ) → (((x : ℕ) → slice_index_or os x None ≡ Some p → ⊥) → reaction p ≡ 1) → first_reaction observed_prop observed_reaction (map (observed_by reaction) os) p ≡ reaction p
+reaction_all : (reaction : ℕ → ℕ) (os : List (Option ℕ)) (p : ℕ) → (((x : ℕ) → slice_index_or os x None ≡ Some p → ⊥) → reaction p ≡ 1) → first_reaction observed_prop observed_reaction (map (observation_by reaction) os) p ≡ reaction p
 reaction_all reaction [] p tick = sym (tick (λ x e. absurd (cc)))
 reaction_all reaction (None ∷ os) p tick = reaction_all reaction os p (λ none. tick (nowhere None os p (λ e. absurd (cc)) none))
 reaction_all reaction (Some q ∷ os) p tick =
-    here_or_later reaction q p (first_reaction observed_prop observed_reaction (map (observed_by reaction) os) p) (q == p) refl
+    here_or_later reaction q p (first_reaction observed_prop observed_reaction (map (observation_by reaction) os) p) (q == p) refl
     (λ other. reaction_all reaction os p (λ none. tick (nowhere (Some q) os p (differs q p other) none)))
 
-drawn_numbered : (j : ℕ) (ds : List DrawnConstraint) → map drawn (numbered_drawn j ds) ≡ ds
+drawn_numbered : (j : ℕ) (ds : List DrawnConstraint) → map without_its_id (numbered_drawn j ds) ≡ ds
 drawn_numbered j [] = refl
 drawn_numbered j (d ∷ ds) = ap (λ (es : List DrawnConstraint). d ∷ es) (drawn_numbered (j + 1) ds)
 
@@ -68,14 +68,14 @@ same_but_ids m names = let net : Network = m.base in record {
   deadline = refl;
   observes = props_back net.reaction net.observes;
   reaction = λ x p o. reaction_found net.reaction net.observes x p o.what;
-  constraints = drawn_numbered 0 (map drawn net.constraints);
+  constraints = drawn_numbered 0 (map without_its_id net.constraints);
 }
 
-renumbered : (j : ℕ) (cs : List Constraint) → ((k : ℕ) (d : Constraint) → k < length cs → (slice_index_or cs k d).id ≡ j + k) → numbered_drawn j (map drawn cs) ≡ cs
+renumbered : (j : ℕ) (cs : List Constraint) → ((k : ℕ) (d : Constraint) → k < length cs → (slice_index_or cs k d).id ≡ j + k) → numbered_drawn j (map without_its_id cs) ≡ cs
 renumbered j [] h = refl
 renumbered j (c ∷ cs) h =
     let here : j ≡ c.id = omega (arith, h 0 c (omega arith)) in
-    ap (λ i. record { id = i; from = c.from; to = c.to; most = c.most; label = c.label } ∷ numbered_drawn (j + 1) (map drawn cs)) here
+    ap (λ i. record { id = i; from = c.from; to = c.to; most = c.most; label = c.label } ∷ numbered_drawn (j + 1) (map without_its_id cs)) here
     ∙ ap (λ (ds : List Constraint). c ∷ ds) (renumbered (j + 1) cs (λ k d i. omega (arith, h (suc k) d (omega (arith, i)))))
 
 -- it is the very same, where ids have no gap and what nothing observes has a reaction of 1 tick
@@ -91,7 +91,7 @@ labelled_back m names ticks ids = ap (λ (n : Network). record m { base = n }) (
 
 -- what holds of constraints whatever their ids holds of them with other ids
 all_numbered : (P : Constraint → Type 0) → ((i : ℕ) (c : Constraint) → P c → P (record { id = i; from = c.from; to = c.to; most = c.most; label = c.label }))
-    → (j : ℕ) (cs : List Constraint) → All P cs → All P (numbered_drawn j (map drawn cs))
+    → (j : ℕ) (cs : List Constraint) → All P cs → All P (numbered_drawn j (map without_its_id cs))
 all_numbered P keeps j [] all = All-nil P
 all_numbered P keeps j (c ∷ cs) all = All-cons P _ _ (keeps j c (All-head P c cs all)) (all_numbered P keeps (j + 1) cs (All-tail P c cs all))
 
@@ -123,8 +123,8 @@ well_formed_back m names wf =
       few_points = omega (arith, size, wf.few_points);
       letters = λ x p o. wf.letters x p (back x p o);
       soon = λ x p o. subst (λ n. n ≤ most_reaction) (reacts x p o) (wf.soon x p (back x p o));
-      few_constraints = omega (arith, numbered_length 0 (map drawn net.constraints), length-map net.constraints drawn, wf.few_constraints);
-      ascending = λ i j d below inside. omega (arith, below, numbered_id 0 (map drawn net.constraints) i d (omega (arith, below, inside)), numbered_id 0 (map drawn net.constraints) j d inside);
+      few_constraints = omega (arith, numbered_length 0 (map without_its_id net.constraints), length-map net.constraints without_its_id, wf.few_constraints);
+      ascending = λ i j d below inside. omega (arith, below, numbered_id 0 (map without_its_id net.constraints) i d (omega (arith, below, inside)), numbered_id 0 (map without_its_id net.constraints) j d inside);
       values = all_numbered (λ c. IsValue c.most) (λ i c h. h) 0 net.constraints wf.values;
       in_time = wf.in_time;
     }

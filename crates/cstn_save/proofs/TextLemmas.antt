@@ -16,7 +16,7 @@ use Rattle.cstn_markup.proofs.Resolving.{cut}
 use Rattle.cstn_text.specs.Numbers.{printed_number, printed_value}
 use Rattle.cstn_lift.specs.Labelled.{label_in}
 use Rattle.cstn_graphml.specs.DrawnGraph.{Observation}
-use Rattle.cstn_save.specs.Canonical.{is_numbered, escaped_byte, escaped_name, literal, literals_below, or_empty, document_label, head, observation_data, reaction_data, label_data, node_data, node_end, node_line, nodes_below, edge_tag, edge_data, edge_line, edges, tail}
+use Rattle.cstn_save.specs.Canonical.{is_numbered, escaped_byte, escaped_name, literal_text, literals_below, or_empty, document_label, head, observation_data, reaction_data, label_data, node_data, node_end, node_line, nodes_below, edge_tag, edge_data, edge_line, edges, tail}
 use Rattle.cstn_net.specs.Networks.{Constraint}
 use Rattle.cstn_save.proofs.WholeLemmas.{IsInReach}
 use Rattle.cstn_save.proofs.NumberTextLemmas.{decimal_digits}
@@ -92,7 +92,7 @@ letter_low : (n : ℕ) → n < 52 → letter_of n < 128
 letter_low n small = grind arith
 
 -- the label of a document is UTF-8
-literal_utf8 : (n : ℕ) (m : Mark) → n < 52 → IsUtf8 (literal (letter_of n) m)
+literal_utf8 : (n : ℕ) (m : Mark) → n < 52 → IsUtf8 (literal_text (letter_of n) m)
 literal_utf8 n Absent small = IsUtf8-nil
 literal_utf8 n Yes small = single (letter_of n) (letter_low n small)
 literal_utf8 n No small = IsUtf8-append (194 ∷ 172 ∷ []) (letter_of n ∷ []) (IsUtf8-from_is_utf8 (194 ∷ 172 ∷ []) is_negation) (single (letter_of n) (letter_low n small))
@@ -101,7 +101,7 @@ literal_utf8 n Unknown small = IsUtf8-nil
 literals_utf8 : (a : Label) (n : ℕ) → n ≤ 52 → IsUtf8 (literals_below a n)
 unfolding literals_below
 literals_utf8 a zero small = IsUtf8-nil
-literals_utf8 a (suc n) small = IsUtf8-append (literals_below a n) (literal (letter_of n) (a n)) (literals_utf8 a n (omega arith)) (literal_utf8 n (a n) (omega arith))
+literals_utf8 a (suc n) small = IsUtf8-append (literals_below a n) (literal_text (letter_of n) (a n)) (literals_utf8 a n (omega arith)) (literal_utf8 n (a n) (omega arith))
 
 or_empty_utf8 : (bytes : List ℕ) → IsUtf8 bytes → IsUtf8 (or_empty bytes)
 or_empty_utf8 [] u = IsUtf8-from_is_utf8 (226 ∷ 138 ∷ 161 ∷ []) is_empty_sign

@@ -13,7 +13,7 @@ use Rattle.cstn_lift.specs.WellFormed.{IsLabelled}
 use Rattle.cstn_lift.specs.Faults.{HasLiftFault}
 use Rattle.cstn_lift.proofs.Unlabelled.{unlabelled_lowered}
 use Rattle.cstn_graphml.specs.Networks.{labelled_of, observed_prop, IsMislabelled}
-use Rattle.cstn_save.specs.Canonical.{timed_observations, observed_by}
+use Rattle.cstn_save.specs.Canonical.{timed_observations, observation_by}
 use Rattle.cstn_save.specs.ReadBack.{parts}
 use Rattle.cstn_save.proofs.SameLemmas.{well_formed_back}
 use Rattle.cstn_lift.proofs.ListLemmas.{numbered_length}
@@ -64,7 +64,7 @@ module _ (m : Labelled) (none : (x : ℕ) → label_of m x ≡ empty) where
 pub unlabelled_fit : (m : Labelled) (names : List (List ℕ)) (error : LiftError) → IsWellFormed m.base → length m.labels ≡ count m.base → ((x : ℕ) → label_of m x ≡ empty) → IsMislabelled (parts m names) error → ⊥
 unlabelled_fit m names error wf each none wrong =
     unlabelled_faultless (labelled_of (parts m names)) none (well_formed_back m names wf)
-    (each ∙ sym (length-map m.base.observes (observed_by m.base.reaction)) ∙ sym (length-map (timed_observations m.base) observed_prop)) error wrong.fault.has
+    (each ∙ sym (length-map m.base.observes (observation_by m.base.reaction)) ∙ sym (length-map (timed_observations m.base) observed_prop)) error wrong.fault.has
 
 -- labels without a fault stay without one where the very same labelled network is read back
 pub labelled_fit : (m : Labelled) (names : List (List ℕ)) (error : LiftError) → ((e : LiftError) → HasLiftFault m e → ⊥) → labelled_of (parts m names) ≡ m → IsMislabelled (parts m names) error → ⊥

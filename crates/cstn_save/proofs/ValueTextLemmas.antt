@@ -15,10 +15,10 @@ use Rattle.cstn_text.specs.Numbers.{printed_value}
 use Rattle.cstn_markup.specs.Bytes.{is_white, number_after}
 use Rattle.cstn_element.specs.WhiteSpace.{trimmed}
 use Rattle.cstn_element.specs.NumberTexts.{integer_text, short_number}
-use Rattle.cstn_element.specs.LabelTexts.{label_of}
+use Rattle.cstn_element.specs.LabelTexts.{label_of_text}
 use Rattle.cstn_element.specs.ValueTexts.{is_of_part, pair_at, pairs_after, values_of}
 use Rattle.cstn_element.proofs.PairTexts.{pairs_skip}
-use Rattle.cstn_save.specs.Canonical.{literal, literals_below, or_empty, document_label}
+use Rattle.cstn_save.specs.Canonical.{literal_text, literals_below, or_empty, document_label}
 use Rattle.cstn_save.proofs.NumberTextLemmas.{decimal_digits, integer_back}
 use Rattle.cstn_save.proofs.LabelTextLemmas.{label_back}
 use Rattle.cstn_save.proofs.RunLemmas.{all_for, both_all, run_len, past_stop, joined_five}
@@ -68,7 +68,7 @@ is_of_literal b = nat_le 65 b && nat_lt b 123 || nat_le 126 b && nat_lt b 226
 letter_of_literal : (p : ℕ) → p < 52 → is_of_literal (letter_of p) ≡ true
 letter_of_literal p small = grind arith
 
-literal_bytes : (n : ℕ) (m : Mark) → n < 52 → list_all is_of_literal (literal (letter_of n) m) ≡ true
+literal_bytes : (n : ℕ) (m : Mark) → n < 52 → list_all is_of_literal (literal_text (letter_of n) m) ≡ true
 literal_bytes n Absent small = refl
 literal_bytes n Yes small = rw (letter_of_literal n small) refl
 literal_bytes n No small = rw (letter_of_literal n small) refl
@@ -77,7 +77,7 @@ literal_bytes n Unknown small = refl
 pub literals_bytes : (a : Label) (n : ℕ) → n ≤ 52 → list_all is_of_literal (literals_below a n) ≡ true
 unfolding literals_below
 literals_bytes a zero small = refl
-literals_bytes a (suc n) small = both_all is_of_literal (literals_below a n) (literal (letter_of n) (a n)) (literals_bytes a n (omega arith)) (literal_bytes n (a n) (omega arith))
+literals_bytes a (suc n) small = both_all is_of_literal (literals_below a n) (literal_text (letter_of n) (a n)) (literals_bytes a n (omega arith)) (literal_bytes n (a n) (omega arith))
 
 literal_solid : (b : ℕ) → is_of_literal b ≡ true → is_solid b ≡ true
 literal_solid b h =
@@ -124,7 +124,7 @@ label_no_integer a = no_integer (literals_below a 52) (literals_bytes a 52 (omeg
 
 -- a pair of an integer text and another part
 pair_here : (first second rest : List ℕ) (v : ℤ) → list_all is_solid first ≡ true → list_all is_solid second ≡ true → integer_text first ≡ Some v → integer_text second ≡ None
-    → pair_at (first ++ 44 ∷ 32 ∷ (second ++ 41 ∷ rest)) ≡ Some (record { most = v; label = label_of second }, length first + suc (length second) + 2)
+    → pair_at (first ++ 44 ∷ 32 ∷ (second ++ 41 ∷ rest)) ≡ Some (record { most = v; label = label_of_text second }, length first + suc (length second) + 2)
 pair_here first second rest v f s e n =
     let more : 1 + length second ≡ suc (length second) = omega arith in
     rw (
@@ -147,10 +147,10 @@ past_pair first second =
     rw is (drop-append-add first (44 ∷ 32 ∷ (second ++ 41 ∷ 125 ∷ [])) (suc (suc (length second + 1))) ∙ past_stop second 41 (125 ∷ []))
 
 one_pair : (first second : List ℕ) (v : ℤ) → list_all is_solid first ≡ true → list_all is_solid second ≡ true → integer_text first ≡ Some v → integer_text second ≡ None
-    → values_of (123 ∷ 40 ∷ (first ++ 44 ∷ 32 ∷ (second ++ 41 ∷ 125 ∷ []))) ≡ Some (record { most = v; label = label_of second } ∷ [])
+    → values_of (123 ∷ 40 ∷ (first ++ 44 ∷ 32 ∷ (second ++ 41 ∷ 125 ∷ []))) ≡ Some (record { most = v; label = label_of_text second } ∷ [])
 unfolding pairs_after
 one_pair first second v f s e n =
-    rw (pair_here first second (125 ∷ []) v f s e n, pairs_skip (length first + suc (length second) + 2) (record { most = v; label = label_of second } ∷ []) (first ++ 44 ∷ 32 ∷ (second ++ 41 ∷ 125 ∷ [])), past_pair first second) refl
+    rw (pair_here first second (125 ∷ []) v f s e n, pairs_skip (length first + suc (length second) + 2) (record { most = v; label = label_of_text second } ∷ []) (first ++ 44 ∷ 32 ∷ (second ++ 41 ∷ 125 ∷ [])), past_pair first second) refl
 
 -- the text of values of a constraint has its value and its label
 pub values_back : (v : ℤ) (a : Label) → FitsSigned w32 v → IsPlain a → ((p : ℕ) → 52 ≤ p → a p ≡ Absent)

@@ -12,11 +12,11 @@ use Rattle.cstn_lift.specs.Labelled.{label_in}
 use Rattle.cstn_markup.specs.Bytes.{is_same}
 use Rattle.cstn_label.specs.Letters.{letter_of, prop_of}
 use Rattle.cstn_text.specs.Numbers.{printed_number}
-use Rattle.cstn_element.specs.LabelTexts.{label_of}
+use Rattle.cstn_element.specs.LabelTexts.{label_of_text}
 use Rattle.cstn_element.specs.Results.{or_refused}
 use Rattle.cstn_element.specs.Results.Refusal.{label_text}
 use Rattle.cstn_element.specs.Elements.{Datum, datum_of}
-use Rattle.cstn_graphml.specs.Judged.{observed, reacting, labelled}
+use Rattle.cstn_graphml.specs.Judged.{prop_in_datum, reacting, labelled}
 use Rattle.cstn_element.specs.NumberTexts.{reaction_in}
 use Rattle.cstn_graphml.specs.DrawnGraph.{Observation, observation, DrawnGraph, node_of, with_node}
 use Rattle.cstn_save.specs.Canonical.{escaped_name, or_empty, literals_below, observation_data, label_data, node_data, node_end, node_line, nodes_below}
@@ -57,10 +57,10 @@ record Opens (o : Option Observation) (found : List Datum) : Type 0 where
   ticks : ℕ
   is : observation prop ticks ≡ o
   fresh : list_any (λ (q : Datum). is_same q.key (codes "Label")) found ≡ false
-  observes : observed (datum_of (codes "Obs") found) ≡ Ok prop
+  observes : prop_in_datum (datum_of (codes "Obs") found) ≡ Ok prop
   reacts : reacting (datum_of (codes "Reaction") found) ≡ Ok ticks
   none : datum_of (codes "Label") found ≡ None
-  observes_too : (d : Datum) → d.key ≡ codes "Label" → observed (datum_of (codes "Obs") (found ++ (d ∷ []))) ≡ Ok prop
+  observes_too : (d : Datum) → d.key ≡ codes "Label" → prop_in_datum (datum_of (codes "Obs") (found ++ (d ∷ []))) ≡ Ok prop
   reacts_too : (d : Datum) → d.key ≡ codes "Label" → reacting (datum_of (codes "Reaction") (found ++ (d ∷ []))) ≡ Ok ticks
   some : (d : Datum) → d.key ≡ codes "Label" → datum_of (codes "Label") (found ++ (d ∷ [])) ≡ Some d
 
@@ -136,7 +136,7 @@ observation_found (Some o) next place reach = observed_by_data o (o.reaction == 
 
 -- the literals are those of the label: reading them gives the label back
 record IsWritten (a : Label) (literals : List ℕ) : Type 0 where
-  back : label_of (or_empty literals) ≡ Some a
+  back : label_of_text (or_empty literals) ≡ Some a
   bytes : list_all is_of_literal literals ≡ true
   solid : list_all is_solid (or_empty literals) ≡ true
 

@@ -28,16 +28,16 @@ abbrev pub escaped_name : List ℕ → List ℕ
 escaped_name name = flat_map escaped_byte name
 
 -- a literal: its letter, after the two bytes of U+00AC where it is negated; a label of a document has no unknown mark
-abbrev pub literal : ℕ → Mark → List ℕ
-literal letter Absent = []
-literal letter Yes = letter ∷ []
-literal letter No = 194 ∷ 172 ∷ letter ∷ []
-literal letter Unknown = []
+abbrev pub literal_text : ℕ → Mark → List ℕ
+literal_text letter Absent = []
+literal_text letter Yes = letter ∷ []
+literal_text letter No = 194 ∷ 172 ∷ letter ∷ []
+literal_text letter Unknown = []
 
 -- the literals of the propositions below n, in ascending order
 unfoldable pub literals_below : Label → ℕ → List ℕ
 literals_below a zero = []
-literals_below a (suc n) = literals_below a n ++ literal (letter_of n) (a n)
+literals_below a (suc n) = literals_below a n ++ literal_text (letter_of n) (a n)
 
 -- the bytes of the literals, or the three bytes of U+22A1 where there are none
 abbrev pub or_empty : List ℕ → List ℕ
@@ -55,13 +55,13 @@ head deadline =
     ++ printed_number deadline ++ codes "</data>\n"
 
 -- what a time-point observes, with the reaction of the proposition
-abbrev pub observed_by : (ℕ → ℕ) → Option ℕ → Option Observation
-observed_by reaction (Some p) = Some (record { prop = p; reaction = reaction p })
-observed_by reaction None = None
+abbrev pub observation_by : (ℕ → ℕ) → Option ℕ → Option Observation
+observation_by reaction (Some p) = Some (record { prop = p; reaction = reaction p })
+observation_by reaction None = None
 
 -- what each time-point observes, and its reaction
 abbrev pub timed_observations : Network → List (Option Observation)
-timed_observations net = map (observed_by net.reaction) net.observes
+timed_observations net = map (observation_by net.reaction) net.observes
 
 -- the data element of a reaction, and nothing for a reaction of 1 tick
 abbrev pub reaction_data : ℕ → List ℕ

@@ -7,8 +7,8 @@ use Rattle.cstn_save.specs.Canonical.{timed_observations}
 use Rattle.cstn_graphml.specs.Document.{Parts}
 
 -- a constraint without its id
-abbrev pub drawn : Constraint → DrawnConstraint
-drawn c = record { from = c.from; to = c.to; most = c.most; label = c.label }
+abbrev pub without_its_id : Constraint → DrawnConstraint
+without_its_id c = record { from = c.from; to = c.to; most = c.most; label = c.label }
 
 -- the names and the labelled network, but for the ids of its constraints
 abbrev pub parts : Labelled → List (List ℕ) → Parts
@@ -17,7 +17,7 @@ parts m names = record {
   names = names;
   observes = timed_observations m.base;
   labels = m.labels;
-  constraints = map drawn m.base.constraints;
+  constraints = map without_its_id m.base.constraints;
 }
 
 -- the ids are from 0 up, without a gap
@@ -29,4 +29,4 @@ pub record AreSameButIds (read net : Network) : Type 0 where
   pub deadline : read.deadline ≡ net.deadline
   pub observes : read.observes ≡ net.observes
   pub reaction : (x p : ℕ) → Observes net x p → read.reaction p ≡ net.reaction p
-  pub constraints : map drawn read.constraints ≡ map drawn net.constraints
+  pub constraints : map without_its_id read.constraints ≡ map without_its_id net.constraints

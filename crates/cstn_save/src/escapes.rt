@@ -4,7 +4,7 @@ ghost use Rattle.std.specs.Prelude.{◌≡◌, ◌<◌, ◌++◌, ◌∷◌, ◌
 ghost use Rattle.cstn_label.specs.Read.{marks};
 ghost use Rattle.cstn_label.specs.Letters.{letter_of};
 ghost use Rattle.cstn_text.specs.Numbers.{printed_number, printed_value};
-ghost use Rattle.cstn_save.specs.Canonical.{is_numbered, escaped_byte, escaped_name, literal, literals_below, document_label, or_empty};
+ghost use Rattle.cstn_save.specs.Canonical.{is_numbered, escaped_byte, escaped_name, literal_text, literals_below, document_label, or_empty};
 
 use cstn_label::{Label, Mark, Prop};
 use itoa::Buffer;
@@ -91,7 +91,7 @@ pub(crate) fn push_literals(text: &mut Vec<u8>, label: Label) -> Result<(), Allo
 
 fn push_literal(text: &mut Vec<u8>, label: Label, index: u8) -> Result<(), AllocError>
     requires { index < 52 }
-    ensures { OnOk result (text.new.items ≡ text.old.items ++ literal (letter_of index) (marks label index)) }
+    ensures { OnOk result (text.new.items ≡ text.old.items ++ literal_text (letter_of index) (marks label index)) }
 {
     let p = Prop::new(index).unwrap();
     match label.mark(p) {

@@ -6,9 +6,9 @@ ghost use Rattle.cstn_label.specs.Labels.{Label, IsPlain, empty};
 ghost use Rattle.cstn_label.specs.declared.marks.Mark.TheVariants.{Absent};
 ghost use Rattle.cstn_text.specs.Numbers.{printed_number, printed_value};
 ghost use Rattle.cstn_markup.specs.Bytes.{resolved};
-ghost use Rattle.cstn_markup.specs.Tokens.{value_at};
+ghost use Rattle.cstn_markup.specs.Tokens.{attribute_value_at};
 ghost use Rattle.cstn_element.specs.NumberTexts.{short_number, integer_text};
-ghost use Rattle.cstn_element.specs.LabelTexts.{label_of};
+ghost use Rattle.cstn_element.specs.LabelTexts.{label_of_text};
 ghost use Rattle.cstn_element.specs.ValueTexts.{values_of};
 ghost use Rattle.cstn_graphml.specs.Document.{document};
 ghost use Rattle.cstn_net.specs.Networks.{IsWellFormed, Observes, count};
@@ -29,7 +29,7 @@ use cstn_lift::labelled_networks_have_no_fault;
 #[tactic(auto, using(crate::proofs::EscapedNameLemmas::name_back, crate::proofs::EscapedNameLemmas::name_quoted))]
 pub fn names_are_read_back()
     ensures back { (name : List ℕ) → resolved (escaped_name name) ≡ Some name }
-    ensures quoted { (name rest : List ℕ) → value_at (34 ∷ (escaped_name name ++ 34 ∷ rest)) ≡ Some (escaped_name name, rest) }
+    ensures quoted { (name rest : List ℕ) → attribute_value_at (34 ∷ (escaped_name name ++ 34 ∷ rest)) ≡ Some (escaped_name name, rest) }
 {}
 
 /// A deadline and the value of a constraint are read back. Deadlines are below 2^32.
@@ -42,7 +42,7 @@ pub fn numbers_are_read_back()
 /// A label without an unknown mark is read back, alone and behind its value. The proposition numbers end at 51.
 #[tactic(auto, using(crate::proofs::LabelTextLemmas::label_back, crate::proofs::ValueTextLemmas::values_back))]
 pub fn values_are_read_back()
-    ensures label { (a : Label) → IsPlain a → ((p : ℕ) → 52 ≤ p → a p ≡ Absent) → label_of (document_label a) ≡ Some a }
+    ensures label { (a : Label) → IsPlain a → ((p : ℕ) → 52 ≤ p → a p ≡ Absent) → label_of_text (document_label a) ≡ Some a }
     ensures pair { (v : ℤ) (a : Label) → FitsSigned w32 v → IsPlain a → ((p : ℕ) → 52 ≤ p → a p ≡ Absent)
         → values_of (codes "{(" ++ printed_value v ++ codes ", " ++ document_label a ++ codes ")}") ≡ Some (record { most = v; label = Some a } ∷ []) }
 {}

@@ -1,8 +1,8 @@
 -- What the lines declare is in order: the origin's name stands first, what stands after it is as long as the names, a task has its
 -- end, and what is observed has a letter and a reaction in range.
-use Rattle.std.proofs.Common.{◌≡◌, ℕ, zero, suc, ◌+◌, ◌≤◌, ◌<◌, Bool, true, false, List, [], ◌∷◌, ◌++◌, length, refl, ap, subst, arith, Option, Some, None, Result, Ok, ◌⊎◌, inl, inr}
+use Rattle.std.proofs.Common.{◌≡◌, ℕ, zero, suc, ◌+◌, ◌≤◌, ◌<◌, Bool, true, false, List, [], ◌∷◌, ◌++◌, length, refl, ap, subst, ◌∙◌, arith, Option, Some, None, Result, Ok, ◌⊎◌, inl, inr}
 use Rattle.std.specs.Prelude.{◌&&◌, not, nat_lt, nat_le, nat_abs, option_map, is_none, if◌then◌else◌, codes, slice_index_or}
-use Rattle.std.specs.List.{All}
+use Rattle.std.specs.List.{All, list_all}
 use Rattle.std.proofs.lemmas.List.{length-append}
 use Rattle.std.proofs.lemmas.Bool.{and_parts}
 use Rattle.std.proofs.lemmas.List.Elements.{All-nil, All-push}
@@ -227,3 +227,18 @@ lines_kept n [] d e h k = subst IsInOrder (ok_is d e k) h
 lines_kept n (line ∷ lines) d e h k =
     let a = bind_ok (declared_line n d line) (λ more. declared_after (n + 1) more lines) e k in
     lines_kept (n + 1) lines a.0 e (text_kept n line d a.0 h a.1) a.2
+
+-- each line of a plan whose lines were read is of words
+text_of_words : (n : ℕ) (text : List ℕ) (l : PlanLine) → line_of_text n text ≡ Ok l → is_of_words text ≡ true
+text_of_words n text l e =
+    let judged : PlanLine → Result PlanLine PlanRefusal = λ line. holds_or (is_line_in_range line) (out_of_range n) >>? λ numbered. Ok line in
+    let a = bind_ok (holds_or (is_of_words text) (wrong_word n 0)) (λ whole. at_word n (words_of text) (plan_line_read (words_of text)) >>? judged) l e in
+    demanded (is_of_words text) (wrong_word n 0) a.0 a.1
+
+pub lines_of_words : (n : ℕ) (lines : List (List ℕ)) (d e : Declared) → declared_after n d lines ≡ Ok e → list_all is_of_words lines ≡ true
+unfolding declared_after
+lines_of_words n [] d e k = refl
+lines_of_words n (line ∷ lines) d e k =
+    let a = bind_ok (declared_line n d line) (λ more. declared_after (n + 1) more lines) e k in
+    let l = bind_ok (line_of_text n line) (declare n d) a.0 a.1 in
+    ap (λ (b : Bool). b && list_all is_of_words lines) (text_of_words n line l.0 l.1) ∙ lines_of_words (n + 1) lines a.0 e a.2

@@ -2,9 +2,11 @@
 mod Examples
 -- Words, and how names are spelled.
 pub mod WordLemmas
+mod UnquotedLines
 pub mod SpellingLemmas
 -- Names in lists.
 pub mod NamesLemmas
+mod NamePlaces
 -- What is told of steps.
 pub mod Accepted
 pub mod TellsLemmas
@@ -14,7 +16,9 @@ pub mod DeclaredInOrder
 pub mod MeantInOrder
 pub mod PlanInOrder
 pub mod KeptPlans
+pub mod KeptMeanings
 pub mod PlanAnswers
+pub mod PlansTold
 -- What is written of labels and of constraints.
 pub mod LabelTests
 mod WrittenLabels

@@ -1,5 +1,5 @@
 -- What is told of a step holds of the steps behind it.
-use Rattle.std.proofs.Common.{◌≡◌, ℕ, ◌+◌, ◌==◌, ◌&&◌, Bool, true, List, [], ◌∷◌, length, refl, ap, arith}
+use Rattle.std.proofs.Common.{◌≡◌, ℕ, ◌+◌, true, List, [], ◌∷◌, refl, ap}
 use Rattle.std.specs.Prelude.{Result, Ok}
 use Rattle.cstn_text.specs.Parts.{parts_at}
 use Rattle.cstn_sentences.specs.declared.errors.PlanError.{PlanError}
@@ -7,7 +7,7 @@ use Rattle.cstn_sentences.specs.declared.errors.PlanError.TheVariants.{Long, Wro
 use Rattle.cstn_sentences.specs.Refusals.{PlanRefusal}
 use Rattle.cstn_sentences.specs.Results.{◌>>?◌}
 use Rattle.cstn_sentences.specs.Answers.{FailsPlan}
-use Rattle.cstn_sentences.specs.Words.{cut_lines, words_of, is_of_words, is_wordless}
+use Rattle.cstn_sentences.specs.Words.{cut_lines, words_of, is_of_words}
 use Rattle.cstn_sentences.specs.Lines.{nothing}
 use Rattle.cstn_sentences.specs.Judged.{line_of_text}
 use Rattle.cstn_sentences.specs.Declarations.{Declared, declare, declared_line, declared_after}
@@ -35,20 +35,14 @@ last_line left e = ap cut_lines e
 
 -- ---- lines without words
 
-no_words : (words : List (List ℕ)) (whole : Bool) → (length words == 0 && whole) ≡ true → (words ≡ []) × (whole ≡ true)
-no_words [] whole h = (refl, h)
-no_words (word ∷ words) whole h = absurd (grind (arith, h))
+says_nothing : (n : ℕ) (line : List ℕ) → words_of line ≡ [] → is_of_words line ≡ true → line_of_text n line ≡ Ok nothing
+says_nothing n line none whole = rw (whole, none) refl
 
-says_nothing : (n : ℕ) (line : List ℕ) → is_wordless line ≡ true → line_of_text n line ≡ Ok nothing
-says_nothing n line h =
-    let is = no_words (words_of line) (is_of_words line) h in
-    rw (is.1, is.0) refl
+pub declares_nothing : (n : ℕ) (d : Declared) (line : List ℕ) → words_of line ≡ [] → is_of_words line ≡ true → declared_line n d line ≡ Ok d
+declares_nothing n d line none whole = ap (λ r. r >>? declare n d) (says_nothing n line none whole)
 
-pub declares_nothing : (n : ℕ) (d : Declared) (line : List ℕ) → is_wordless line ≡ true → declared_line n d line ≡ Ok d
-declares_nothing n d line h = ap (λ r. r >>? declare n d) (says_nothing n line h)
-
-pub means_nothing : (n : ℕ) (d : Declared) (m : Meaning) (line : List ℕ) → is_wordless line ≡ true → meant_line n d m line ≡ Ok m
-means_nothing n d m line h = ap (λ r. r >>? mean n d m) (says_nothing n line h)
+pub means_nothing : (n : ℕ) (d : Declared) (m : Meaning) (line : List ℕ) → words_of line ≡ [] → is_of_words line ≡ true → meant_line n d m line ≡ Ok m
+means_nothing n d m line none whole = ap (λ r. r >>? mean n d m) (says_nothing n line none whole)
 
 -- ---- declarations
 

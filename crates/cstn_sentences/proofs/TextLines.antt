@@ -7,7 +7,7 @@ use Rattle.cstn_net.specs.Limits.{most_deadline}
 use Rattle.cstn_net.specs.Networks.{Network, Constraint, IsConstraint, IsValue, IsWellFormed, count}
 use Rattle.cstn_lift.specs.Labelled.{Labelled}
 use Rattle.cstn_text.specs.Names.{IsName, AreNames}
-use Rattle.cstn_text.specs.Parts.{Parts, parts_at}
+use Rattle.cstn_text.specs.Parts.{SplitText, parts_at}
 use Rattle.cstn_text.proofs.CutLemmas.{cut_back}
 use Rattle.cstn_text.proofs.SplitLemmas.{parts_cut}
 use Rattle.cstn_text.proofs.ReadingLemmas.{IsFree}
@@ -51,7 +51,7 @@ text_cut [] all = no_text
 text_cut (words ∷ lines) all =
     ap (λ (t : List ℕ). parts_at 10 (t ++ flat_map line_text lines)) (text_of words)
     ∙ line_cut (line_bytes words) (flat_map line_text lines) (line_lone words (All-head (λ ws. All IsWrittenWord ws) words lines all))
-    ∙ ap {B = Parts} (λ (p : Parts). (line_bytes words ∷ p.0, p.1)) (text_cut lines (All-tail (λ ws. All IsWrittenWord ws) words lines all))
+    ∙ ap {B = SplitText} (λ (p : SplitText). (line_bytes words ∷ p.0, p.1)) (text_cut lines (All-tail (λ ws. All IsWrittenWord ws) words lines all))
 
 -- ---- steps
 

@@ -13,7 +13,10 @@ use Rattle.cstn_sentences.specs.declared.errors.PlanError.{PlanError}
 use Rattle.cstn_sentences.specs.declared.errors.PlanError.TheVariants.{Long, Wrong, Range, Twice, NoName, NoLetter, NoDeadline, Net, Lift, Memory}
 use Rattle.cstn_sentences.specs.Refusals.{PlanRefusal}
 use Rattle.cstn_sentences.specs.Answers.{FailsPlan}
-use Rattle.cstn_sentences.specs.Plans.{plan}
+use Rattle.cstn_sentences.specs.Declarations.{Declared}
+use Rattle.cstn_sentences.specs.Meaning.{Meaning}
+use Rattle.cstn_sentences.specs.Drawn.{IsKeptOfWhole}
+use Rattle.cstn_sentences.specs.Plans.{plan, plan_parts}
 
 -- the plan has these parts: this is their labelled network, and these are the names of its time-points
 pub record IsFitPlan (told : Result Parts PlanRefusal) (labelled : Labelled) (names : List (List ℕ)) : Type 0 where
@@ -63,6 +66,14 @@ abbrev pub IsPlanAnswer : List ℕ → Option ℕ → PlanAnswer → Type 0
 IsPlanAnswer text deadline answer = IsPlanAnswerTo (plan text deadline) answer
 
 -- ---- the parts of an answer
+
+-- the network and the names are those of each plan of these lines of which this is kept
+abbrev pub IsFitKept : ℕ → Declared → Meaning → Labelled → List (List ℕ) → Type 0
+IsFitKept deadline d m labelled names = (whole : Meaning) → IsKeptOfWhole d m whole → IsFitPlan (Ok (plan_parts deadline d whole)) labelled names
+
+-- each plan of these lines of which this is kept is refused so
+abbrev pub RefusesKept : ℕ → Declared → Meaning → PlanError → Type 0
+RefusesKept deadline d m error = (whole : Meaning) → IsKeptOfWhole d m whole → RefusesPlan (Ok (plan_parts deadline d whole)) error
 
 -- the refusal of a plan for what the builder refused: want of memory by itself, any other fault with the names
 abbrev pub IsPlanNetTold : NetError → List (List ℕ) → PlanError → Type 0

@@ -3,7 +3,7 @@ use Rattle.std.specs.Prelude.{ℕ, zero, suc, ◌+◌, ◌-◌, min, Bool, true,
 use Rattle.std.specs.List.{prefix_len, list_any, list_all}
 use Rattle.std.specs.Str.{is_utf8}
 use Rattle.cstn_markup.specs.Bytes.{is_white, begins}
-use Rattle.cstn_text.specs.Parts.{Parts, parts_at}
+use Rattle.cstn_text.specs.Parts.{SplitText, parts_at}
 use Rattle.cstn_sentences.specs.Limits.{most_line}
 
 -- the text without the byte order mark at its beginning
@@ -11,7 +11,7 @@ abbrev pub without_mark : List ℕ → List ℕ
 without_mark text = if begins (239 ∷ 187 ∷ 191 ∷ []) text then drop 3 text else text
 
 -- the lines of a text that is cut at each LF
-abbrev pub cut_lines : Parts → List (List ℕ)
+abbrev pub cut_lines : SplitText → List (List ℕ)
 cut_lines parts = parts.0 ++ (parts.1 ∷ [])
 
 abbrev pub plan_lines : List ℕ → List (List ℕ)
@@ -52,7 +52,3 @@ is_closed (b ∷ bytes) = not (b == 34) || list_any (λ c. c == 34) bytes
 -- a line of UTF-8 that isn't too long, and in which each quote has its end
 abbrev pub is_of_words : List ℕ → Bool
 is_of_words line = nat_le (length line) most_line && is_utf8 line && list_all is_closed (words_of line)
-
--- a line that is of words, and has none
-abbrev pub is_wordless : List ℕ → Bool
-is_wordless line = length (words_of line) == 0 && is_of_words line

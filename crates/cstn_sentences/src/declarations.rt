@@ -13,9 +13,9 @@ ghost use Rattle.cstn_sentences.specs.SeenDeclared.{the_declared};
 ghost use Rattle.cstn_sentences.specs.Words.{plan_lines};
 
 use crate::errors::PlanError;
-use crate::judged::line_of_text;
+use crate::judged::line_of_words;
 use crate::lines::{Line, Literal, Name, Observed, Span, Step, Word};
-use crate::words::{is_wordless, without_mark};
+use crate::words::{is_of_words, next_word, without_mark};
 use cstn_graphml::Observation;
 use cstn_label::Prop;
 use cstn_text::{NameError, NameKey, Names, cut_at};
@@ -342,10 +342,14 @@ fn declare(alloc: Global, n: u32, line: &Line, d: &mut Declared) -> Result<(), P
 fn declare_text(alloc: Global, n: u32, text: &[u8], d: &mut Declared) -> Result<(), PlanError>
     ensures { TellsPlan (λ u. the_declared d.new) result (declared_line n (the_declared d.old) text.now) }
 {
-    if is_wordless(text) {
-        return Ok(());
+    if !is_of_words(text) {
+        return Err(PlanError::Wrong { line: n, word: 0 });
     }
-    let line = line_of_text(alloc, n, text)?;
+    let Some(_) = next_word(text) else {
+        return Ok(());
+    };
+    let mut line = Line::Nothing;
+    line_of_words(alloc, n, text, &mut line)?;
     declare(alloc, n, &line, d)
 }
 

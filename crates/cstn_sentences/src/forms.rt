@@ -5,7 +5,7 @@ ghost use Rattle.cstn_sentences.specs.declared.faults.LineFault.TheVariants.{Wro
 ghost use Rattle.cstn_sentences.specs.Words.{words_of};
 ghost use Rattle.cstn_sentences.specs.Spelling.{name_spelled};
 ghost use Rattle.cstn_sentences.specs.Spans.{time_read, span_read, range_read};
-ghost use Rattle.cstn_sentences.specs.Lines.{the_plan_step, the_plan_line};
+ghost use Rattle.cstn_sentences.specs.Lines.{the_plan_step, the_rule, the_plan_line, rule};
 ghost use Rattle.cstn_sentences.specs.Grammar.{one, past_keyword, begins_by, ended_line, letter_read, clock_read, reaction_read};
 ghost use Rattle.cstn_sentences.specs.Grammar.{word_letter_read, observed_prop_read, with_reaction_read, observed_read};
 ghost use Rattle.cstn_sentences.specs.Grammar.{step_rest_read, side_read, rule_by, by_read, point_rule_read, start_line_read, task_read};
@@ -55,13 +55,14 @@ fn begins_by(keyword: &[u8], left: &[u8]) -> bool
     }
 }
 
-fn ended_line(line: Line, left: &[u8]) -> Result<Line, LineFault>
-    ensures { GivesRead the_plan_line result (ended_line (the_plan_line line) (words_of left.now)) }
+fn read_end(said: Line, left: &[u8], line: &mut Line) -> Result<(), LineFault>
+    ensures { GivesRead (λ u. the_plan_line line.new) result (ended_line (the_plan_line said) (words_of left.now)) }
 {
     let None = next_word(left) else {
         return Err(wrong(left));
     };
-    Ok(line)
+    *line = said;
+    Ok(())
 }
 
 fn time(left: &[u8]) -> Result<(Span, &[u8]), LineFault>
@@ -206,35 +207,49 @@ fn observed_prop_read(alloc: Global, left: &[u8]) -> Result<(Option<Word>, u8, &
     Err(wrong(left))
 }
 
-/// What is observed behind `observes`, if that stands there.
-fn observed(alloc: Global, left: &[u8]) -> Result<(Option<Observed>, &[u8]), LineFault>
-    ensures { GivesRead (λ r. (r.0, words_of r.1.now)) result (observed_read (words_of left.now)) }
+/// Puts in what is observed behind `observes`, if that stands there, and answers the words behind it.
+fn read_observed<'a>(
+    alloc: Global,
+    left: &'a [u8],
+    observed: &mut Option<Observed>,
+) -> Result<&'a [u8], LineFault>
+    ensures { GivesRead (λ rest. (observed.new, words_of rest.now)) result (observed_read (words_of left.now)) }
 {
     if !begins_by(b"observes", left) {
-        return Ok((None, left));
+        *observed = None;
+        return Ok(left);
     }
     let left = past_keyword(b"observes", left)?;
     let (word, letter, left) = observed_prop_read(alloc, left)?;
     let (reaction, left) = reaction(left)?;
-    let observed = Observed {
+    *observed = Some(Observed {
         word,
         letter,
         reaction,
-    };
-    Ok((Some(observed), left))
+    });
+    Ok(left)
 }
 
-/// A step with this name.
-fn step(alloc: Global, name: Name, left: &[u8]) -> Result<Step, LineFault>
-    ensures { GivesRead the_plan_step result (step_rest_read name (words_of left.now)) }
+/// Puts in what stands behind the name of a step.
+fn read_step(alloc: Global, left: &[u8], step: &mut Step) -> Result<(), LineFault>
+    ensures { GivesRead (λ u. the_plan_step step.new) result (step_rest_read step.old.name (words_of left.now)) }
 {
-    let (observed, left) = observed(alloc, left)?;
-    let rest = read_rest(alloc, rest_begun(alloc, Expects::If), left)?;
-    Ok(Step {
+    let left = read_observed(alloc, left, &mut step.observed)?;
+    let mut rest = rest_begun(alloc, Expects::If);
+    read_rest(alloc, left, &mut rest)?;
+    step.label = rest.label;
+    Ok(())
+}
+
+/// A step of which the name alone is known.
+fn step_of(alloc: Global, name: Name) -> Step
+    ensures { result.name ≡ name }
+{
+    Step {
         name,
-        observed,
-        label: rest.label,
-    })
+        observed: None,
+        label: Vec::new(alloc),
+    }
 }
 
 /// A time-point behind `start of` or `end of`.
@@ -246,163 +261,187 @@ fn side(alloc: Global, side: Side, left: &[u8]) -> Result<(Point, &[u8]), LineFa
     Ok((Point { name, side }, left))
 }
 
-/// A rule of a time-point that says this of it, by the rest of its words.
-fn rule_by(
+/// A rule of which the time-point alone is known.
+fn rule_of(alloc: Global, point: Point) -> Rule
+    ensures { result.point ≡ point }
+{
+    Rule {
+        point,
+        says: Says::NotBefore,
+        since: Vec::new(alloc),
+        label: Vec::new(alloc),
+    }
+}
+
+/// Puts in that a rule says this of its time-point, and the rest of its words.
+fn read_said(
     alloc: Global,
-    point: Point,
     says: Says,
     expects: Expects,
     left: &[u8],
-) -> Result<Line, LineFault>
-    ensures { GivesRead the_plan_line result (rule_by point says expects (words_of left.now)) }
+    it: &mut Rule,
+) -> Result<(), LineFault>
+    ensures { GivesRead (λ u. rule (the_rule it.new)) result (rule_by it.old.point says expects (words_of left.now)) }
 {
-    let rest = read_rest(alloc, rest_begun(alloc, expects), left)?;
-    Ok(Line::Rule(Rule {
-        point,
-        says,
-        since: rest.since,
-        label: rest.label,
-    }))
+    let mut rest = rest_begun(alloc, expects);
+    read_rest(alloc, left, &mut rest)?;
+    it.says = says;
+    it.since = rest.since;
+    it.label = rest.label;
+    Ok(())
 }
 
-/// A rule behind `by`: a span, and then `after`, without which the span is a time.
-fn by(alloc: Global, point: Point, left: &[u8]) -> Result<Line, LineFault>
-    ensures { GivesRead the_plan_line result (by_read point (words_of left.now)) }
+/// Puts in what stands behind `by`: a span, and then `after`, without which the span is a time.
+fn read_by(alloc: Global, left: &[u8], it: &mut Rule) -> Result<(), LineFault>
+    ensures { GivesRead (λ u. rule (the_rule it.new)) result (by_read it.old.point (words_of left.now)) }
 {
     let (span, left) = span(left)?;
     if begins_by(b"after", left) {
         let left = past_keyword(b"after", left)?;
-        return rule_by(alloc, point, Says::ByAfter(span), Expects::Since, left);
+        return read_said(alloc, Says::ByAfter(span), Expects::Since, left, it);
     }
     if span.ticks < 0 {
         return Err(wrong(left));
     }
-    rule_by(alloc, point, Says::By(span), Expects::If, left)
+    read_said(alloc, Says::By(span), Expects::If, left, it)
 }
 
-/// A rule behind `within`.
-fn within(alloc: Global, point: Point, left: &[u8]) -> Result<Line, LineFault>
-    ensures { GivesRead the_plan_line result (within_read point (words_of left.now)) }
+/// Puts in what stands behind `within`.
+fn read_within(alloc: Global, left: &[u8], it: &mut Rule) -> Result<(), LineFault>
+    ensures { GivesRead (λ u. rule (the_rule it.new)) result (within_read it.old.point (words_of left.now)) }
 {
     let (span, left) = time(left)?;
     let left = past_keyword(b"after", left)?;
-    rule_by(alloc, point, Says::Within(span), Expects::Since, left)
+    read_said(alloc, Says::Within(span), Expects::Since, left, it)
 }
 
-/// A rule that begins with a range.
-fn between(alloc: Global, point: Point, left: &[u8]) -> Result<Line, LineFault>
-    ensures { GivesRead the_plan_line result (between_read point (words_of left.now)) }
+/// Puts in a range, and what it counts from.
+fn read_between(alloc: Global, left: &[u8], it: &mut Rule) -> Result<(), LineFault>
+    ensures { GivesRead (λ u. rule (the_rule it.new)) result (between_read it.old.point (words_of left.now)) }
 {
     let (range, left) = range(left)?;
     let left = past_keyword(b"after", left)?;
-    rule_by(alloc, point, Says::Between(range), Expects::Since, left)
+    read_said(alloc, Says::Between(range), Expects::Since, left, it)
 }
 
-/// A rule behind `at`.
-fn at(alloc: Global, point: Point, left: &[u8]) -> Result<Line, LineFault>
-    ensures { GivesRead the_plan_line result (at_range_read point (words_of left.now)) }
+/// Puts in what stands behind `at`.
+fn read_at(alloc: Global, left: &[u8], it: &mut Rule) -> Result<(), LineFault>
+    ensures { GivesRead (λ u. rule (the_rule it.new)) result (at_range_read it.old.point (words_of left.now)) }
 {
     let (range, left) = range(left)?;
-    rule_by(alloc, point, Says::At(range), Expects::If, left)
+    read_said(alloc, Says::At(range), Expects::If, left, it)
 }
 
-/// A rule of a time-point, by the words behind that.
-fn rule(alloc: Global, point: Point, left: &[u8]) -> Result<Line, LineFault>
-    ensures { GivesRead the_plan_line result (point_rule_read point (words_of left.now)) }
+/// Puts in what the words behind the time-point of a rule say.
+fn read_rule(alloc: Global, left: &[u8], it: &mut Rule) -> Result<(), LineFault>
+    ensures { GivesRead (λ u. rule (the_rule it.new)) result (point_rule_read it.old.point (words_of left.now)) }
 {
     let Some((word, rest)) = next_word(left) else {
         return Err(LineFault::Wrong { left: 0 });
     };
     if word == b"at".as_slice() {
-        return at(alloc, point, rest);
+        return read_at(alloc, rest, it);
     }
     if word == b"by".as_slice() {
-        return by(alloc, point, rest);
+        return read_by(alloc, rest, it);
     }
     if word == b"within".as_slice() {
-        return within(alloc, point, rest);
+        return read_within(alloc, rest, it);
     }
     if word == b"after".as_slice() {
-        return rule_by(alloc, point, Says::NotBefore, Expects::Since, rest);
+        return read_said(alloc, Says::NotBefore, Expects::Since, rest, it);
     }
     if word == b"with".as_slice() {
-        return rule_by(alloc, point, Says::Together, Expects::Since, rest);
+        return read_said(alloc, Says::Together, Expects::Since, rest, it);
     }
-    between(alloc, point, left)
+    read_between(alloc, left, it)
 }
 
 /// `start of` and a rule, or `start` and a time of the clock.
-fn start(alloc: Global, left: &[u8]) -> Result<Line, LineFault>
-    ensures { GivesRead the_plan_line result (start_line_read (words_of left.now)) }
+fn read_start(alloc: Global, left: &[u8], line: &mut Line) -> Result<(), LineFault>
+    ensures { GivesRead (λ u. the_plan_line line.new) result (start_line_read (words_of left.now)) }
 {
     if begins_by(b"of", left) {
-        return sided(alloc, Side::First, left);
+        return read_sided(alloc, Side::First, left, line);
     }
     let (span, left) = clock(left)?;
-    ended_line(Line::Start(span), left)
+    read_end(Line::Start(span), left, line)
 }
 
 /// A rule of one end of a task.
-fn sided(alloc: Global, end: Side, left: &[u8]) -> Result<Line, LineFault>
-    ensures { GivesRead the_plan_line result (sided_read end (words_of left.now)) }
+fn read_sided(alloc: Global, end: Side, left: &[u8], line: &mut Line) -> Result<(), LineFault>
+    ensures { GivesRead (λ u. the_plan_line line.new) result (sided_read end (words_of left.now)) }
 {
     let (point, left) = side(alloc, end, left)?;
-    rule(alloc, point, left)
+    let mut it = rule_of(alloc, point);
+    read_rule(alloc, left, &mut it)?;
+    *line = Line::Rule(it);
+    Ok(())
 }
 
-fn deadline(left: &[u8]) -> Result<Line, LineFault>
-    ensures { GivesRead the_plan_line result (deadline_read (words_of left.now)) }
+fn read_deadline(left: &[u8], line: &mut Line) -> Result<(), LineFault>
+    ensures { GivesRead (λ u. the_plan_line line.new) result (deadline_read (words_of left.now)) }
 {
     let (span, left) = time(left)?;
-    ended_line(Line::Deadline(span), left)
+    read_end(Line::Deadline(span), left, line)
 }
 
-fn named_step(alloc: Global, left: &[u8]) -> Result<Line, LineFault>
-    ensures { GivesRead the_plan_line result (named_step (words_of left.now)) }
+fn read_named_step(alloc: Global, left: &[u8], line: &mut Line) -> Result<(), LineFault>
+    ensures { GivesRead (λ u. the_plan_line line.new) result (named_step (words_of left.now)) }
 {
     let (name, left) = name(alloc, left)?;
-    Ok(Line::Step(step(alloc, name, left)?))
+    let mut step = step_of(alloc, name);
+    read_step(alloc, left, &mut step)?;
+    *line = Line::Step(step);
+    Ok(())
 }
 
 /// A task: its name, its length, and then as for a step.
-fn task(alloc: Global, left: &[u8]) -> Result<Line, LineFault>
-    ensures { GivesRead the_plan_line result (task_read (words_of left.now)) }
+fn read_task(alloc: Global, left: &[u8], line: &mut Line) -> Result<(), LineFault>
+    ensures { GivesRead (λ u. the_plan_line line.new) result (task_read (words_of left.now)) }
 {
     let (name, left) = name(alloc, left)?;
     let (range, left) = range(left)?;
-    Ok(Line::Task(step(alloc, name, left)?, range))
+    let mut step = step_of(alloc, name);
+    read_step(alloc, left, &mut step)?;
+    *line = Line::Task(step, range);
+    Ok(())
 }
 
 /// A rule that begins with a name.
-fn named_rule(alloc: Global, left: &[u8]) -> Result<Line, LineFault>
-    ensures { GivesRead the_plan_line result (named_rule (words_of left.now)) }
+fn read_named_rule(alloc: Global, left: &[u8], line: &mut Line) -> Result<(), LineFault>
+    ensures { GivesRead (λ u. the_plan_line line.new) result (named_rule (words_of left.now)) }
 {
     let (name, left) = name(alloc, left)?;
     let side = Side::Alone;
-    rule(alloc, Point { name, side }, left)
+    let mut it = rule_of(alloc, Point { name, side });
+    read_rule(alloc, left, &mut it)?;
+    *line = Line::Rule(it);
+    Ok(())
 }
 
-/// The line of the words that are left.
-pub fn read_line(alloc: Global, left: &[u8]) -> Result<Line, LineFault>
-    ensures { GivesRead the_plan_line result (plan_line_read (words_of left.now)) }
+/// Puts in the line of the words that are left.
+pub fn read_line(alloc: Global, left: &[u8], line: &mut Line) -> Result<(), LineFault>
+    ensures { GivesRead (λ u. the_plan_line line.new) result (plan_line_read (words_of left.now)) }
 {
     let Some((word, rest)) = next_word(left) else {
-        return Ok(Line::Nothing);
+        *line = Line::Nothing;
+        return Ok(());
     };
     if word == b"deadline".as_slice() {
-        return deadline(rest);
+        return read_deadline(rest, line);
     }
     if word == b"start".as_slice() {
-        return start(alloc, rest);
+        return read_start(alloc, rest, line);
     }
     if word == b"step".as_slice() {
-        return named_step(alloc, rest);
+        return read_named_step(alloc, rest, line);
     }
     if word == b"task".as_slice() {
-        return task(alloc, rest);
+        return read_task(alloc, rest, line);
     }
     if word == b"end".as_slice() {
-        return sided(alloc, Side::Last, rest);
+        return read_sided(alloc, Side::Last, rest, line);
     }
-    named_rule(alloc, left)
+    read_named_rule(alloc, left, line)
 }

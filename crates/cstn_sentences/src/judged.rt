@@ -1,18 +1,18 @@
 //! The line of a text, and the numbers that are in range.
 
-ghost use Rattle.std.specs.Prelude.{◌≡◌, Err};
+ghost use Rattle.std.specs.Prelude.{◌≡◌, true};
 ghost use Rattle.cstn_sentences.specs.Answers.{FailsPlan, TellsPlan};
 ghost use Rattle.cstn_sentences.specs.Grammar.{plan_line_read};
 ghost use Rattle.cstn_sentences.specs.Judged.{is_sized, are_sized, is_in_order, is_range, is_timely, is_said, is_line_in_range, at_word, line_of_text};
 ghost use Rattle.cstn_sentences.specs.Lines.{the_plan_line};
-ghost use Rattle.cstn_sentences.specs.Seen.{GivesRead};
-ghost use Rattle.cstn_sentences.specs.Words.{words_of};
+ghost use Rattle.cstn_sentences.specs.Seen.{FailsRead};
+ghost use Rattle.cstn_sentences.specs.Words.{words_of, is_of_words};
 
 use crate::errors::PlanError;
 use crate::faults::LineFault;
 use crate::forms::read_line;
 use crate::lines::{Line, Observed, Range, Says, Span};
-use crate::words::{count_words, is_of_words};
+use crate::words::count_words;
 use cstn_net::MAX_REACTION;
 use std::alloc::Global;
 
@@ -96,7 +96,7 @@ fn is_line_in_range(line: &Line) -> bool
 
 /// The refusal of line `n`, where the words that are left at a wrong one give its number.
 fn refusal(n: u32, text: &[u8], fault: LineFault) -> PlanError
-    requires { GivesRead the_plan_line (Err fault) (plan_line_read (words_of text.now)) }
+    requires { FailsRead fault (plan_line_read (words_of text.now)) }
     ensures { FailsPlan result (at_word n (words_of text.now) (plan_line_read (words_of text.now))) }
 {
     match fault {
@@ -108,16 +108,14 @@ fn refusal(n: u32, text: &[u8], fault: LineFault) -> PlanError
     }
 }
 
-/// The line of a text, which is number `n`.
-pub fn line_of_text(alloc: Global, n: u32, text: &[u8]) -> Result<Line, PlanError>
-    ensures { TellsPlan the_plan_line result (line_of_text n text.now) }
+/// Puts in the line of words, which is number `n`.
+pub fn line_of_words(alloc: Global, n: u32, text: &[u8], line: &mut Line) -> Result<(), PlanError>
+    requires { is_of_words text.now ≡ true }
+    ensures { TellsPlan (λ u. the_plan_line line.new) result (line_of_text n text.now) }
 {
-    if !is_of_words(text) {
-        return Err(PlanError::Wrong { line: n, word: 0 });
-    }
-    match read_line(alloc, text) {
-        Ok(line) if is_line_in_range(&line) => Ok(line),
-        Ok(_) => Err(PlanError::Range { line: n }),
+    match read_line(alloc, text, line) {
+        Ok(()) if is_line_in_range(line) => Ok(()),
+        Ok(()) => Err(PlanError::Range { line: n }),
         Err(fault) => Err(refusal(n, text, fault)),
     }
 }

@@ -1,13 +1,14 @@
 //! What the lines mean.
 
-ghost use Rattle.std.specs.Prelude.{◌≡◌, ◌<◌, ◌≤◌, ◌-◌, ◌^◌, ◌++◌, ◌∷◌, [], false, true, IfOk, IfSome, OnOk, length};
+ghost use Rattle.std.specs.Prelude.{◌≡◌, ◌<◌, ◌≤◌, ◌-◌, ◌^◌, ◌++◌, ◌∷◌, [], false, true, IfOk, IfErr, IfSome, IsTrue, OnOk, Some, length};
 ghost use Rattle.std.specs.Prelude.{map, flat_map, option_map, option_to_list, slice_index_or, pos, ◌+ℤ◌};
 ghost use Rattle.std.specs.List.{list_all};
 ghost use Rattle.cstn_label.specs.Labels.{empty};
 ghost use Rattle.cstn_label.specs.Read.{marks};
 ghost use Rattle.cstn_text.specs.Names.{number_of};
 ghost use Rattle.cstn_graphml.specs.DrawnGraphSeen.{drawn_seen};
-ghost use Rattle.cstn_sentences.specs.Answers.{TellsPlan};
+ghost use Rattle.cstn_sentences.specs.Answers.{FailsPlan, TellsPlan};
+ghost use Rattle.cstn_sentences.specs.Drawn.{kept_meaning, IsKeptOfMeant};
 ghost use Rattle.cstn_sentences.specs.Judged.{is_sized};
 ghost use Rattle.cstn_sentences.specs.Lines.{the_plan_step, the_rule, the_plan_line};
 ghost use Rattle.cstn_sentences.specs.Meaning.{nothing_meant, letter_in, prop_in, mark_said, label_meant_after};
@@ -16,18 +17,19 @@ ghost use Rattle.cstn_sentences.specs.Meaning.{since_origin, is_sized_from, are_
 ghost use Rattle.cstn_sentences.specs.Meaning.{with_label, mean_step, with_task_labels, mean_task, mean, meant_line, meant_after};
 ghost use Rattle.cstn_sentences.specs.SeenDeclared.{the_declared};
 ghost use Rattle.cstn_sentences.specs.SeenMeaning.{the_meaning, Knows};
-ghost use Rattle.cstn_sentences.specs.Words.{plan_lines};
+ghost use Rattle.cstn_sentences.specs.Words.{plan_lines, is_of_words};
 
 use crate::bounds::{Bounds, are_in_order, bounds_of, is_of_end};
 use crate::declarations::{Declared, Meant, letter_for};
 use crate::errors::PlanError;
-use crate::judged::line_of_text;
+use crate::judged::line_of_words;
 use crate::lines::{Line, Literal, Point, Range, Reference, Rule, Says, Side, Step, Word};
 use crate::observers::Observers;
 use crate::spelling::is_letter_word;
-use crate::words::{is_wordless, without_mark};
+use crate::words::{next_word, without_mark};
 use cstn_graphml::DrawnConstraint;
 use cstn_label::{Label, Mark, Prop};
+use cstn_net::MAX_CONSTRAINTS;
 use cstn_text::{Names, cut_at};
 use std::alloc::{AllocError, Global};
 
@@ -112,6 +114,28 @@ fn number_in(names: &Names, name: &str) -> Option<u32>
     let k = names.find(name)?;
     prove!(k < count);
     Some(k)
+}
+
+/// Whether this is the name of the time-point with a number.
+fn is_named(names: &Names, x: usize, name: &str) -> bool
+    ensures { IsTrue result → number_of names.now name.now ≡ Some x }
+{
+    let Some(text) = names.as_slice().get(x) else {
+        return false;
+    };
+    text.as_str() == name
+}
+
+/// The number of the next task: that of the next label, where the names are in the order of their lines.
+fn task_number(names: &Names, name: &str, next: usize) -> Option<u32>
+    ensures number { result ≡ number_of names.now name.now }
+    ensures below { IfSome result (λ k. k < 2 ^ 32 - 1) }
+{
+    let count = names.count();
+    if next < count as usize && is_named(names, next, name) {
+        return Some(next as u32);
+    }
+    number_in(names, name)
 }
 
 /// The number of one end of a task; a step has none.
@@ -231,30 +255,23 @@ fn moments_in(
     Ok(moments)
 }
 
-fn origin_alone(alloc: Global) -> Result<Vec<(u32, i64)>, AllocError>
-    ensures { IfOk result (λ ms. ms.items ≡ (0, pos 0) ∷ []) }
-{
-    let mut moments = Vec::new(alloc);
-    moments.push((0, 0))?;
-    Ok(moments)
-}
-
 /// `at`, and `by` without `after`, count from the origin.
-fn since_origin(
-    alloc: Global,
+fn since_origin<'a>(
     says: Says,
-    moments: Vec<(u32, i64)>,
-) -> Result<Vec<(u32, i64)>, AllocError>
-    ensures { IfOk result (λ ms. ms.items ≡ since_origin says moments.items) }
+    origin: &'a [(u32, i64)],
+    moments: &'a [(u32, i64)],
+) -> &'a [(u32, i64)]
+    requires { origin.now ≡ (0, pos 0) ∷ [] }
+    ensures { result.now ≡ since_origin says moments.now }
 {
     match says {
-        Says::At(_) => origin_alone(alloc),
-        Says::By(_) => origin_alone(alloc),
-        Says::Between(_) => Ok(moments),
-        Says::ByAfter(_) => Ok(moments),
-        Says::Within(_) => Ok(moments),
-        Says::NotBefore => Ok(moments),
-        Says::Together => Ok(moments),
+        Says::At(_) => origin,
+        Says::By(_) => origin,
+        Says::Between(_) => moments,
+        Says::ByAfter(_) => moments,
+        Says::Within(_) => moments,
+        Says::NotBefore => moments,
+        Says::Together => moments,
     }
 }
 
@@ -414,11 +431,12 @@ fn mean_rule(
     }
     let moments = moments_in(alloc, n, d, observers, rule.since.as_slice())?;
     let label = label_meant(alloc, n, d.words.as_slice(), rule.label.as_slice())?;
-    let moments = since_origin(alloc, rule.says, moments)?;
-    if !are_all_sized(bounds, moments.as_slice()) {
+    let origin = [(0, 0)];
+    let moments = since_origin(rule.says, origin.as_slice(), moments.as_slice());
+    if !are_all_sized(bounds, moments) {
         return Err(PlanError::Range { line: n });
     }
-    put_rule(x, bounds, label, moments.as_slice(), &mut m.constraints)?;
+    put_rule(x, bounds, label, moments, &mut m.constraints)?;
     Ok(())
 }
 
@@ -468,7 +486,8 @@ fn mean_task(
     ensures { TellsPlan (λ u. the_meaning m.new) result (mean_task n (the_declared d.now) (the_plan_step step.now) range (the_meaning m.old)) }
 {
     let label = label_meant(alloc, n, d.words.as_slice(), step.label.as_slice())?;
-    let Some(x) = number_in(&d.names, step.name.as_str()) else {
+    let next = m.labels.len().saturating_add(1);
+    let Some(x) = task_number(&d.names, step.name.as_str(), next) else {
         return Err(PlanError::NoName {
             line: n,
             name: step.name.copy(alloc)?,
@@ -512,6 +531,7 @@ fn mean(
     }
 }
 
+/// What is meant once a line of words was read.
 fn mean_text(
     alloc: Global,
     n: u32,
@@ -520,13 +540,15 @@ fn mean_text(
     text: &[u8],
     m: &mut Meaning,
 ) -> Result<(), PlanError>
-    requires { Knows (the_declared d.now) observers.now }
+    requires knows { Knows (the_declared d.now) observers.now }
+    requires words { is_of_words text.now ≡ true }
     ensures { TellsPlan (λ u. the_meaning m.new) result (meant_line n (the_declared d.now) (the_meaning m.old) text.now) }
 {
-    if is_wordless(text) {
+    let Some(_) = next_word(text) else {
         return Ok(());
-    }
-    let line = line_of_text(alloc, n, text)?;
+    };
+    let mut line = Line::Nothing;
+    line_of_words(alloc, n, text, &mut line)?;
     mean(alloc, n, d, observers, &line, m)
 }
 
@@ -540,8 +562,14 @@ fn nothing_meant(alloc: Global) -> Meaning
     }
 }
 
-/// What the lines of a text mean, which declare this. The text has at most 8,388,608 bytes.
-#[tactic(auto, unfolding(crate::specs::Meaning::meant_after))]
+/// Keeps no more constraints than one past the limit of a network.
+fn keep(m: &mut Meaning)
+    ensures { the_meaning m.new ≡ kept_meaning (the_meaning m.old) }
+{
+    m.constraints.truncate(MAX_CONSTRAINTS + 1);
+}
+
+/// What the lines of a text mean, which declare this, as far as a graph keeps it. The text has at most 8,388,608 bytes.
 pub fn mean_lines(
     alloc: Global,
     d: &Declared,
@@ -550,13 +578,16 @@ pub fn mean_lines(
 ) -> Result<Meaning, PlanError>
     requires short { length text.now ≤ 8388608 }
     requires knows { Knows (the_declared d.now) observers.now }
-    ensures { TellsPlan the_meaning result (meant_after 1 (the_declared d.now) nothing_meant (plan_lines text.now)) }
+    requires words { list_all is_of_words (plan_lines text.now) ≡ true }
+    ensures meant { IfOk result (λ m. IsKeptOfMeant (meant_after 1 (the_declared d.now) nothing_meant (plan_lines text.now)) (the_meaning m)) }
+    ensures refused { IfErr result (λ e. FailsPlan e (meant_after 1 (the_declared d.now) nothing_meant (plan_lines text.now))) }
 {
     let mut m = nothing_meant(alloc);
     let mut left = without_mark(text);
     let mut n = 1;
     while let Some((line, rest)) = cut_at(left, b'\n') {
         mean_text(alloc, n, d, observers, line, &mut m)?;
+        keep(&mut m);
         n += 1;
         left = rest;
     }

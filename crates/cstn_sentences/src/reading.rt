@@ -3,13 +3,12 @@
 ghost use Rattle.std.specs.Prelude.{◌≡◌, nat_abs, IfOk, IfErr, Ok};
 ghost use Rattle.cstn_lift.specs.Read.{the_labelled};
 ghost use Rattle.cstn_graphml.specs.Document.{first_of_two};
-ghost use Rattle.cstn_graphml.specs.DrawnGraphLaws.{IsDrawnGraph};
 ghost use Rattle.cstn_graphml.specs.DrawnGraphSeen.{graph_seen};
 ghost use Rattle.cstn_graphml.specs.Kept.{kept};
-ghost use Rattle.cstn_sentences.specs.Drawn.{graph_of};
+ghost use Rattle.cstn_sentences.specs.Drawn.{graph_of, IsOfWhole};
 ghost use Rattle.cstn_sentences.specs.Meaning.{on_clock};
-ghost use Rattle.cstn_sentences.specs.Planned.{IsFitPlan, RefusesPlan, IsPlanNetTold, IsOfLabels, IsLabelTold};
-ghost use Rattle.cstn_sentences.specs.Plans.{plan, deadline_in, plan_parts};
+ghost use Rattle.cstn_sentences.specs.Planned.{IsFitPlan, RefusesPlan, IsFitKept, RefusesKept, IsPlanNetTold, IsOfLabels, IsLabelTold};
+ghost use Rattle.cstn_sentences.specs.Plans.{plan, deadline_in};
 ghost use Rattle.cstn_sentences.specs.SeenDeclared.{the_declared};
 ghost use Rattle.cstn_sentences.specs.SeenMeaning.{the_meaning};
 
@@ -94,9 +93,9 @@ fn answer(
     d: Declared,
     m: Meaning,
 ) -> Result<(Labelled, Names), PlanError>
-    requires { IsDrawnGraph (graph_of (the_declared d) (the_meaning m)) }
-    ensures accepted { IfOk result (λ r. IsFitPlan (Ok (plan_parts deadline (the_declared d) (the_meaning m))) (the_labelled r.0) r.1) }
-    ensures refused { IfErr result (RefusesPlan (Ok (plan_parts deadline (the_declared d) (the_meaning m)))) }
+    requires { IsOfWhole (the_declared d) (the_meaning m) }
+    ensures accepted { IfOk result (λ r. IsFitKept deadline (the_declared d) (the_meaning m) (the_labelled r.0) r.1) }
+    ensures refused { IfErr result (RefusesKept deadline (the_declared d) (the_meaning m)) }
 {
     let graph = graph_of(alloc, d, m);
     match build_network(alloc, deadline, &graph) {

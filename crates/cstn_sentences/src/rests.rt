@@ -1,6 +1,6 @@
 //! The rest of a rule or of a step, from `after` or `if` on.
 
-ghost use Rattle.std.specs.Prelude.{◌≡◌, ◌++◌, ◌∷◌, [], IfOk, option_map, codes};
+ghost use Rattle.std.specs.Prelude.{◌≡◌, ◌++◌, ◌∷◌, [], IfOk, OnOk, codes};
 ghost use Rattle.cstn_markup.specs.Bytes.{when};
 ghost use Rattle.cstn_sentences.specs.declared.lines.Reference.TheVariants.{Outcome};
 ghost use Rattle.cstn_sentences.specs.Words.{words_of};
@@ -34,132 +34,111 @@ pub fn rest_begun(alloc: Global, expects: Expects) -> Rest
     }
 }
 
-fn expecting(expects: Expects, rest: Rest) -> Rest
-    ensures { the_rest result ≡ expecting expects (the_rest rest) }
+fn put_reference(reference: Reference, rest: &mut Rest) -> Result<(), AllocError>
+    ensures { OnOk result (the_rest rest.new ≡ with_reference reference (the_rest rest.old)) }
 {
-    Rest {
-        since: rest.since,
-        label: rest.label,
-        expects,
-    }
+    rest.since.push(reference)?;
+    rest.expects = Expects::AndOrIf;
+    Ok(())
 }
 
-fn with_reference(reference: Reference, rest: Rest) -> Result<Rest, AllocError>
-    ensures { IfOk result (λ r. the_rest r ≡ with_reference reference (the_rest rest)) }
-{
-    let mut since = rest.since;
-    since.push(reference)?;
-    Ok(Rest {
-        since,
-        label: rest.label,
-        expects: Expects::AndOrIf,
-    })
-}
-
-fn with_literal_read(
-    alloc: Global,
-    holds: bool,
-    word: &[u8],
-    rest: Rest,
-) -> Result<Option<Rest>, AllocError>
-    ensures { IfOk result (λ r. option_map the_rest r ≡ when (is_prop_word word.now) (with_literal_read holds word.now (the_rest rest))) }
+fn put_literal(alloc: Global, holds: bool, word: &[u8], rest: &mut Rest) -> Result<bool, AllocError>
+    ensures { IfOk result (λ put. when put (the_rest rest.new) ≡ when (is_prop_word word.now) (with_literal_read holds word.now (the_rest rest.old))) }
 {
     if !is_prop_word(word) {
-        return Ok(None);
+        return Ok(false);
     }
     let prop = Word::new(alloc, word)?;
-    let mut label = rest.label;
-    label.push(Literal { prop, holds })?;
-    Ok(Some(Rest {
-        since: rest.since,
-        label,
-        expects: Expects::And,
-    }))
+    rest.label.push(Literal { prop, holds })?;
+    rest.expects = Expects::And;
+    Ok(true)
 }
 
-fn with_point(
-    alloc: Global,
-    side: Side,
-    word: &[u8],
-    rest: Rest,
-) -> Result<Option<Rest>, AllocError>
-    ensures { IfOk result (λ r. option_map the_rest r ≡ with_point side word.now (the_rest rest)) }
+fn put_point(alloc: Global, side: Side, word: &[u8], rest: &mut Rest) -> Result<bool, AllocError>
+    ensures { IfOk result (λ put. when put (the_rest rest.new) ≡ with_point side word.now (the_rest rest.old)) }
 {
     let Some(name) = read_name_word(alloc, word)? else {
-        return Ok(None);
+        return Ok(false);
     };
-    let point = Point { name, side };
-    Ok(Some(with_reference(Reference::Moment(point), rest)?))
+    put_reference(Reference::Moment(Point { name, side }), rest)?;
+    Ok(true)
 }
 
-fn with_outcome(alloc: Global, word: &[u8], rest: Rest) -> Result<Option<Rest>, AllocError>
-    ensures { IfOk result (λ r. option_map the_rest r ≡ when (is_prop_word word.now) (with_reference (Outcome word.now) (the_rest rest))) }
+fn put_outcome(alloc: Global, word: &[u8], rest: &mut Rest) -> Result<bool, AllocError>
+    ensures { IfOk result (λ put. when put (the_rest rest.new) ≡ when (is_prop_word word.now) (with_reference (Outcome word.now) (the_rest rest.old))) }
 {
     if !is_prop_word(word) {
-        return Ok(None);
+        return Ok(false);
     }
     let prop = Word::new(alloc, word)?;
-    Ok(Some(with_reference(Reference::Outcome(prop), rest)?))
+    put_reference(Reference::Outcome(prop), rest)?;
+    Ok(true)
 }
 
-/// The rest behind one of these keywords; none behind any other word.
-fn expecting_if(word: &[u8], keyword: &[u8], expects: Expects, rest: Rest) -> Option<Rest>
-    ensures { option_map the_rest result ≡ when (is keyword.now word.now) (expecting expects (the_rest rest)) }
+/// Whether the word is this keyword, behind which this may follow.
+fn put_keyword(word: &[u8], keyword: &[u8], expects: Expects, rest: &mut Rest) -> bool
+    ensures { when result (the_rest rest.new) ≡ when (is keyword.now word.now) (expecting expects (the_rest rest.old)) }
 {
     if word != keyword {
-        return None;
+        return false;
     }
-    Some(expecting(expects, rest))
+    rest.expects = expects;
+    true
 }
 
-fn after_since(alloc: Global, word: &[u8], rest: Rest) -> Result<Option<Rest>, AllocError>
-    ensures { IfOk result (λ r. option_map the_rest r ≡ after_word Since word.now (the_rest rest)) }
+fn put_since(alloc: Global, word: &[u8], rest: &mut Rest) -> Result<bool, AllocError>
+    ensures { IfOk result (λ put. when put (the_rest rest.new) ≡ after_word Since word.now (the_rest rest.old)) }
 {
     if word == b"end".as_slice() {
-        return Ok(Some(expecting(Expects::OfSide(Side::Last), rest)));
+        rest.expects = Expects::OfSide(Side::Last);
+        return Ok(true);
     }
     if word == b"start".as_slice() {
-        return Ok(Some(expecting(Expects::OfSide(Side::First), rest)));
+        rest.expects = Expects::OfSide(Side::First);
+        return Ok(true);
     }
     if word == b"result".as_slice() {
-        return Ok(Some(expecting(Expects::OfOutcome, rest)));
+        rest.expects = Expects::OfOutcome;
+        return Ok(true);
     }
-    with_point(alloc, Side::Alone, word, rest)
+    put_point(alloc, Side::Alone, word, rest)
 }
 
-fn after_and_or_if(word: &[u8], rest: Rest) -> Option<Rest>
-    ensures { option_map the_rest result ≡ after_word AndOrIf word.now (the_rest rest) }
+fn put_and_or_if(word: &[u8], rest: &mut Rest) -> bool
+    ensures { when result (the_rest rest.new) ≡ after_word AndOrIf word.now (the_rest rest.old) }
 {
     if word == b"and".as_slice() {
-        return Some(expecting(Expects::Since, rest));
+        rest.expects = Expects::Since;
+        return true;
     }
-    expecting_if(word, b"if", Expects::Asserted, rest)
+    put_keyword(word, b"if", Expects::Asserted, rest)
 }
 
-fn after_asserted(alloc: Global, word: &[u8], rest: Rest) -> Result<Option<Rest>, AllocError>
-    ensures { IfOk result (λ r. option_map the_rest r ≡ after_word Asserted word.now (the_rest rest)) }
+fn put_asserted(alloc: Global, word: &[u8], rest: &mut Rest) -> Result<bool, AllocError>
+    ensures { IfOk result (λ put. when put (the_rest rest.new) ≡ after_word Asserted word.now (the_rest rest.old)) }
 {
     if word == b"not".as_slice() {
-        return Ok(Some(expecting(Expects::Negated, rest)));
+        rest.expects = Expects::Negated;
+        return Ok(true);
     }
-    with_literal_read(alloc, true, word, rest)
+    put_literal(alloc, true, word, rest)
 }
 
-/// The rest after one word more; none where the word may not stand there.
-fn after_word(alloc: Global, word: &[u8], rest: Rest) -> Result<Option<Rest>, AllocError>
-    ensures { IfOk result (λ r. option_map the_rest r ≡ after_word rest.expects word.now (the_rest rest)) }
+/// Puts in one word more, and answers whether it may stand there.
+fn put_rest_word(alloc: Global, word: &[u8], rest: &mut Rest) -> Result<bool, AllocError>
+    ensures { IfOk result (λ put. when put (the_rest rest.new) ≡ after_word rest.old.expects word.now (the_rest rest.old)) }
 {
     match rest.expects {
-        Expects::Since => after_since(alloc, word, rest),
-        Expects::OfSide(side) => Ok(expecting_if(word, b"of", Expects::NameOf(side), rest)),
-        Expects::NameOf(side) => with_point(alloc, side, word, rest),
-        Expects::OfOutcome => Ok(expecting_if(word, b"of", Expects::OutcomeOf, rest)),
-        Expects::OutcomeOf => with_outcome(alloc, word, rest),
-        Expects::AndOrIf => Ok(after_and_or_if(word, rest)),
-        Expects::If => Ok(expecting_if(word, b"if", Expects::Asserted, rest)),
-        Expects::Asserted => after_asserted(alloc, word, rest),
-        Expects::Negated => with_literal_read(alloc, false, word, rest),
-        Expects::And => Ok(expecting_if(word, b"and", Expects::Asserted, rest)),
+        Expects::Since => put_since(alloc, word, rest),
+        Expects::OfSide(side) => Ok(put_keyword(word, b"of", Expects::NameOf(side), rest)),
+        Expects::NameOf(side) => put_point(alloc, side, word, rest),
+        Expects::OfOutcome => Ok(put_keyword(word, b"of", Expects::OutcomeOf, rest)),
+        Expects::OutcomeOf => put_outcome(alloc, word, rest),
+        Expects::AndOrIf => Ok(put_and_or_if(word, rest)),
+        Expects::If => Ok(put_keyword(word, b"if", Expects::Asserted, rest)),
+        Expects::Asserted => put_asserted(alloc, word, rest),
+        Expects::Negated => put_literal(alloc, false, word, rest),
+        Expects::And => Ok(put_keyword(word, b"and", Expects::Asserted, rest)),
     }
 }
 
@@ -180,28 +159,22 @@ fn may_end(expects: Expects) -> bool
     }
 }
 
-/// Reads the words that are left as the rest of a line.
+/// Reads the words that are left as the rest of a line, behind what was read of it.
 #[tactic(auto, unfolding(crate::specs::Grammar::rest_read))]
-pub fn read_rest(alloc: Global, rest: Rest, left: &[u8]) -> Result<Rest, LineFault>
-    ensures { GivesRead the_rest result (rest_read (the_rest rest) (words_of left.now)) }
+pub fn read_rest(alloc: Global, left: &[u8], rest: &mut Rest) -> Result<(), LineFault>
+    ensures { GivesRead (λ u. the_rest rest.new) result (rest_read (the_rest rest.old) (words_of left.now)) }
 {
-    let mut rest = rest;
     let mut left = left;
     while let Some((word, later)) = next_word(left) {
-        match after_word(alloc, word, rest)? {
-            Some(more) => {
-                rest = more;
-                left = later;
-            }
-            None => {
-                return Err(LineFault::Wrong {
-                    left: count_words(left),
-                });
-            }
+        if !put_rest_word(alloc, word, rest)? {
+            return Err(LineFault::Wrong {
+                left: count_words(left),
+            });
         }
+        left = later;
     }
     if !may_end(rest.expects) {
         return Err(LineFault::Wrong { left: 0 });
     }
-    Ok(rest)
+    Ok(())
 }

@@ -4,7 +4,7 @@ ghost use Rattle.std.specs.Prelude.{◌≡◌, ◌<◌, ◌++◌, ◌||◌, ◌=
 ghost use Rattle.std.specs.Char.{is_ascii_alphanumeric};
 ghost use Rattle.std.specs.Fmt.{digit_glyph};
 ghost use Rattle.std.specs.List.{list_all};
-ghost use Rattle.cstn_text.specs.PrintedNames.{is_plain_byte, hex_value, escaped_byte, printed_byte, unprinted};
+ghost use Rattle.cstn_text.specs.PrintedNames.{is_plain_byte, hex_value, unescaped_byte, printed_byte, unprinted};
 ghost use Rattle.cstn_sentences.specs.Spelling.{begins_line, is_of_rule, is_between, is_keyword, begins_with, needs_quotes};
 ghost use Rattle.cstn_sentences.specs.Spelling.{quoted_byte, quoted, between_quotes, begins_with_letter, has_space_or_quote};
 ghost use Rattle.cstn_sentences.specs.Spelling.{is_quoted_as, quoted_as, quoted_name, bare_name, name_spelled, is_letter_word, is_word, is_prop_word};
@@ -108,7 +108,7 @@ fn byte_at(bytes: &[u8], at: usize) -> u8
 
 /// The byte that two digits write, where 0 stands for each that is missing.
 fn escaped_byte(digits: &[u8]) -> u8
-    ensures { result ≡ escaped_byte digits.now }
+    ensures { result ≡ unescaped_byte digits.now }
 {
     16 * hex_value(byte_at(digits, 0)) + hex_value(byte_at(digits, 1))
 }

@@ -3,7 +3,7 @@
 ghost use Rattle.std.specs.Prelude.{◌≡◌, ◌<◌, ◌≤◌, ◌∷◌, ◌==◌, not, [], length, IfSome, MatchOption};
 ghost use Rattle.std.specs.List.{prefix_len, list_all};
 ghost use Rattle.cstn_markup.specs.Bytes.{is_white};
-ghost use Rattle.cstn_sentences.specs.Words.{without_mark, word_len, words_of, is_closed, is_of_words, is_wordless};
+ghost use Rattle.cstn_sentences.specs.Words.{without_mark, word_len, words_of, is_closed, is_of_words};
 
 use cstn_markup::{is_white, past_white};
 
@@ -96,6 +96,9 @@ fn is_closed(word: &[u8]) -> bool
 fn are_closed(left: &[u8]) -> bool
     ensures { result ≡ list_all is_closed (words_of left.now) }
 {
+    if !left.contains(&b'"') {
+        return true;
+    }
     let mut left = left;
     while let Some((word, rest)) = next_word(left) {
         if !is_closed(word) {
@@ -117,14 +120,4 @@ pub fn is_of_words(line: &[u8]) -> bool
         return false;
     };
     are_closed(line)
-}
-
-/// Whether a line is of words, and has none.
-pub fn is_wordless(line: &[u8]) -> bool
-    ensures { result ≡ is_wordless line.now }
-{
-    match next_word(line) {
-        None => is_of_words(line),
-        Some(_) => false,
-    }
 }

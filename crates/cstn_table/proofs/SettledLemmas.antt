@@ -8,8 +8,8 @@ use Rattle.cstn_label.specs.declared.marks.Mark.TheVariants.{Absent, Yes, No, Un
 use Rattle.cstn_label.specs.Labels.{Label, Scenario, Holds, MarkFits}
 use Rattle.cstn_net.specs.Networks.{Network, IsNetwork, IsConstraint, IsOnObserved, Constraint, count}
 use Rattle.cstn_net.specs.Strategies.{Table, IsDynamic, IsNeverLater, IsStrategy, IsLeast, Meets}
-use Rattle.cstn_table.specs.Tables.{observed_props, row_of, scenario_of, table_by, table_of}
-use Rattle.cstn_table.specs.Raises.{IsLow, IsSettled, IsLeastTable}
+use Rattle.cstn_table.specs.Tables.{observed_props, row_of, scenario_of, table_by, table_of_rows}
+use Rattle.cstn_table.specs.Raises.{IsLow, IsSettled, HasLeastRows}
 use Rattle.cstn_table.specs.Read.{TableParts, numbers, the_table}
 use Rattle.cstn_table.proofs.RowLemmas.{row_below, values_there}
 
@@ -32,36 +32,36 @@ module _ (net : Network) (good : IsNetwork net) where
 
   module _ (one_sided : (table : Table) → IsNeverLater net table → IsDynamic net table)
       (moments : List ℕ) (low : IsLow net moments) (settled : IsSettled net moments) where
-    never_later : IsNeverLater net (table_of net moments)
+    never_later : IsNeverLater net (table_of_rows net moments)
     never_later s r x here agrees =
         settled.no_later (row_of (observed_props net.observes) s) (row_of (observed_props net.observes) r)
         (row_below (observed_props net.observes) s) (row_below (observed_props net.observes) r) x here
         (λ p k. values_there net good r k.observer p k.observes ∙ agrees p k ∙ sym (values_there net good s k.observer p k.observes))
 
-    meets : (s : Scenario) (c : Constraint) → Contains net.constraints c → Holds s c.label → Meets (table_of net moments s) c
+    meets : (s : Scenario) (c : Constraint) → Contains net.constraints c → Holds s c.label → Meets (table_of_rows net moments s) c
     meets s c has holds =
         let one = All-contains (IsConstraint net) net.constraints c good.constraints has in
         settled.meets c has (row_of (observed_props net.observes) s) (row_below (observed_props net.observes) s)
         (holds_there s c.label one.observed holds)
 
-    pub settled_strategy : IsStrategy net (table_of net moments)
+    pub settled_strategy : IsStrategy net (table_of_rows net moments)
     settled_strategy = record {
       within = low.within;
-      dynamic = one_sided (table_of net moments) never_later;
+      dynamic = one_sided (table_of_rows net moments) never_later;
       meets = meets;
     }
 
-    pub settled_least : (s : Scenario) (x : ℕ) → x < count net → IsLeast net s x (table_of net moments s x)
+    pub settled_least : (s : Scenario) (x : ℕ) → x < count net → IsLeast net s x (table_of_rows net moments s x)
     settled_least s x here = record {
-      reached = (table_of net moments, settled_strategy, refl);
+      reached = (table_of_rows net moments, settled_strategy, refl);
       least = λ table strategy. low.below s x here table strategy;
     }
 
     -- the program's table of these moments is a table of the network's least moments
     pub settled_table : (props : List Prop) (points : ℕ) (t : TableParts) → numbers props ≡ observed_props net.observes →
-        points ≡ count net → t ≡ record { props = props; points = points; moments = moments } → IsLeastTable net t
+        points ≡ count net → t ≡ record { props = props; points = points; moments = moments } → HasLeastRows net t
     settled_table props points t all counted is =
-        let same : the_table t ≡ table_of net moments =
+        let same : the_table t ≡ table_of_rows net moments =
         ap the_table is ∙ ap (λ ps. table_by ps points moments) all ∙ ap (λ n. table_by (observed_props net.observes) n moments) counted in
         record {
           points = ap (λ u. u.points) is ∙ counted;

@@ -6,7 +6,7 @@ use Rattle.cstn_label.specs.Labels.{Scenario, Holds}
 use Rattle.cstn_net.specs.Limits.{most_deadline}
 use Rattle.cstn_net.specs.Networks.{Network, Constraint, count}
 use Rattle.cstn_net.specs.Strategies.{Table, Agrees, IsTable, IsStrategy, IsLeast, Meets}
-use Rattle.cstn_table.specs.Tables.{observed_props, scenario_of, row_at, table_of}
+use Rattle.cstn_table.specs.Tables.{observed_props, scenario_of, row_at, table_of_rows}
 use Rattle.cstn_table.specs.Read.{TableParts, numbers, the_table}
 
 -- every strategy has x at t or later in the scenario
@@ -30,8 +30,8 @@ pub record AreObserved (net : Network) (props : List Prop) : Type 0 where
 pub record IsLow (net : Network) (moments : List ℕ) : Type 0 where
   pub few : rows net ≤ 256
   pub sized : length moments ≡ rows net * count net
-  pub within : IsTable net (table_of net moments)
-  pub below : IsBelow net (table_of net moments)
+  pub within : IsTable net (table_of_rows net moments)
+  pub below : IsBelow net (table_of_rows net moments)
 
 -- how far the moments can rise, added up over all of them
 abbrev pub room : List ℕ → ℕ
@@ -66,7 +66,7 @@ pub record IsSettled (net : Network) (moments : List ℕ) : Type 0 where
   pub no_later : (row other : ℕ) → row < rows net → other < rows net → IsNoLater net row other moments
 
 -- a table of the network's least moments
-pub record IsLeastTable (net : Network) (t : TableParts) : Type 0 where
+pub record HasLeastRows (net : Network) (t : TableParts) : Type 0 where
   pub points : t.points ≡ count net
   pub strategy : IsStrategy net (the_table t)
   pub least : (s : Scenario) (x : ℕ) → x < count net → IsLeast net s x (the_table t s x)

@@ -29,5 +29,5 @@ abbrev pub table_by : List ℕ → ℕ → List ℕ → Table
 table_by props points moments = λ s. row_at points moments (row_of props s)
 
 -- the table that rows for the scenarios of a network stand for
-abbrev pub table_of : Network → List ℕ → Table
-table_of net moments = table_by (observed_props net.observes) (count net) moments
+abbrev pub table_of_rows : Network → List ℕ → Table
+table_of_rows net moments = table_by (observed_props net.observes) (count net) moments

@@ -6,7 +6,7 @@ ghost use Rattle.cstn_net.specs.Read.{the_network};
 ghost use Rattle.cstn_table.specs.declared.errors.TableError.TheVariants.{TooManyProps};
 ghost use Rattle.cstn_table.specs.Tables.{observed_props};
 ghost use Rattle.cstn_table.specs.Read.{the_table};
-ghost use Rattle.cstn_table.specs.Raises.{AreObserved, IsLow, IsWalk, IsSettled, IsLeastTable};
+ghost use Rattle.cstn_table.specs.Raises.{AreObserved, IsLow, IsWalk, IsSettled, HasLeastRows};
 
 use crate::errors::TableError;
 use crate::pairs::raise_by_scenarios;
@@ -42,7 +42,7 @@ pub fn decide(alloc: Global, net: &Network) -> Result<Option<Table>, TableError>
 
 fn least_table(alloc: Global, net: &Network) -> Result<Option<Table>, AllocError>
     requires few { length (observed_props (the_network net.now).observes) ≤ 8 }
-    ensures { IfOk result (λ o. MatchOption o (IsConsistent (the_network net.now) → ⊥) (IsLeastTable (the_network net.now))) }
+    ensures { IfOk result (λ o. MatchOption o (IsConsistent (the_network net.now) → ⊥) (HasLeastRows (the_network net.now))) }
 {
     dynamic_is_one_sided();
     let props = props_of(alloc, net)?;

@@ -8,7 +8,7 @@ use Rattle.cstn_label.specs.declared.marks.Mark.{Mark}
 use Rattle.cstn_label.specs.declared.marks.Mark.TheVariants.{Absent, Yes, No, Unknown}
 use Rattle.cstn_label.specs.Labels.{Label, empty, with_mark}
 use Rattle.cstn_label.specs.Letters.{letter_of, prop_of}
-use Rattle.cstn_text.specs.PrintedLabels.{printed_mark, marks_text, label_with, AreNew, Reading, nothing_read, signed, marked, after_byte, ended, marks_read, label_read}
+use Rattle.cstn_text.specs.PrintedLabels.{printed_mark, marks_text, label_with, AreNew, LabelReading, nothing_read, signed, marked, reading_after, label_ended, marks_read, label_read}
 use Rattle.std.specs.List.{All}
 use Rattle.std.proofs.lemmas.List.Elements.{All-nil, All-cons, All-append}
 use Rattle.cstn_text.specs.Parts.{IsOnePart}
@@ -45,7 +45,7 @@ record AreMarks (a : Label) (sign : Mark) (bytes : List ℕ) (b : Label) : Type 
   pub text : sign_text sign ++ bytes ≡ marks_text marks
   pub label : b ≡ label_with a marks
 
-signed_marks : (a : Label) (s sign : Mark) (c : ℕ) (bytes : List ℕ) (next : Reading) (b : Label) → sign_text sign ≡ c ∷ [] → signed a s sign ≡ Some next →
+signed_marks : (a : Label) (s sign : Mark) (c : ℕ) (bytes : List ℕ) (next : LabelReading) (b : Label) → sign_text sign ≡ c ∷ [] → signed a s sign ≡ Some next →
     (next.sign ≢ Absent → AreMarks next.label next.sign bytes b) → sign ≢ Absent → AreMarks a s (c ∷ bytes) b
 unfolding sign_text
 signed_marks a Absent sign c bytes next b is e more some = absurd (cc)
@@ -53,7 +53,7 @@ signed_marks a No sign c bytes next b is e more some = absurd (cc)
 signed_marks a Unknown sign c bytes next b is e more some = absurd (cc)
 signed_marks a Yes sign c bytes next b is e more some =
     let same : record { label = a; sign = sign } ≡ next = same_Some _ next e in
-    let its = subst (λ (r : Reading). (r.sign ≢ Absent → AreMarks r.label r.sign bytes b) → AreMarks a sign bytes b) same (λ f. f some) more in
+    let its = subst (λ (r : LabelReading). (r.sign ≢ Absent → AreMarks r.label r.sign bytes b) → AreMarks a sign bytes b) same (λ f. f some) more in
     record { marks = its.marks; new = its.new; text = ap (λ (t : List ℕ). t ++ bytes) (sym is) ∙ its.text; label = its.label }
 
 prop_letter : (b p : ℕ) → prop_of b ≡ Some p → (p < 52) × (letter_of p ≡ b)
@@ -66,7 +66,7 @@ mark_text letter Yes bytes some = refl
 mark_text letter No bytes some = refl
 mark_text letter Unknown bytes some = refl
 
-marked_marks : (a : Label) (sign m : Mark) (p c : ℕ) (bytes : List ℕ) (next : Reading) (b : Label) → sign ≢ Absent → p < 52 → letter_of p ≡ c → a p ≡ m → marked a sign m p ≡ Some next →
+marked_marks : (a : Label) (sign m : Mark) (p c : ℕ) (bytes : List ℕ) (next : LabelReading) (b : Label) → sign ≢ Absent → p < 52 → letter_of p ≡ c → a p ≡ m → marked a sign m p ≡ Some next →
     (next.sign ≢ Absent → AreMarks next.label next.sign bytes b) → AreMarks a sign (c ∷ bytes) b
 unfolding sign_text
 marked_marks a sign Yes p c bytes next b some small letter is e more = absurd (cc)
@@ -75,7 +75,7 @@ marked_marks a sign Unknown p c bytes next b some small letter is e more = absur
 marked_marks a sign Absent p c bytes next b some small letter is e more =
     let same : record { label = with_mark a p sign; sign = Yes } ≡ next = same_Some _ next e in
     let other : Yes ≢ Absent = λ f. cc in
-    let its = subst (λ (r : Reading). (r.sign ≢ Absent → AreMarks r.label r.sign bytes b) → AreMarks (with_mark a p sign) Yes bytes b) same (λ f. f other) more in
+    let its = subst (λ (r : LabelReading). (r.sign ≢ Absent → AreMarks r.label r.sign bytes b) → AreMarks (with_mark a p sign) Yes bytes b) same (λ f. f other) more in
     record {
       marks = (p, sign) ∷ its.marks;
       new = (small, some, is, its.new);
@@ -83,7 +83,7 @@ marked_marks a sign Absent p c bytes next b some small letter is e more =
       label = its.label;
     }
 
-byte_marks : (no unknown : Bool) (r : Reading) (c : ℕ) (bytes : List ℕ) (next : Reading) (b : Label) → (c == 33) ≡ no → (c == 63) ≡ unknown → r.sign ≢ Absent →
+byte_marks : (no unknown : Bool) (r : LabelReading) (c : ℕ) (bytes : List ℕ) (next : LabelReading) (b : Label) → (c == 33) ≡ no → (c == 63) ≡ unknown → r.sign ≢ Absent →
     (if no then signed r.label r.sign No else if unknown then signed r.label r.sign Unknown
     else option_and_then (λ p. marked r.label r.sign (r.label p) p) (prop_of c)) ≡ Some next →
     (next.sign ≢ Absent → AreMarks next.label next.sign bytes b) → AreMarks r.label r.sign (c ∷ bytes) b
@@ -98,7 +98,7 @@ byte_marks false false r c bytes next b is other some e more =
     option_and_then_some (λ p. marked r.label r.sign (r.label p) p) (prop_of c) next e
     (λ p there marks. marked_marks r.label r.sign (r.label p) p c bytes next b some (prop_letter c p there).0 (prop_letter c p there).1 refl marks more)
 
-ended_marks : (a : Label) (s : Mark) (b : Label) → ended a s ≡ Some b → AreMarks a s [] b
+ended_marks : (a : Label) (s : Mark) (b : Label) → label_ended a s ≡ Some b → AreMarks a s [] b
 unfolding sign_text
 ended_marks a Absent b e = absurd (cc)
 ended_marks a No b e = absurd (cc)
@@ -106,10 +106,10 @@ ended_marks a Unknown b e = absurd (cc)
 ended_marks a Yes b e = record { marks = []; new = tt; text = refl; label = sym (same_Some a b e) }
 
 -- bytes that are read as marks, together with the sign before them, are the text of marks
-marks_said : (r : Reading) (bytes : List ℕ) (b : Label) → r.sign ≢ Absent → marks_read r bytes ≡ Some b → AreMarks r.label r.sign bytes b
+marks_said : (r : LabelReading) (bytes : List ℕ) (b : Label) → r.sign ≢ Absent → marks_read r bytes ≡ Some b → AreMarks r.label r.sign bytes b
 marks_said r [] b some e = ended_marks r.label r.sign b e
 marks_said r (c ∷ bytes) b some e =
-    option_and_then_some (λ next. marks_read next bytes) (after_byte r c) b e
+    option_and_then_some (λ next. marks_read next bytes) (reading_after r c) b e
     (λ next is more. byte_marks (c == 33) (c == 63) r c bytes next b refl refl some is (λ sign. marks_said next bytes b sign more))
 
 -- what a label's text is: `-` alone, or marks in any order, a proposition at most once

@@ -9,8 +9,8 @@ use Rattle.cstn_facts.proofs.Options.{then_read, map_read, if_read}
 use Rattle.cstn_facts.proofs.Booleans.{bytes_same}
 use Rattle.cstn_text.specs.Cuts.{cut_at}
 use Rattle.cstn_text.specs.Numbers.{number_within, printed_number}
-use Rattle.cstn_text.specs.Parts.{IsOnePart, Parts, part, parts_at, joined}
-use Rattle.cstn_text.specs.Listings.{Told, tells, wrong, Kind, load_read, start_read, at_end, is_some_listed, or_wrong, told_after, told, AreLines, IsTextOf}
+use Rattle.cstn_text.specs.Parts.{IsOnePart, SplitText, part, parts_at, joined}
+use Rattle.cstn_text.specs.Listings.{Told, tells, wrong, ListingKind, load_read, start_read, at_end, is_some_listed, or_wrong, told_after, told, AreLines, IsTextOf}
 use Rattle.cstn_text.proofs.CutLemmas.{cut_back, cut_joined}
 use Rattle.cstn_text.proofs.SplitLemmas.{AreFree, parts_cut, parts_open, parts_joined, parts_free}
 use Rattle.cstn_text.proofs.ReadingLemmas.{within_said, part_said, part_back, within_back, IsFree, free, spaced, number_free}
@@ -63,14 +63,14 @@ start_back word most load rest is low high small =
     (cut_back 10 line rest line_free)
     ∙ ap (option_map {U = ℕ × List ℕ} (λ (n : ℕ). (n, rest))) (load_back word most load is low high small)
 
-module _ {A : Type 0} (kind : Kind A) where
+module _ {A : Type 0} (kind : ListingKind A) where
   -- ---- what is said, by the first of the lines
 
   pub told_next : (load : ℕ) (listed : List A) (left line rest : List ℕ) → cut_at 10 left ≡ Some (line, rest) →
       told_after kind load listed (parts_at 10 left).0 (parts_at 10 left).1 ≡
       or_wrong (kind.line_read listed line) (length listed + 2) (λ x. told_after kind load (listed ++ x ∷ []) (parts_at 10 rest).0 (parts_at 10 rest).1)
   unfolding told_after
-  told_next load listed left line rest is = ap {A = Parts} (λ p. told_after kind load listed p.0 p.1) (parts_cut 10 left line rest is)
+  told_next load listed left line rest is = ap {A = SplitText} (λ p. told_after kind load listed p.0 p.1) (parts_cut 10 left line rest is)
 
   -- what is told stays where the next line is read
   pub told_on : (load : ℕ) (listed : List A) (left line rest : List ℕ) (x : A) (t : Told A) → cut_at 10 left ≡ Some (line, rest) → kind.line_read listed line ≡ Some x →
@@ -92,7 +92,7 @@ module _ {A : Type 0} (kind : Kind A) where
   pub told_last : (load : ℕ) (listed : List A) (left : List ℕ) → cut_at 10 left ≡ None →
       told_after kind load listed (parts_at 10 left).0 (parts_at 10 left).1 ≡ at_end kind.may_end load listed left
   unfolding told_after
-  told_last load listed left is = ap {A = Parts} (λ p. told_after kind load listed p.0 p.1) (parts_open 10 left is)
+  told_last load listed left is = ap {A = SplitText} (λ p. told_after kind load listed p.0 p.1) (parts_open 10 left is)
 
   -- the line is wrong where nothing is read of it, after the things that a program's values stand for
   pub wrong_viewed : {B : Type 0} (view : B → A) (load : ℕ) (items : List B) (left line rest : List ℕ) (t : Told A) → cut_at 10 left ≡ Some (line, rest) →

@@ -7,7 +7,7 @@ use Rattle.cstn_label.specs.declared.marks.Mark.{Mark}
 use Rattle.cstn_label.specs.declared.marks.Mark.TheVariants.{Absent, Yes, No, Unknown}
 use Rattle.cstn_label.specs.Labels.{Label, empty, with_mark}
 use Rattle.cstn_label.specs.Letters.{letter_of}
-use Rattle.cstn_text.specs.PrintedLabels.{printed_mark, marks_below, or_dash, printed_label, Reading, nothing_read, after_byte, marks_read, label_read}
+use Rattle.cstn_text.specs.PrintedLabels.{printed_mark, marks_below, or_dash, printed_label, LabelReading, nothing_read, reading_after, marks_read, label_read}
 use Rattle.cstn_label.proofs.LetterLemmas.{letter_back}
 
 unmarked_next : (a : Label) (n : ℕ) (m : Mark) → a n ≡ m → m ≡ Absent → marks_below a (suc n) ≡ marks_below a n
@@ -65,7 +65,7 @@ marks_on a from p old text new so_far le least pushed =
 abbrev pub below : Label → ℕ → Label
 below a n = λ p. if nat_lt p n then a p else Absent
 
-abbrev pub read_of : Label → Reading
+abbrev pub read_of : Label → LabelReading
 read_of a = record { label = a; sign = Yes }
 
 pub below_none : (a : Label) → below a 0 ≡ empty
@@ -92,7 +92,7 @@ below_here n m = grind arith
 not_sign : (p : ℕ) → p < 52 → ((letter_of p == 33) ≡ false) × ((letter_of p == 63) ≡ false)
 not_sign p small = grind arith
 
-after_letter : (r : Reading) (p : ℕ) → p < 52 → r.label p ≡ Absent → after_byte r (letter_of p) ≡ Some (record { label = with_mark r.label p r.sign; sign = Yes })
+after_letter : (r : LabelReading) (p : ℕ) → p < 52 → r.label p ≡ Absent → reading_after r (letter_of p) ≡ Some (record { label = with_mark r.label p r.sign; sign = Yes })
 after_letter r p small absent = rw ((not_sign p small).0, (not_sign p small).1, letter_back p small, absent) refl
 
 -- a printed mark is read

@@ -8,7 +8,7 @@ use Rattle.std.proofs.lemmas.List.Quantifiers.{position-Some}
 use Rattle.std.proofs.lemmas.List.Sums.{fails_before_first}
 use Rattle.std.proofs.lemmas.Grind.{common_steps}
 use Rattle.cstn_text.specs.Cuts.{cut_at}
-use Rattle.cstn_text.specs.Parts.{Parts, begun, parts_at, joined}
+use Rattle.cstn_text.specs.Parts.{SplitText, with_first_byte, parts_at, joined}
 
 cut_parts : (end : ℕ) (bs : List ℕ) (i : ℕ) → i < length bs → (get_or bs i 0 == end) ≡ true →
     ((k : ℕ) → k < i → (get_or bs k 0 == end) ≡ false) →
@@ -16,7 +16,7 @@ cut_parts : (end : ℕ) (bs : List ℕ) (i : ℕ) → i < length bs → (get_or 
 unfolding parts_at
 cut_parts end [] i inside ends before = absurd (omega arith)
 cut_parts end (b ∷ bs) zero inside ends before =
-    ap {B = Parts} (λ t. if t then ([] ∷ (parts_at end bs).0, (parts_at end bs).1) else begun b (parts_at end bs).0 (parts_at end bs).1) ends
+    ap {B = SplitText} (λ t. if t then ([] ∷ (parts_at end bs).0, (parts_at end bs).1) else with_first_byte b (parts_at end bs).0 (parts_at end bs).1) ends
 cut_parts end (b ∷ bs) (suc i) inside ends before =
     let more = cut_parts end bs i (omega arith) ends (λ k h. before (suc k) (omega arith)) in
     rw (before 0 (omega arith), more, add-one (suc i), add-one i) refl
@@ -71,13 +71,13 @@ module _ (end : ℕ) (bytes : List ℕ) where
           let inside = its.0 in
           subst (λ (parts : List ℕ × List ℕ). length parts.1 < length bytes) (pair _ _ e) (grind (arith, common_steps))
 
-begun_joined : (end b : ℕ) (parts : List (List ℕ)) (tail : List ℕ) → joined end (begun b parts tail).0 (begun b parts tail).1 ≡ b ∷ joined end parts tail
+begun_joined : (end b : ℕ) (parts : List (List ℕ)) (tail : List ℕ) → joined end (with_first_byte b parts tail).0 (with_first_byte b parts tail).1 ≡ b ∷ joined end parts tail
 unfolding joined
 begun_joined end b [] tail = refl
 begun_joined end b (part ∷ parts) tail = refl
 
-byte_joined : (end b : ℕ) (ends : Bool) (text : Parts) → (b == end) ≡ ends →
-    let parts : Parts = if ends then ([] ∷ text.0, text.1) else begun b text.0 text.1 in joined end parts.0 parts.1 ≡ b ∷ joined end text.0 text.1
+byte_joined : (end b : ℕ) (ends : Bool) (text : SplitText) → (b == end) ≡ ends →
+    let parts : SplitText = if ends then ([] ∷ text.0, text.1) else with_first_byte b text.0 text.1 in joined end parts.0 parts.1 ≡ b ∷ joined end text.0 text.1
 unfolding joined
 byte_joined end b true text is = let same : end ≡ b = grind arith in ap (λ n. n ∷ joined end text.0 text.1) same
 byte_joined end b false text is = begun_joined end b text.0 text.1
@@ -93,14 +93,14 @@ parts_joined end (b ∷ bytes) = byte_joined end b (b == end) (parts_at end byte
 abbrev pub AreFree : ℕ → List (List ℕ) → Type 0
 AreFree end parts = All (λ part. All (λ b. b ≢ end) part) parts
 
-begun_free : (end b : ℕ) (parts : List (List ℕ)) (tail : List ℕ) → b ≢ end → AreFree end parts → AreFree end (begun b parts tail).0
+begun_free : (end b : ℕ) (parts : List (List ℕ)) (tail : List ℕ) → b ≢ end → AreFree end parts → AreFree end (with_first_byte b parts tail).0
 begun_free end b [] tail other free = free
 begun_free end b (part ∷ parts) tail other free =
     All-cons (λ part. All (λ b. b ≢ end) part) (b ∷ part) parts
     (All-cons (λ b. b ≢ end) b part other (All-head (λ part. All (λ b. b ≢ end) part) part parts free)) (All-tail (λ part. All (λ b. b ≢ end) part) part parts free)
 
-byte_free : (end b : ℕ) (ends : Bool) (text : Parts) → (b == end) ≡ ends → AreFree end text.0 →
-    let parts : Parts = if ends then ([] ∷ text.0, text.1) else begun b text.0 text.1 in AreFree end parts.0
+byte_free : (end b : ℕ) (ends : Bool) (text : SplitText) → (b == end) ≡ ends → AreFree end text.0 →
+    let parts : SplitText = if ends then ([] ∷ text.0, text.1) else with_first_byte b text.0 text.1 in AreFree end parts.0
 byte_free end b true text is free = All-cons (λ part. All (λ b. b ≢ end) part) [] text.0 (All-nil (λ b. b ≢ end)) free
 byte_free end b false text is free = begun_free end b text.0 text.1 (λ same. let f : ⊥ = grind (arith, is, same) in f) free
 

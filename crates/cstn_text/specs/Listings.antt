@@ -13,7 +13,7 @@ pub data Told (A : Type 0) : Type 0 where
 
 -- a kind of listing: the word on the first line and the greatest load, the thing on a line after those before it, if the line is
 -- of the form, and whether the text may end after these
-pub record Kind (A : Type 0) : Type 0 where
+pub record ListingKind (A : Type 0) : Type 0 where
   pub word : List ℕ
   pub most : ℕ
   pub line_read : List A → List ℕ → Option A
@@ -46,24 +46,24 @@ module _ {A : Type 0} where
   or_wrong (Some x) line next = next x
 
   -- what the remaining lines say after the things that were read
-  unfoldable pub told_after : Kind A → ℕ → List A → List (List ℕ) → List ℕ → Told A
+  unfoldable pub told_after : ListingKind A → ℕ → List A → List (List ℕ) → List ℕ → Told A
   told_after kind load listed [] tail = at_end kind.may_end load listed tail
   told_after kind load listed (line ∷ lines) tail =
       or_wrong (kind.line_read listed line) (length listed + 2) (λ x. told_after kind load (listed ++ x ∷ []) lines tail)
 
   -- what a text says: its load, and then what it lists
-  abbrev pub told : Kind A → List ℕ → Told A
+  abbrev pub told : ListingKind A → List ℕ → Told A
   told kind bytes =
       or_wrong (start_read kind.word kind.most bytes) 1 (λ (start : ℕ × List ℕ). told_after kind start.0 [] (parts_at 10 start.1).0 (parts_at 10 start.1).1)
 
   -- the text is the lines of these things, each with its LF, after those before
-  abbrev pub AreLines : Kind A → List A → List A → List ℕ → Type 0
+  abbrev pub AreLines : ListingKind A → List A → List A → List ℕ → Type 0
   AreLines kind before [] text = text ≡ []
   AreLines kind before (x ∷ xs) text =
       (line : List ℕ) × (rest : List ℕ) × (kind.line_read before line ≡ Some x) × All (λ b. b ≢ 10) line × (text ≡ line ++ 10 ∷ rest) × AreLines kind (before ++ x ∷ []) xs rest
 
   -- the text has the word and a load in its range on its first line, and then the lines of these things, with which it may end
-  pub record IsTextOf (kind : Kind A) (load : ℕ) (listed : List A) (bytes : List ℕ) : Type 0 where
+  pub record IsTextOf (kind : ListingKind A) (load : ℕ) (listed : List A) (bytes : List ℕ) : Type 0 where
     pub low : 1 ≤ load
     pub high : load ≤ kind.most
     pub ends : kind.may_end listed ≡ true
@@ -74,7 +74,7 @@ module _ {A : Type 0} where
   -- ---- listings by place
 
   -- the kind of listings with a thing at least, each of which is read by its line and its place
-  abbrev pub by_places : List ℕ → ℕ → (ℕ → List ℕ → Option A) → Kind A
+  abbrev pub by_places : List ℕ → ℕ → (ℕ → List ℕ → Option A) → ListingKind A
   by_places word most read = record { word = word; most = most; line_read = λ listed line. read (length listed) line; may_end = is_some_listed }
 
   -- the lines of things from the place k on, each with its LF

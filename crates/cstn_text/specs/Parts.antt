@@ -6,18 +6,18 @@ use Rattle.cstn_text.specs.Names.{number_of}
 use Rattle.cstn_text.specs.PrintedNames.{name_read}
 
 -- a text split at a byte: the parts that end with it, without it, and what stands after the last one
-abbrev pub Parts : Type 0
-Parts = List (List ℕ) × List ℕ
+abbrev pub SplitText : Type 0
+SplitText = List (List ℕ) × List ℕ
 
 -- the split text with one more byte at the front of its first part
-abbrev pub begun : ℕ → List (List ℕ) → List ℕ → Parts
-begun b [] tail = ([], b ∷ tail)
-begun b (part ∷ parts) tail = ((b ∷ part) ∷ parts, tail)
+abbrev pub with_first_byte : ℕ → List (List ℕ) → List ℕ → SplitText
+with_first_byte b [] tail = ([], b ∷ tail)
+with_first_byte b (part ∷ parts) tail = ((b ∷ part) ∷ parts, tail)
 
-abbrev pub with_byte : ℕ → ℕ → Parts → Parts
-with_byte end b text = if b == end then ([] ∷ text.0, text.1) else begun b text.0 text.1
+abbrev pub with_byte : ℕ → ℕ → SplitText → SplitText
+with_byte end b text = if b == end then ([] ∷ text.0, text.1) else with_first_byte b text.0 text.1
 
-unfoldable pub parts_at : ℕ → List ℕ → Parts
+unfoldable pub parts_at : ℕ → List ℕ → SplitText
 parts_at end [] = ([], [])
 parts_at end (b ∷ bytes) = with_byte end b (parts_at end bytes)
 

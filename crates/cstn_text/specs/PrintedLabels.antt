@@ -28,45 +28,45 @@ abbrev pub printed_label : Label → List ℕ
 printed_label a = or_dash (marks_below a 52)
 
 -- the marks read so far, and the mark that the next letter gets: yes where no sign was read
-pub record Reading : Type 0 where
+pub record LabelReading : Type 0 where
   pub label : Label
   pub sign : Mark
 
-abbrev pub nothing_read : Reading
+abbrev pub nothing_read : LabelReading
 nothing_read = record { label = empty; sign = Yes }
 
 -- the reading after a sign; none where another sign is waiting for its letter
-abbrev pub signed : Label → Mark → Mark → Option Reading
+abbrev pub signed : Label → Mark → Mark → Option LabelReading
 signed a Absent sign = None
 signed a Yes sign = Some (record { label = a; sign = sign })
 signed a No sign = None
 signed a Unknown sign = None
 
 -- the reading after a letter: its proposition gets the mark of the sign; none where it has a mark already
-abbrev pub marked : Label → Mark → Mark → ℕ → Option Reading
+abbrev pub marked : Label → Mark → Mark → ℕ → Option LabelReading
 marked a sign Absent p = Some (record { label = with_mark a p sign; sign = Yes })
 marked a sign Yes p = None
 marked a sign No p = None
 marked a sign Unknown p = None
 
 -- the reading after one more byte, a sign or a letter; none where the byte is out of place
-abbrev pub after_byte : Reading → ℕ → Option Reading
-after_byte r b =
+abbrev pub reading_after : LabelReading → ℕ → Option LabelReading
+reading_after r b =
     if b == 33 then signed r.label r.sign No
     else if b == 63 then signed r.label r.sign Unknown
     else option_and_then (λ p. marked r.label r.sign (r.label p) p) (prop_of b)
 
 -- the label at the end of the bytes; none where a sign is left without its letter
-abbrev pub ended : Label → Mark → Option Label
-ended a Absent = None
-ended a Yes = Some a
-ended a No = None
-ended a Unknown = None
+abbrev pub label_ended : Label → Mark → Option Label
+label_ended a Absent = None
+label_ended a Yes = Some a
+label_ended a No = None
+label_ended a Unknown = None
 
 -- the label that the bytes are read as, one after the other
-abbrev pub marks_read : Reading → List ℕ → Option Label
-marks_read r [] = ended r.label r.sign
-marks_read r (b ∷ bytes) = option_and_then (λ next. marks_read next bytes) (after_byte r b)
+abbrev pub marks_read : LabelReading → List ℕ → Option Label
+marks_read r [] = label_ended r.label r.sign
+marks_read r (b ∷ bytes) = option_and_then (λ next. marks_read next bytes) (reading_after r b)
 
 -- the label of a text: `-` alone, or one or more marks, of each letter at most one
 abbrev pub label_read : List ℕ → Option Label

@@ -20,13 +20,13 @@ abbrev pub hex_value : ℕ → ℕ
 hex_value b = if nat_le 48 b && nat_le b 57 then b - 48 else if nat_le 65 b && nat_le b 70 then b - 55 else 0
 
 -- the byte that the two digits after a `%` write
-abbrev pub escaped_byte : List ℕ → ℕ
-escaped_byte bytes = 16 * hex_value (slice_index bytes 0) + hex_value (slice_index bytes 1)
+abbrev pub unescaped_byte : List ℕ → ℕ
+unescaped_byte bytes = 16 * hex_value (slice_index bytes 0) + hex_value (slice_index bytes 1)
 
 -- the text that was printed as these bytes, of which the first `skip` are passed over
 unfoldable pub unprinted_after : ℕ → List ℕ → List ℕ
 unprinted_after skip [] = []
-unprinted_after zero (b ∷ bytes) = (if b == 37 then escaped_byte bytes else b) ∷ unprinted_after (if b == 37 then 2 else 0) bytes
+unprinted_after zero (b ∷ bytes) = (if b == 37 then unescaped_byte bytes else b) ∷ unprinted_after (if b == 37 then 2 else 0) bytes
 unprinted_after (suc skip) (b ∷ bytes) = unprinted_after skip bytes
 
 -- the text that was printed as these bytes, if one was

@@ -10,7 +10,7 @@ ghost use Rattle.cstn_text.specs.Numbers.{number_read, printed_number, value_rea
 ghost use Rattle.cstn_text.specs.PrintedLabels.{label_read, printed_label, marks_text, label_with, AreNew};
 ghost use Rattle.cstn_text.specs.PrintedNames.{name_read, printed_name};
 ghost use Rattle.cstn_text.specs.Parts.{IsOnePart, parts_at, joined};
-ghost use Rattle.cstn_text.specs.Listings.{Kind, IsTextOf, told, tells};
+ghost use Rattle.cstn_text.specs.Listings.{ListingKind, IsTextOf, told, tells};
 
 /// Each number below 2^64 has one text.
 #[tactic(auto, using(crate::proofs::NumberLemmas::number_back, crate::proofs::NumberLemmas::number_printed))]
@@ -79,7 +79,8 @@ pub fn texts_are_their_parts()
 /// The texts that say a load and things are exactly those that have the word of their kind and a load in its range on the first
 /// line, and then the line of each thing, where the text may end after these.
 pub fn listings_are_their_texts<A>()
-    ensures said { (kind : Kind A) (bytes : List ℕ) (load : ℕ) (listed : List A) → told kind bytes ≡ tells load listed → IsTextOf kind load listed bytes }
-    ensures says { (kind : Kind A) (bytes : List ℕ) (load : ℕ) (listed : List A) → IsOnePart kind.word → kind.most < 2 ^ 64
+    ensures said { (kind : ListingKind A) (bytes : List ℕ) (load : ℕ) (listed : List A) → told kind bytes ≡ tells load listed →
+        IsTextOf kind load listed bytes }
+    ensures says { (kind : ListingKind A) (bytes : List ℕ) (load : ℕ) (listed : List A) → IsOnePart kind.word → kind.most < 2 ^ 64
         → IsTextOf kind load listed bytes → told kind bytes ≡ tells load listed }
 {}

@@ -3,10 +3,10 @@
 ghost use Rattle.std.specs.Prelude.{◌≡◌, ◌<◌, ◌++◌, IfOk, OnOk, OnErr, string_bytes};
 ghost use Rattle.std.specs.Option.{option_map};
 ghost use Rattle.cstn_label.specs.Read.{marks};
-ghost use Rattle.cstn_text.specs.PrintedLabels.{printed_mark, printed_label, marks_below, nothing_read, signed, marked, after_byte, ended, marks_read};
+ghost use Rattle.cstn_text.specs.PrintedLabels.{printed_mark, printed_label, marks_below, nothing_read, signed, marked, reading_after, label_ended, marks_read};
 ghost use Rattle.cstn_text.specs.PrintedLabels.{label_read};
 ghost use Rattle.cstn_text.specs.Readings.{the_reading};
-ghost use Rattle.cstn_text.specs.Pushes.{IsLonger};
+ghost use Rattle.cstn_text.specs.Pushes.{IsLongerText};
 
 use cstn_label::{Label, Mark, Prop};
 use std::alloc::{AllocError, Global};
@@ -23,7 +23,7 @@ pub fn print_label(alloc: Global, label: Label) -> Result<String, AllocError>
 /// Appends the printed form of a label. Where memory is refused, `text` may have some bytes more than before.
 pub fn push_label(text: &mut String, label: Label) -> Result<(), AllocError>
     ensures pushed { OnOk result (string_bytes text.new ≡ string_bytes text.old ++ printed_label (marks label)) }
-    ensures refused { OnErr result (IsLonger (string_bytes text.old) (string_bytes text.new)) }
+    ensures refused { OnErr result (IsLongerText (string_bytes text.old) (string_bytes text.new)) }
 {
     match label.first_marked_from(0) {
         Some(_) => push_marks(text, label),
@@ -46,7 +46,7 @@ pub fn read_label(bytes: &[u8]) -> Option<Label>
 // Appends the marks of a label in ascending order of their propositions, with one step for each.
 fn push_marks(text: &mut String, label: Label) -> Result<(), AllocError>
     ensures pushed { OnOk result (string_bytes text.new ≡ string_bytes text.old ++ marks_below (marks label) 52) }
-    ensures refused { OnErr result (IsLonger (string_bytes text.old) (string_bytes text.new)) }
+    ensures refused { OnErr result (IsLongerText (string_bytes text.old) (string_bytes text.new)) }
 {
     let mut from = 0;
     while let Some(p) = label.first_marked_from(from) {
@@ -59,7 +59,7 @@ fn push_marks(text: &mut String, label: Label) -> Result<(), AllocError>
 fn push_mark(text: &mut String, mark: Mark, letter: u8) -> Result<(), AllocError>
     requires { letter < 128 }
     ensures pushed { OnOk result (string_bytes text.new ≡ string_bytes text.old ++ printed_mark letter mark) }
-    ensures refused { OnErr result (IsLonger (string_bytes text.old) (string_bytes text.new)) }
+    ensures refused { OnErr result (IsLongerText (string_bytes text.old) (string_bytes text.new)) }
 {
     match mark {
         Mark::Absent => return Ok(()),
@@ -94,7 +94,7 @@ struct Reading {
 
 impl Reading {
     fn after(self, b: u8) -> Option<Reading>
-        ensures { option_map the_reading result ≡ after_byte (the_reading self) b }
+        ensures { option_map the_reading result ≡ reading_after (the_reading self) b }
     {
         match b {
             b'!' => self.signed(Mark::No),
@@ -128,7 +128,7 @@ impl Reading {
     }
 
     fn end(self) -> Option<Label>
-        ensures { option_map marks result ≡ ended (marks self.label) self.sign }
+        ensures { option_map marks result ≡ label_ended (marks self.label) self.sign }
     {
         match self.sign {
             Mark::Yes => Some(self.label),

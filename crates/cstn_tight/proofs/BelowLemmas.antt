@@ -9,7 +9,7 @@ use Rattle.cstn_net.specs.Strategies.{IsConsistent}
 use Rattle.cstn_rules.specs.declared.entries.Entry.{Entry as DeclaredEntry}
 use Rattle.cstn_rules.specs.Derivations.{IsRefutation}
 use Rattle.cstn_rules.specs.Read.{the_entry}
-use Rattle.cstn_log.specs.Cuts.{part}
+use Rattle.cstn_log.specs.Cuts.{last_with_ancestors}
 use Rattle.cstn_log.specs.Entries.{the_entries}
 use Rattle.cstn_refute.specs.Refutations.{RefutationParts, AreSteps}
 use Rattle.cstn_check.specs.Growth.{is_refuted, log_of, load_of}
@@ -49,9 +49,9 @@ module _ (net : Network) (good : IsWellFormed net) (consistent : IsConsistent ne
       over false stands = absurd (greatest_refuted net good consistent deadline (greatest_of (log_of net) place deadline f is) some (stands refl))
 
   module _ (few : place < most_load) (entries steps : List DeclaredEntry) (whole : the_entries entries ≡ log_of net)
-      (cut : the_entries steps ≡ part (the_entries (take (place + 1) entries))) where
-    part_before : the_entries steps ≡ part (log_of (at_deadline net (deadline - 1)))
-    part_before = cut ∙ ap part (sym (take-map the_entry (place + 1) entries) ∙ ap (take (place + 1)) whole ∙ sym before)
+      (cut : the_entries steps ≡ last_with_ancestors (the_entries (take (place + 1) entries))) where
+    part_before : the_entries steps ≡ last_with_ancestors (log_of (at_deadline net (deadline - 1)))
+    part_before = cut ∙ ap last_with_ancestors (sym (take-map the_entry (place + 1) entries) ∙ ap (take (place + 1)) whole ∙ sym before)
 
     pub steps_before : AreSteps steps
     steps_before =

@@ -23,7 +23,7 @@ use Rattle.cstn_check.proofs.Ends.{load_above}
 use Rattle.cstn_check.proofs.GoodLemmas.{good_at}
 use Rattle.cstn_closed.specs.Closed.{ClosedParts}
 use Rattle.cstn_closed.specs.Faults.{IsFaultless}
-use Rattle.cstn_closed.specs.Written.{IsNamed}
+use Rattle.cstn_closed.specs.Written.{IsNamedBound}
 use Rattle.cstn_tight.specs.Evidence.{IsClosedOf}
 use Rattle.cstn_net.proofs.Kept.{limit_in_time}
 
@@ -82,7 +82,7 @@ module _ (net : Network) (good : IsWellFormed net) where
   live_closed : IsConsistent net → IsClosed net (live_bounds (log_of net))
   live_closed consistent = log_closed net good.network good.letters ((log_decides net good.network good.letters).0 consistent)
 
-  named_by : (bounds : List Declared) → map the_bound bounds ≡ live_bounds (log_of net) → (names : List (List ℕ)) → length names ≡ count net → All (IsNamed names) bounds
+  named_by : (bounds : List Declared) → map the_bound bounds ≡ live_bounds (log_of net) → (names : List (List ℕ)) → length names ≡ count net → All (IsNamedBound names) bounds
   named_by bounds is names many = λ k d inside.
       let long = length-map bounds the_bound in
       let b = get_or bounds k d in

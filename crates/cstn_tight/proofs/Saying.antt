@@ -9,16 +9,16 @@ use Rattle.cstn_net.specs.Read.{NetworkParts, the_network}
 use Rattle.cstn_rules.specs.declared.entries.Entry.{Entry as DeclaredEntry}
 use Rattle.cstn_rules.specs.Derivations.{Entry}
 use Rattle.cstn_check.specs.Checks.{CheckParts}
-use Rattle.cstn_check.specs.Decisions.{unless_yes, or_else, TellsVerdict}
+use Rattle.cstn_check.specs.Decisions.{unless_yes, said_instead, TellsVerdict}
 use Rattle.cstn_check.specs.Growth.{log_of, load_of, live_bounds}
 use Rattle.cstn_check.specs.Verdicts.{IsRefutationOf}
 use Rattle.cstn_check.specs.declared.decisions.Judged.TheVariants.{Yes as SaysYes}
 use Rattle.cstn_check.specs.declared.verdicts.Verdict.TheVariants.{Yes}
 use Rattle.cstn_check.proofs.Deciding.{Tells, verdict_tells}
 use Rattle.cstn_refute.specs.Refutations.{RefutationParts, the_steps}
-use Rattle.cstn_refute.specs.Texts.{shown}
-use Rattle.cstn_closed.specs.Closed.{the_bounds}
-use Rattle.cstn_closed.specs.Texts.{shown as shown_bounds}
+use Rattle.cstn_refute.specs.Texts.{refutation_shown}
+use Rattle.cstn_closed.specs.Closed.{the_listed_bounds}
+use Rattle.cstn_closed.specs.Texts.{closed_shown as shown_bounds}
 use Rattle.cstn_reply.specs.Texts.{Said, line}
 use Rattle.cstn_reply.specs.Read.{the_said}
 use Rattle.cstn_reply.specs.declared.output.Said.{Said as SaidText}
@@ -49,8 +49,8 @@ before_is names net h None none some =
     is_zero n is = grind arith
 before_is names net h (Some r) none some =
     let later : nat_eq h 0 ≡ false = not_true (nat_eq h 0) (λ is. absurd (let f : IsNone (Some r) = none.1 (zero_of h is) in cc)) in
-    ap (λ (n : ℕ). shown names n (the_steps r)) some.load
-    ∙ ap (λ (es : List Entry). shown names (load_of (at_deadline net (h - 1))) es) some.part
+    ap (λ (n : ℕ). refutation_shown names n (the_steps r)) some.load
+    ∙ ap (λ (es : List Entry). refutation_shown names (load_of (at_deadline net (h - 1))) es) some.part
     ∙ sym (ap (λ (b : Bool). if b then [] else refuted_text names (at_deadline net (h - 1))) later)
   where
     zero_of : (n : ℕ) → nat_eq n 0 ≡ true → n ≡ 0
@@ -58,13 +58,13 @@ before_is names net h (Some r) none some =
 
 -- what is said of the least deadline of a consistent network
 tight_is : (names : List (List ℕ)) (net : Network) (tight : Tight) → IsWellFormed net → IsConsistent net → IsTightOf net tight →
-    line (codes "least " ++ decimal tight.deadline) ++ shown_bounds names tight.closed.load (the_bounds tight.closed) ++ told_before names tight.refutation
+    line (codes "least " ++ decimal tight.deadline) ++ shown_bounds names tight.closed.load (the_listed_bounds tight.closed) ++ told_before names tight.refutation
     ≡ (tight_said names net).text
 tight_is names net tight good consistent t =
     let h = tight.deadline in
     let at = at_deadline net h in
     let first = line (codes "least " ++ decimal h) in
-    ap (λ (n : ℕ). first ++ shown_bounds names n (the_bounds tight.closed) ++ told_before names tight.refutation) t.closed.load
+    ap (λ (n : ℕ). first ++ shown_bounds names n (the_listed_bounds tight.closed) ++ told_before names tight.refutation) t.closed.load
     ∙ ap (λ (bs : List Bound). first ++ shown_bounds names (load_of at) bs ++ told_before names tight.refutation) t.closed.bounds
     ∙ ap (λ (xs : List ℕ). first ++ shown_bounds names (load_of at) (live_bounds (log_of at)) ++ xs) (before_is names net h tight.refutation t.none t.refutation)
     ∙ ap (text_at names net) (one_least net h (least_deadline net) t.least (least_found net good consistent))
@@ -74,7 +74,7 @@ tight_is names net tight good consistent t =
         line (codes "least " ++ decimal k) ++ shown_bounds names (load_of (at_deadline net k)) (live_bounds (log_of (at_deadline net k)))
         ++ (if nat_eq k 0 then [] else refuted_text names (at_deadline net (k - 1)))
 
-pub yes_tightened : {E : Type 0} (cap : ℕ) (names : List (List ℕ)) (network : NetworkParts) (load : ℕ) (check : CheckParts) (tight : Tight) (res : Result SaidText E) → IsWellFormed (the_network network) → TellsVerdict cap names network (SaysYes load check) → IsTightOf (the_network check.net) tight → IfOk res (λ said. the_said said ≡ record { outcome = Good; text = line (codes "least " ++ decimal tight.deadline) ++ shown_bounds names tight.closed.load (the_bounds tight.closed) ++ told_before names tight.refutation }) → IfOk res (λ said. the_said said ≡ tightened cap names (the_network network))
+pub yes_tightened : {E : Type 0} (cap : ℕ) (names : List (List ℕ)) (network : NetworkParts) (load : ℕ) (check : CheckParts) (tight : Tight) (res : Result SaidText E) → IsWellFormed (the_network network) → TellsVerdict cap names network (SaysYes load check) → IsTightOf (the_network check.net) tight → IfOk res (λ said. the_said said ≡ record { outcome = Good; text = line (codes "least " ++ decimal tight.deadline) ++ shown_bounds names tight.closed.load (the_listed_bounds tight.closed) ++ told_before names tight.refutation }) → IfOk res (λ said. the_said said ≡ tightened cap names (the_network network))
 yes_tightened cap names network load check tight (Err e) good told t is = tt
 yes_tightened cap names network load check tight (Ok said) good told t is =
     let net : Network = the_network network in
@@ -82,7 +82,7 @@ yes_tightened cap names network load check tight (Ok said) good told t is =
     let consistent = subst (λ (n : NetworkParts). IsConsistent (the_network n)) told.2 (yes_consistent cap names network load check good told) in
     is
     ∙ ap (λ (text : List ℕ). record { outcome = Good; text = text }) (tight_is names net tight good consistent own)
-    ∙ sym (ap (λ v. or_else (unless_yes cap names net v) (tight_said names net)) told.0)
+    ∙ sym (ap (λ v. said_instead (unless_yes cap names net v) (tight_said names net)) told.0)
 
 -- the steps of a refutation are at time-points that have names
 pub steps_named : (names : List (List ℕ)) (net : Network) (o : Option RefutationParts) → length names ≡ count net → IfSome o (IsRefutationOf net) → AreStepsNamed names o

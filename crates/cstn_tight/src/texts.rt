@@ -3,9 +3,9 @@ ghost use Rattle.std.specs.Prelude.{◌≡◌, ◌<◌, ◌++◌, ℕ, List, Opt
 ghost use Rattle.std.specs.List.{All};
 ghost use Rattle.cstn_net.specs.Networks.{IsWellFormed, count};
 ghost use Rattle.cstn_net.specs.Read.{the_network};
-ghost use Rattle.cstn_closed.specs.Closed.{the_bounds};
-ghost use Rattle.cstn_closed.specs.Texts.{shown as shown_bounds};
-ghost use Rattle.cstn_closed.specs.Written.{IsNamed};
+ghost use Rattle.cstn_closed.specs.Closed.{the_listed_bounds};
+ghost use Rattle.cstn_closed.specs.Texts.{closed_shown as shown_bounds};
+ghost use Rattle.cstn_closed.specs.Written.{IsNamedBound};
 ghost use Rattle.cstn_reply.specs.Texts.{line};
 ghost use Rattle.cstn_reply.specs.Read.{the_said};
 ghost use Rattle.cstn_tight.specs.Texts.{tightened};
@@ -44,13 +44,13 @@ pub fn tight_text(
 }
 
 fn tight_said(alloc: Global, tight: &Tight, names: &Names) -> Result<Said, AllocError>
-    requires named { All (IsNamed names.now) tight.now.closed.bounds }
+    requires named { All (IsNamedBound names.now) tight.now.closed.bounds }
     requires steps { AreStepsNamed names.now tight.now.refutation }
     ensures said { IfOk result (λ said. the_said said
         ≡ record {
           outcome = Outcome.Good;
           text = line (codes "least " ++ decimal tight.now.deadline)
-              ++ shown_bounds names.now tight.now.closed.load (the_bounds tight.now.closed) ++ told_before names.now tight.now.refutation;
+              ++ shown_bounds names.now tight.now.closed.load (the_listed_bounds tight.now.closed) ++ told_before names.now tight.now.refutation;
         }) }
 {
     let mut text = format!(in alloc; "least {}\n", tight.deadline)?;

@@ -11,7 +11,7 @@ use Rattle.cstn_graphml.specs.Networks.{labelled_of, IsFit}
 use Rattle.cstn_lines.specs.HostLines.{host_read}
 use Rattle.cstn_check.specs.Decisions.{verdict}
 use Rattle.cstn_run.specs.hosted.Files.{Named, the_file, yes_lines}
-use Rattle.cstn_run.specs.hosted.Sessions.{host_turn, host_wants, host_ending, unfinished as unfinished_host, ended, begun as begun_host}
+use Rattle.cstn_run.specs.hosted.Sessions.{host_turn, host_wants, host_ending, unfinished as unfinished_host, host_ended, host_begun as begun_host}
 use Rattle.cstn_sentences.specs.Plans.{plan}
 use Rattle.cstn_sentences.specs.Refusals.{PlanRefusal}
 use Rattle.cstn_request.specs.Requests.{Request, of_network, of_labelled, of_text, of_document, of_plan, drill, host, version, network_labels, text_labels}
@@ -38,7 +38,7 @@ use Rattle.cstn_top.proofs.Turns.{host_answers}
 module _ (refused : Type 0) where
   -- ---- hosts
 
-  hosting_ends : (o : Option (ℕ × ℕ)) → IsAnswerIf refused (ended o).outcome
+  hosting_ends : (o : Option (ℕ × ℕ)) → IsAnswerIf refused (host_ended o).outcome
   hosting_ends None = tt
   hosting_ends (Some found) = tt
 
@@ -75,7 +75,7 @@ document_answered answer bytes deadline each live said output = by_said (labelle
     by_said (inl is) = subst IsAnswer (sym is.0) tt
     by_said (inr has) = by_found (parts_read (document bytes deadline)) has
 
-plan_answered : (told : Result Parts PlanRefusal) → IsAnswered (Unit {0}) (planned_of told)
+plan_answered : (parsed : Result Parts PlanRefusal) → IsAnswered (Unit {0}) (planned_of parsed)
 plan_answered (Err refusal) live said is = as_said (Unit {0}) said _ is tt
 plan_answered (Ok parts) live said (inl fit) = as_said (Unit {0}) said _ fit.1 tt
 plan_answered (Ok parts) live said (inr (inl unfit)) = as_said (Unit {0}) said _ unfit.2 tt

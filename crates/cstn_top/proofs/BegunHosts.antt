@@ -26,7 +26,7 @@ use Rattle.cstn_exec.specs.Running.{AreShort}
 use Rattle.cstn_check.specs.Decisions.{verdict, TellsVerdict}
 use Rattle.cstn_check.specs.declared.decisions.Judged.TheVariants.{Told}
 use Rattle.cstn_run.specs.hosted.Hosts.{no_plan}
-use Rattle.cstn_run.specs.hosted.Sessions.{File, HostSession, begun as begun_session, host_turn, host_wants, host_ending}
+use Rattle.cstn_run.specs.hosted.Sessions.{File, HostSession, host_begun as begun_session, host_turn, host_wants, host_ending}
 use Rattle.cstn_run.specs.hosted.Files.{Named, the_file, yes_lines}
 use Rattle.cstn_run.specs.hosted.SessionRead.{the_planned, the_files, the_names, the_host_session, IsHostSession}
 use Rattle.cstn_top.specs.Begun.{AreYes, HasBegun, the_named, IsBegin}
@@ -148,7 +148,7 @@ told_at cap all front later document begun said all_is so_far decided =
     ap (λ (ns : List Named). on_verdicts cap (attending (map the_named all)) ns) (ap (map the_named) all_is ∙ map-append the_named front (document ∷ later))
     ∙ after_all cap (attending (map the_named all)) (map the_named front) (the_named document ∷ map the_named later) so_far.verdicts
     ∙ ap (λ (o : Option Said). unless_said o (on_verdicts cap (attending (map the_named all)) (map the_named later))) decided in
-    subst (λ (p : Plan). ComesTo p (says (the_said said))) (sym same) (record { output = λ live s is. is; talks = λ may. may; fault = λ may taken. refl; stops = λ told said is. is })
+    subst (λ (p : Plan). ComesTo p (says (the_said said))) (sym same) (record { output = λ live s is. is; talks = λ may. may; fault = λ may taken. refl; stops = λ source said is. is })
 
 -- all verdicts were yes
 pub all_begun : {E : Type 0} (cap : ℕ) (all front : List NamedNetwork) (begun : Begun) (r : Result Prepared E) → all ≡ front → HasBegun cap (map the_named front) begun → IfOk r (IsBegin begun) → IfOk r (λ prepared. ComesTo (attended cap (map the_named all)) (the_plan prepared))
@@ -165,7 +165,7 @@ all_begun cap all front begun (Ok (Hosts opening hosted)) all_is so_far is =
     ∙ after_all cap (attending named) named [] so_far.verdicts
     ∙ ap (λ (o : List ℕ). wanting_session host_wants host_turn host_ending o (begun_session (map the_file named))) (sym (ap (λ (v : Vec ℕ Global). v.items) is.0 ∙ so_far.opening))
     ∙ ap (λ (w : HostSession). wanting_session host_wants host_turn host_ending opening.items w) (sym (is.1 ∙ ap begun_session so_far.files)) in
-    subst (λ (p : Plan). ComesTo p (wanting_session host_wants host_turn host_ending opening.items (the_host_session hosted))) (sym same) (record { output = λ live s is. is; talks = λ may. may; fault = λ may taken. refl; stops = λ told said is. is })
+    subst (λ (p : Plan). ComesTo p (wanting_session host_wants host_turn host_ending opening.items (the_host_session hosted))) (sym same) (record { output = λ live s is. is; talks = λ may. may; fault = λ may taken. refl; stops = λ source said is. is })
 
 -- the lines that say yes are whole lines
 yes_ends : (all : List Named) → EndsLine (yes_lines all)

@@ -36,11 +36,11 @@ short_document answer bytes deadline short =
 short_output : (answer : LabelledAnswer) (bytes : List ℕ) (deadline : Option ℕ) (live : List ℕ) (said : Said) → length bytes ≤ most_document → (judged answer (document bytes deadline)).output live said → (on_labelled answer bytes deadline).output live said
 short_output answer bytes deadline live said short output = subst (λ (plan : Plan). plan.output live said) (sym (short_document answer bytes deadline short)) output
 
-judged_output : (answer : LabelledAnswer) (told : Result Parts Refusal) (live : List ℕ) (said : Said) → IsRefusalOfParts told said → (judged answer told).output live said
+judged_output : (answer : LabelledAnswer) (parsed : Result Parts Refusal) (live : List ℕ) (said : Said) → IsRefusalOfParts parsed said → (judged answer parsed).output live said
 judged_output answer (Err refusal) live said is = is
 judged_output answer (Ok parts) live said is = inr is
 
-labels_output : (answer : NetworkAnswer) (told : Result Parts Refusal) (live : List ℕ) (said : Said) → IsLabelsTold told said → (judged (of_plain answer) told).output live said
+labels_output : (answer : NetworkAnswer) (parsed : Result Parts Refusal) (live : List ℕ) (said : Said) → IsLabelsTold parsed said → (judged (of_plain answer) parsed).output live said
 labels_output answer (Err refusal) live said is = absurd is
 labels_output answer (Ok parts) live said (fit, labelled, is) = inl (fit, inr (labelled, is))
 
@@ -59,7 +59,7 @@ plain_refusal_output answer bytes deadline said (inr (short, is)) live =
 
 -- a plan says what it says itself
 pub comes_itself : (plan : Plan) → ComesTo plan plan
-comes_itself plan = record { output = λ live said is. is; talks = λ may. may; fault = λ may taken. refl; stops = λ told said is. is }
+comes_itself plan = record { output = λ live said is. is; talks = λ may. may; fault = λ may taken. refl; stops = λ source said is. is }
 
 pub comes_same : (plan other : Plan) → other ≡ plan → ComesTo plan other
 comes_same plan other is = subst (ComesTo plan) (sym is) (comes_itself plan)
@@ -70,7 +70,7 @@ comes_to_text plan said output = record {
   output = λ live other is. subst (λ (s : Said). plan.output live s) (sym is) (output live);
   talks = λ may. absurd may;
   fault = λ may taken. absurd may;
-  stops = λ told said is. absurd is;
+  stops = λ source said is. absurd is;
 }
 
 -- what is said of the parts of a document, where they make a network without labels
@@ -79,7 +79,7 @@ judges_comes parts plan other good comes = record {
   output = λ live said is. inl (good.0, inl (good.1, comes.output live said is));
   talks = λ may. (good.0, (good.1, comes.talks may));
   fault = λ may taken. comes.fault may taken;
-  stops = λ told said is. (good.0, (good.1, comes.stops told said is));
+  stops = λ source said is. (good.0, (good.1, comes.stops source said is));
 }
 
 -- what is said of a document that was accepted
@@ -104,7 +104,7 @@ fit_comes form parts plan other fit comes = record {
   output = λ live said is. inl (fit, comes.output live said is);
   talks = λ may. (fit, comes.talks may);
   fault = λ may taken. comes.fault may taken;
-  stops = λ told said is. (fit, comes.stops told said is);
+  stops = λ source said is. (fit, comes.stops source said is);
 }
 
 -- what is said of a labelled network
@@ -134,7 +134,7 @@ comes_through one two three first later = record {
   output = λ live said is. first.output live said (later.output live said is);
   talks = λ may. first.talks (later.talks may);
   fault = λ may taken. later.fault may taken ∙ first.fault (later.talks may) taken;
-  stops = λ told said is. first.stops told said (later.stops told said is);
+  stops = λ source said is. first.stops source said (later.stops source said is);
 }
 
 -- what is said by a text that isn't too long

@@ -26,8 +26,8 @@ use Rattle.cstn_element.specs.NumberTexts.{deadline_of}
 use Rattle.cstn_element.specs.Contents.{Tag, Content, inner, outer, opened, closed_by, contents_by, contents, content_of}
 use Rattle.cstn_element.specs.Contents.Content.{done, cut, run, element}
 use Rattle.cstn_element.specs.Elements.{Reading, read_by, Datum, blank, passed, datum, data_of, datum_of, attribute, read_of, read_option, or_no_bytes}
-use Rattle.cstn_graphml.specs.DrawnGraph.{Observation, observation, DrawnGraph, empty_graph, origin_name, node_of, with_node, with_constraint, with_deadline}
-use Rattle.cstn_graphml.specs.Judged.{judged_node, judged_edge, judged_deadline, with_pair, with_pairs, with_values, with_edge, is_kept, observed, reacting, labelled}
+use Rattle.cstn_graphml.specs.DrawnGraph.{Observation, observation, DrawnGraph, empty_graph, origin_name, node_of, with_node, with_drawn_constraint, with_deadline}
+use Rattle.cstn_graphml.specs.Judged.{judged_node, judged_edge, judged_deadline, with_pair, with_pairs, with_values, with_edge, is_edge_kept, prop_in_datum, reacting, labelled}
 use Rattle.cstn_graphml.specs.Document.Part.{a_datum, a_node, an_edge, another}
 use Rattle.cstn_graphml.proofs.FreshNames.{fresh}
 
@@ -160,8 +160,8 @@ unfolding with_pairs
 pairs_names at from to [] d e k = ap (λ (g : DrawnGraph). g.names) (ok_is d e k)
 pairs_names at from to (p ∷ pairs) d e k =
     let b = bind_ok (with_pair at from to p d) (with_pairs at from to pairs) e k in
-    let q = bind_ok (or_refused p.label (label_text at)) (λ label. Ok (with_constraint (record { from = from; to = to; most = p.most; label = label }) d)) b.0 b.1 in
-    let is = ok_is (with_constraint (record { from = from; to = to; most = p.most; label = q.0 }) d) b.0 q.2 in
+    let q = bind_ok (or_refused p.label (label_text at)) (λ label. Ok (with_drawn_constraint (record { from = from; to = to; most = p.most; label = label }) d)) b.0 b.1 in
+    let is = ok_is (with_drawn_constraint (record { from = from; to = to; most = p.most; label = q.0 }) d) b.0 q.2 in
     ap (λ (g : DrawnGraph). g.names) is ∙ pairs_names at from to pairs b.0 e b.2
 
 values_names : (from to : ℕ) (found : Option Datum) (d e : DrawnGraph) → with_values from to found d ≡ Ok e → d.names ≡ e.names
@@ -179,9 +179,9 @@ edge_names true at source target d e found k =
 
 edge_judged : (tag : Tag) (d e : DrawnGraph) (found : List Datum) → IsNamedGraph d → judged_edge tag d found ≡ Ok e → IsNamedGraph e
 edge_judged tag d e found h k =
-    let a = bind_ok (or_refused (attribute (codes "source") tag) (shape tag.at)) (λ source. or_refused (attribute (codes "target") tag) (shape tag.at) >>= λ target. is_kept (datum_of (codes "Type") found) >>= λ keeps. with_edge keeps tag.at source target d found) e k in
-    let b = bind_ok (or_refused (attribute (codes "target") tag) (shape tag.at)) (λ target. is_kept (datum_of (codes "Type") found) >>= λ keeps. with_edge keeps tag.at a.0 target d found) e a.2 in
-    let c = bind_ok (is_kept (datum_of (codes "Type") found)) (λ keeps. with_edge keeps tag.at a.0 b.0 d found) e b.2 in
+    let a = bind_ok (or_refused (attribute (codes "source") tag) (shape tag.at)) (λ source. or_refused (attribute (codes "target") tag) (shape tag.at) >>= λ target. is_edge_kept (datum_of (codes "Type") found) >>= λ keeps. with_edge keeps tag.at source target d found) e k in
+    let b = bind_ok (or_refused (attribute (codes "target") tag) (shape tag.at)) (λ target. is_edge_kept (datum_of (codes "Type") found) >>= λ keeps. with_edge keeps tag.at a.0 target d found) e a.2 in
+    let c = bind_ok (is_edge_kept (datum_of (codes "Type") found)) (λ keeps. with_edge keeps tag.at a.0 b.0 d found) e b.2 in
     renamed d e (edge_names c.0 tag.at a.0 b.0 d e found c.2) h
 
 deadline_judged : (d e : DrawnGraph) (found : Option Datum) → IsNamedGraph d → judged_deadline d found ≡ Ok e → IsNamedGraph e
@@ -200,10 +200,10 @@ node_added false name observed' label d h is fresh' = record {
 
 node_judged : (tag : Tag) (d e : DrawnGraph) (found : List Datum) → IsClearTag tag → IsNamedGraph d → judged_node tag d found ≡ Ok e → IsNamedGraph e
 node_judged tag d e found clear h k =
-    let a = bind_ok (or_refused (attribute (codes "id") tag) (shape tag.at)) (λ id. demand (nat_lt 0 (length id) && nat_le (length id) 64) (bad_value tag.at) >>= λ sized. demand (not (is_some (node_of id d))) (name_twice tag.at) >>= λ fresh. observed (datum_of (codes "Obs") found) >>= λ prop. reacting (datum_of (codes "Reaction") found) >>= λ ticks. labelled (datum_of (codes "Label") found) >>= λ label. Ok (with_node id (observation prop ticks) label d)) e k in
-    let b = bind_ok (demand (nat_lt 0 (length a.0) && nat_le (length a.0) 64) (bad_value tag.at)) (λ sized. demand (not (is_some (node_of a.0 d))) (name_twice tag.at) >>= λ fresh. observed (datum_of (codes "Obs") found) >>= λ prop. reacting (datum_of (codes "Reaction") found) >>= λ ticks. labelled (datum_of (codes "Label") found) >>= λ label. Ok (with_node a.0 (observation prop ticks) label d)) e a.2 in
-    let c = bind_ok (demand (not (is_some (node_of a.0 d))) (name_twice tag.at)) (λ fresh. observed (datum_of (codes "Obs") found) >>= λ prop. reacting (datum_of (codes "Reaction") found) >>= λ ticks. labelled (datum_of (codes "Label") found) >>= λ label. Ok (with_node a.0 (observation prop ticks) label d)) e b.2 in
-    let p = bind_ok (observed (datum_of (codes "Obs") found)) (λ prop. reacting (datum_of (codes "Reaction") found) >>= λ ticks. labelled (datum_of (codes "Label") found) >>= λ label. Ok (with_node a.0 (observation prop ticks) label d)) e c.2 in
+    let a = bind_ok (or_refused (attribute (codes "id") tag) (shape tag.at)) (λ id. demand (nat_lt 0 (length id) && nat_le (length id) 64) (bad_value tag.at) >>= λ sized. demand (not (is_some (node_of id d))) (name_twice tag.at) >>= λ fresh. prop_in_datum (datum_of (codes "Obs") found) >>= λ prop. reacting (datum_of (codes "Reaction") found) >>= λ ticks. labelled (datum_of (codes "Label") found) >>= λ label. Ok (with_node id (observation prop ticks) label d)) e k in
+    let b = bind_ok (demand (nat_lt 0 (length a.0) && nat_le (length a.0) 64) (bad_value tag.at)) (λ sized. demand (not (is_some (node_of a.0 d))) (name_twice tag.at) >>= λ fresh. prop_in_datum (datum_of (codes "Obs") found) >>= λ prop. reacting (datum_of (codes "Reaction") found) >>= λ ticks. labelled (datum_of (codes "Label") found) >>= λ label. Ok (with_node a.0 (observation prop ticks) label d)) e a.2 in
+    let c = bind_ok (demand (not (is_some (node_of a.0 d))) (name_twice tag.at)) (λ fresh. prop_in_datum (datum_of (codes "Obs") found) >>= λ prop. reacting (datum_of (codes "Reaction") found) >>= λ ticks. labelled (datum_of (codes "Label") found) >>= λ label. Ok (with_node a.0 (observation prop ticks) label d)) e b.2 in
+    let p = bind_ok (prop_in_datum (datum_of (codes "Obs") found)) (λ prop. reacting (datum_of (codes "Reaction") found) >>= λ ticks. labelled (datum_of (codes "Label") found) >>= λ label. Ok (with_node a.0 (observation prop ticks) label d)) e c.2 in
     let r = bind_ok (reacting (datum_of (codes "Reaction") found)) (λ ticks. labelled (datum_of (codes "Label") found) >>= λ label. Ok (with_node a.0 (observation p.0 ticks) label d)) e p.2 in
     let u = bind_ok (labelled (datum_of (codes "Label") found)) (λ label. Ok (with_node a.0 (observation p.0 r.0) label d)) e r.2 in
     let is = shaped a.0 (demanded _ (bad_value tag.at) b.0 b.1) (attribute_clear (codes "id") tag a.0 clear (given (attribute (codes "id") tag) (shape tag.at) a.0 a.1)) in

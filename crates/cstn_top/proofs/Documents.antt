@@ -38,7 +38,7 @@ pub record IsOfDocument (names : List (List ℕ)) (net : Network) : Type 0 where
 pub labelled_says : (answer : LabelledAnswer) (bytes : List ℕ) (deadline : Option ℕ) (live : List ℕ) (said : Said) → (on_labelled answer bytes deadline).output live said → ((said.outcome ≡ Document) × IsNoDocument bytes deadline) ⊎ HasLabelled bytes deadline (λ names m. (answer names m).output live said)
 labelled_says answer bytes deadline live said output = by_length (nat_lt most_document (length bytes)) refl output
   where
-    by_parts : (told : Result Parts DocumentRefusal) → (judged answer told).output live said → ((said.outcome ≡ Document) × (IsSomeAnd (parts_read told) (λ parts. IsFit parts × Unit {0}) → ⊥)) ⊎ IsSomeAnd (parts_read told) (λ parts. IsFit parts × (answer parts.names (labelled_of parts)).output live said)
+    by_parts : (parsed : Result Parts DocumentRefusal) → (judged answer parsed).output live said → ((said.outcome ≡ Document) × (IsSomeAnd (parts_read parsed) (λ parts. IsFit parts × Unit {0}) → ⊥)) ⊎ IsSomeAnd (parts_read parsed) (λ parts. IsFit parts × (answer parts.names (labelled_of parts)).output live said)
     by_parts (Err refusal) is = inl (ap (λ (s : Said). s.outcome) is, λ has. has)
     by_parts (Ok parts) (inl fit) = inr fit
     by_parts (Ok parts) (inr (inl unfit)) = inl (ap (λ (s : Said). s.outcome) unfit.2, λ has. fits parts unfit.0 has.0.labelled.base unfit.1)
@@ -81,7 +81,7 @@ document_says answer bytes deadline live said output = by_said (labelled_says (o
 pub labelled_talks : (answer : LabelledAnswer) (bytes : List ℕ) (deadline : Option ℕ) → (on_labelled answer bytes deadline).talks → HasLabelled bytes deadline (λ names m. (answer names m).talks)
 labelled_talks answer bytes deadline may = by_length (nat_lt most_document (length bytes)) may
   where
-    by_parts : (told : Result Parts DocumentRefusal) → (judged answer told).talks → IsSomeAnd (parts_read told) (λ parts. IsFit parts × (answer parts.names (labelled_of parts)).talks)
+    by_parts : (parsed : Result Parts DocumentRefusal) → (judged answer parsed).talks → IsSomeAnd (parts_read parsed) (λ parts. IsFit parts × (answer parts.names (labelled_of parts)).talks)
     by_parts (Err refusal) is = is
     by_parts (Ok parts) is = is
 
@@ -113,6 +113,6 @@ of_network bytes deadline parts is fit =
 pub document_then : (bytes : List ℕ) (deadline : Option ℕ) (one other : List (List ℕ) → Network → Type 0) → HasNetwork bytes deadline one → ((names : List (List ℕ)) (net : Network) → IsOfDocument names net → one names net → other names net) → HasNetwork bytes deadline other
 document_then bytes deadline one other has follows = by_result (document bytes deadline) refl has
   where
-    by_result : (told : Result Parts DocumentRefusal) → document bytes deadline ≡ told → IsSomeAnd (parts_read told) (λ parts. AreUnlabelled parts × one parts.names (network_of parts)) → IsSomeAnd (parts_read told) (λ parts. AreUnlabelled parts × other parts.names (network_of parts))
+    by_result : (parsed : Result Parts DocumentRefusal) → document bytes deadline ≡ parsed → IsSomeAnd (parts_read parsed) (λ parts. AreUnlabelled parts × one parts.names (network_of parts)) → IsSomeAnd (parts_read parsed) (λ parts. AreUnlabelled parts × other parts.names (network_of parts))
     by_result (Err refusal) is h = h
     by_result (Ok parts) is h = (h.0, follows parts.names (network_of parts) (of_network bytes deadline parts is h.0.0) h.1)

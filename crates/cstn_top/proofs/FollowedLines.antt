@@ -5,11 +5,14 @@ use Rattle.cstn_lift.specs.Labelled.{Labelled}
 use Rattle.cstn_save.specs.Canonical.{head, nodes, edges, canonical}
 use Rattle.cstn_check.specs.declared.verdicts.Verdict.{Verdict}
 use Rattle.cstn_check.specs.declared.verdicts.Verdict.TheVariants.{Yes, No, Full}
+use Rattle.hex.specs.Hex.{encode_lower}
+use Rattle.sha2.specs.Sha256.{sha256}
+use Rattle.cstn_follow.specs.Digests.{digest_line}
 use Rattle.cstn_follow.specs.Following.{begun_following, verdict_now, verdict_line}
 use Rattle.cstn_follow.specs.Marks.{Marked, begun_marked, marked_by, marked_ending}
 use Rattle.cstn_follow.specs.MarkedRead.{MarkedParts, the_marked, the_marked_heard}
 use Rattle.cstn_follow.specs.declared.following.Heard.{Heard as HeardText}
-use Rattle.cstn_follow.specs.declared.following.Heard.TheVariants.{Text, Rest}
+use Rattle.cstn_follow.specs.declared.following.Heard.TheVariants.{Text, Rest, Digest}
 use Rattle.cstn_reply.specs.Texts.{line}
 use Rattle.cstn_reply.specs.Sessions.{more}
 use Rattle.cstn_reply.specs.Written.{EndsLine}
@@ -24,6 +27,9 @@ line_behind xs front = inr (xs ++ front, sym (append_assoc xs front (10 ∷ []))
 pub canonical_ends : (m : Labelled) (names : List (List ℕ)) → EndsLine (canonical m names)
 canonical_ends m names = line_behind ((head m.base.deadline ++ nodes names m) ++ edges names m.base.constraints) (codes "</graph>\n</graphml>")
 
+pub digest_ends : (text : List ℕ) → EndsLine (digest_line text)
+digest_ends text = line_behind [] (codes "digest " ++ encode_lower (sha256 text))
+
 -- the version and the first verdict are whole lines
 pub opening_ends : (cap : ℕ) (v : Verdict) → EndsLine (line (codes "follow 1") ++ verdict_line cap v)
 opening_ends cap (Yes load) = line_behind (line (codes "follow 1")) (codes "yes " ++ decimal load)
@@ -35,6 +41,7 @@ pub turn_is : (t : MarkedParts) (h : HeardText)
     → marked_by canonical (the_marked_heard t h).heard (the_marked_heard t h).marks ≡ more (heard_text h) (the_marked t)
 turn_is t (Text text) = refl
 turn_is t (Rest network names) = refl
+turn_is t (Digest network names) = refl
 
 -- the session begins as is said of the labelled network
 pub begins : (cap : ℕ) (names : List (List ℕ)) (m : Labelled) (t : MarkedParts) (v : Verdict) (opening : List ℕ) → the_marked t ≡ begun_marked cap names m

@@ -12,7 +12,7 @@ use Rattle.cstn_check.specs.Growth.{log_of, load_of, live_bounds}
 use Rattle.cstn_check.specs.declared.verdicts.Verdict.TheVariants.{Yes}
 use Rattle.cstn_text.specs.PrintedNames.{printed_name}
 use Rattle.cstn_lines.specs.Pieces.{lines_of, whole_lines}
-use Rattle.cstn_exec.specs.Guides.{Guided, begun as begun_guide}
+use Rattle.cstn_exec.specs.Guides.{Guided, guide_begun as begun_guide}
 use Rattle.cstn_exec.specs.GuideRead.{GuideParts}
 use Rattle.cstn_reply.specs.Texts.{yes_line, after_text}
 use Rattle.cstn_top.specs.Plans.{Plan, ComesTo, session}
@@ -28,7 +28,7 @@ comes_guided opening r = record {
   output = λ live said is. is ∙ ap (after_text opening) (play_as r 0 (lines_of live));
   talks = λ may. tt;
   fault = λ may taken. ap (option_map (λ (xs : List ℕ). opening ++ xs)) (heard_as r (whole_lines taken));
-  stops = λ told said is. absurd (let never : false ≡ true = is.2.is_kind in let f : ⊥ = cc in f);
+  stops = λ source said is. absurd (let never : false ≡ true = is.2.is_kind in let f : ⊥ = cc in f);
 }
 
 -- after yes, a session from the beginning on, by the bounds of the log, says what is said of the labelled network

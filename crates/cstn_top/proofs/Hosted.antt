@@ -18,8 +18,8 @@ nothing_more : (xs : List (List ℕ)) → xs ++ [] ≡ xs
 nothing_more xs = grind (arith, common_steps)
 
 -- all documents were accepted
-pub host_asked : (told : Option (List ℕ → Option (List ℕ))) (cap : Cap) (deadline : Option ℕ) (files : List (List ℕ)) (documents : Vec NamedNetwork Global) → HasRead told deadline files documents.items → Asks (host files deadline cap.entries) told (Host documents cap)
-host_asked told cap deadline files documents read = record {
+pub host_asked : (shelf : Option (List ℕ → Option (List ℕ))) (cap : Cap) (deadline : Option ℕ) (files : List (List ℕ)) (documents : Vec NamedNetwork Global) → HasRead shelf deadline files documents.items → Asks (host files deadline cap.entries) shelf (Host documents cap)
+host_asked shelf cap deadline files documents read = record {
   contents = read.contents;
   are = read.are;
   comes = subst (λ (contents : List (List ℕ)). ComesTo (on_documents (attended cap.entries) deadline [] contents) (attended cap.entries (map the_named documents.items))) (nothing_more read.contents) (documents_come (attended cap.entries) deadline [] read.contents [] documents.items read.accepted);

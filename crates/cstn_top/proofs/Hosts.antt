@@ -6,8 +6,8 @@ use Rattle.std.proofs.Math.Seq.{get_or-append_seam}
 use Rattle.cstn_net.specs.Networks.{Network}
 use Rattle.cstn_graphml.specs.Document.{Parts, document}
 use Rattle.cstn_graphml.specs.Networks.{network_of}
-use Rattle.cstn_log.specs.Cuts.{part}
-use Rattle.cstn_refute.specs.Texts.{shown}
+use Rattle.cstn_log.specs.Cuts.{last_with_ancestors}
+use Rattle.cstn_refute.specs.Texts.{refutation_shown}
 use Rattle.cstn_check.specs.Growth.{is_refuted, log_of, load_of}
 use Rattle.cstn_check.specs.declared.verdicts.Verdict.{Verdict}
 use Rattle.cstn_check.specs.declared.verdicts.Verdict.TheVariants.{Yes, No, Full as IsFullVerdict}
@@ -31,7 +31,7 @@ use Rattle.cstn_request.proofs.Contents.{none_there}
 use Rattle.cstn_lines.specs.Pieces.{lines_of}
 use Rattle.cstn_check.specs.Decisions.{verdict, IsYes, IsNo}
 use Rattle.cstn_check.proofs.Deciding.{Tells, verdict_tells}
-use Rattle.cstn_run.specs.hosted.Sessions.{begun, host_turn, host_wants, host_ending}
+use Rattle.cstn_run.specs.hosted.Sessions.{host_begun, host_turn, host_wants, host_ending}
 use Rattle.cstn_run.specs.hosted.Files.{Named, the_file, yes_lines}
 use Rattle.cstn_request.specs.Several.{HasRefusedFile}
 use Rattle.cstn_run.proofs.hosts.Plays.{IsEnd, plays}
@@ -41,7 +41,7 @@ use Rattle.cstn_top.proofs.ReadAll.{no_more, refused_come}
 
 -- what follows where the verdict on each network is yes
 abbrev pub session_of : ℕ → List Named → Plan
-session_of cap all = wanting_session host_wants host_turn host_ending (yes_lines all) (begun (map the_file all))
+session_of cap all = wanting_session host_wants host_turn host_ending (yes_lines all) (host_begun (map the_file all))
 
 -- the documents with these contents have these networks under these names
 abbrev pub AreNetworks : List (List ℕ) → Option ℕ → List Named → Type 0
@@ -109,7 +109,7 @@ documents_say answer deadline live said before (bytes ∷ rest) output =
 
 -- a network of a document has no strategy, and its refutation is told
 abbrev pub IsToldNo : ℕ → Said → List (List ℕ) → Network → Type 0
-IsToldNo cap said names net = IsNamedNetwork names net × IsNo cap net × (said.text ≡ shown names (load_of net) (part (log_of net)))
+IsToldNo cap said names net = IsNamedNetwork names net × IsNo cap net × (said.text ≡ refutation_shown names (load_of net) (last_with_ancestors (log_of net)))
 
 -- where `other` follows from `one` of each network, `FirstHas` with `other` follows from `FirstHas` with `one`
 pub first_then : (contents : List (List ℕ)) (deadline : Option ℕ) (cap : ℕ) (one other : List (List ℕ) → Network → Type 0) → ((names : List (List ℕ)) (net : Network) → one names net → other names net) → FirstHas contents deadline cap one → FirstHas contents deadline cap other
@@ -152,8 +152,8 @@ verdicts_say cap after_yes deadline live said (bytes ∷ rest) (n ∷ ns) are ou
     by_verdict : ((on_verdicts cap after_yes ns).output live said → Says rest) → (v : Verdict) → verdict cap n.net ≡ v → Tells cap n.net v → (plan_on_verdict cap n.names n.net (on_verdicts cap after_yes ns) v).output live said → Says (bytes ∷ rest)
     by_verdict later (Yes load) same tells' is = by_later tells' (later is)
     by_verdict later (No load) same tells' is =
-        let text : said.text ≡ shown n.names (load_of n.net) (part (log_of n.net)) =
-        ap (λ (s : Said). s.text) is ∙ ap (λ (l : ℕ). shown n.names l (part (log_of n.net))) (load_told cap load n.net same) in
+        let text : said.text ≡ refutation_shown n.names (load_of n.net) (last_with_ancestors (log_of n.net)) =
+        ap (λ (s : Said). s.text) is ∙ ap (λ (l : ℕ). refutation_shown n.names l (last_with_ancestors (log_of n.net))) (load_told cap load n.net same) in
         inr (inl (ap (λ (s : Said). s.outcome) is, inl (has (IsToldNo cap said) (are.1, tells', text))))
     by_verdict later IsFullVerdict same tells' is = inr (inr (ap (λ (s : Said). s.outcome) is, inl (has (λ names net. cap < load_of net) tells')))
 
@@ -184,7 +184,7 @@ host_tells cap deadline contents live said output = by_documents (documents_say 
     by_verdicts : (all : List Named) → (EachHas contents deadline (IsYes cap) × (session_of cap all).output live said) ⊎ (((said.outcome ≡ Bad) × FirstHas contents deadline cap (IsToldNo cap said)) ⊎ ((said.outcome ≡ Full) × FirstHas contents deadline cap (λ names net. cap < load_of net))) → HostTells cap deadline contents said said.outcome
     by_verdicts all (inl (each, out)) =
         end_tells cap deadline contents said said.outcome
-        (subst IsEnd (sym (ap (λ (s : Said). s.outcome) out)) (plays (begun (map the_file all)) 0 (lines_of live))) each
+        (subst IsEnd (sym (ap (λ (s : Said). s.outcome) out)) (plays (host_begun (map the_file all)) 0 (lines_of live))) each
     by_verdicts all (inr (inl (bad, first))) = subst (HostTells cap deadline contents said) (sym bad) first
     by_verdicts all (inr (inr (full, first))) = subst (HostTells cap deadline contents said) (sym full) first
 
@@ -226,18 +226,18 @@ host_talks cap deadline contents may =
 
 -- ---- the files that were read
 
-pub files_all : (told : Option (List ℕ → Option (List ℕ))) (names : List (List ℕ)) (status : Status) → AreThere told names → AreThere told (take 1 names) → AreThere told (files_read status names)
-files_all told names IsGood there first = there
-files_all told names IsBad there first = there
-files_all told names IsWords there first = none_there told
-files_all told names IsRefusedStatus there first = first
-files_all told names IsFullStatus there first = there
-files_all told names ReadFault there first = none_there told
-files_all told names WriteFault there first = none_there told
-files_all told names NoMemory there first = none_there told
-files_all told names IsUnfinished there first = there
-files_all told names IsScript there first = there
-files_all told names IsWideStatus there first = there
+pub files_all : (shelf : Option (List ℕ → Option (List ℕ))) (names : List (List ℕ)) (status : Status) → AreThere shelf names → AreThere shelf (take 1 names) → AreThere shelf (files_read status names)
+files_all shelf names IsGood there first = there
+files_all shelf names IsBad there first = there
+files_all shelf names IsWords there first = none_there shelf
+files_all shelf names IsRefusedStatus there first = first
+files_all shelf names IsFullStatus there first = there
+files_all shelf names ReadFault there first = none_there shelf
+files_all shelf names WriteFault there first = none_there shelf
+files_all shelf names NoMemory there first = none_there shelf
+files_all shelf names IsUnfinished there first = there
+files_all shelf names IsScript there first = there
+files_all shelf names IsWideStatus there first = there
 
 first_of_them : (is_there : List ℕ → Bool) (place : ℕ) (names : List (List ℕ)) → list_all is_there (take (suc place) names) ≡ true → list_all is_there (take 1 names) ≡ true
 first_of_them is_there place [] all = refl
@@ -248,8 +248,8 @@ first_of_them is_there place (name ∷ names) all = by_both (is_there name) (lis
     by_both false later all = absurd (cc)
 
 -- where as many files as stand up to a place are there, so is the first
-first_of_more : (told : Option (List ℕ → Option (List ℕ))) (names : List (List ℕ)) (place : ℕ) → AreThere told (take (suc place) names) → AreThere told (take 1 names)
-first_of_more told names place there = λ files e. first_of_them (λ name. is_some (files name)) place names (there files e)
+first_of_more : (shelf : Option (List ℕ → Option (List ℕ))) (names : List (List ℕ)) (place : ℕ) → AreThere shelf (take (suc place) names) → AreThere shelf (take 1 names)
+first_of_more shelf names place there = λ files e. first_of_them (λ name. is_some (files name)) place names (there files e)
 
 -- what is said of a document, whatever would be said of its network, says that it is refused
 plainly_refused : (bytes : List ℕ) (deadline : Option ℕ) (said : Said) → IsSaidPlainly bytes deadline said → said.outcome ≡ Document → IsRefused bytes deadline
@@ -269,18 +269,18 @@ plainly_refused bytes deadline said plainly outcome = by_said (document_says yes
         let never : Document ≡ Good = sym outcome ∙ other in absurd (cc)
 
 -- where a document of a host is refused, that is what the host says, the document is there, and so is each file before it
-pub host_told : (told : Option (List ℕ → Option (List ℕ))) (before after : Option (List (List ℕ))) (cap : ℕ) (deadline : Option ℕ) (files : List (List ℕ)) (said : SaidText) → HasRefusedFile told before after deadline files said → Planned (host files deadline cap) told (says (the_said said))
-host_told told before after cap deadline files said is = record {
+pub host_told : (shelf : Option (List ℕ → Option (List ℕ))) (before after : Option (List (List ℕ))) (cap : ℕ) (deadline : Option ℕ) (files : List (List ℕ)) (said : SaidText) → HasRefusedFile shelf before after deadline files said → Planned (host files deadline cap) shelf (says (the_said said))
+host_told shelf before after cap deadline files said is = record {
   contents = is.contents;
   are = is.are;
-  comes = refused_come (attended cap) told before after deadline files said is;
+  comes = refused_come (attended cap) shelf before after deadline files said is;
   there = λ live other output.
-      subst (λ (o : Outcome). AreThere told (files_read (status_of o) files)) (sym (ap (λ (s : Said). s.outcome) output ∙ is.outcome)) (first_of_more told files (length is.file.earlier) is.file.read.there);
+      subst (λ (o : Outcome). AreThere shelf (files_read (status_of o) files)) (sym (ap (λ (s : Said). s.outcome) output ∙ is.outcome)) (first_of_more shelf files (length is.file.earlier) is.file.read.there);
 }
 
 -- and no file behind it was asked for
-pub host_refused : (told : Option (List ℕ → Option (List ℕ))) (before after : Option (List (List ℕ))) (cap : ℕ) (deadline : Option ℕ) (files : List (List ℕ)) (said : SaidText) → HasRefusedFile told before after deadline files said → TellsRefused told before after (host files deadline cap) (says (the_said said))
-host_refused told before after cap deadline files said is = λ live other output outcome.
+pub host_refused : (shelf : Option (List ℕ → Option (List ℕ))) (before after : Option (List (List ℕ))) (cap : ℕ) (deadline : Option ℕ) (files : List (List ℕ)) (said : SaidText) → HasRefusedFile shelf before after deadline files said → TellsRefused shelf before after (host files deadline cap) (says (the_said said))
+host_refused shelf before after cap deadline files said is = λ live other output outcome.
     (is.contents, is.are, (length is.file.earlier, subst (λ (bytes : List ℕ). IsRefused bytes deadline) (sym at_place) (plainly_refused is.file.bytes deadline (the_said said) is.file.is is.outcome), is.file.read))
   where
     at_place : get_or is.contents (length is.file.earlier) [] ≡ is.file.bytes

@@ -59,7 +59,7 @@ of_parts bytes deadline parts is fit =
 pub labelled_then : (bytes : List ℕ) (deadline : Option ℕ) (one other : List (List ℕ) → Labelled → Type 0) → HasLabelled bytes deadline one → ((names : List (List ℕ)) (m : Labelled) → IsOfLabelled names m → one names m → other names m) → HasLabelled bytes deadline other
 labelled_then bytes deadline one other has follows = by_result (document bytes deadline) refl has
   where
-    by_result : (told : Result Parts DocumentRefusal) → document bytes deadline ≡ told → IsSomeAnd (parts_read told) (λ parts. IsFit parts × one parts.names (labelled_of parts)) → IsSomeAnd (parts_read told) (λ parts. IsFit parts × other parts.names (labelled_of parts))
+    by_result : (parsed : Result Parts DocumentRefusal) → document bytes deadline ≡ parsed → IsSomeAnd (parts_read parsed) (λ parts. IsFit parts × one parts.names (labelled_of parts)) → IsSomeAnd (parts_read parsed) (λ parts. IsFit parts × other parts.names (labelled_of parts))
     by_result (Err refusal) is h = h
     by_result (Ok parts) is h = (h.0, follows parts.names (labelled_of parts) (of_parts bytes deadline parts is h.0) h.1)
 

@@ -2,7 +2,7 @@
 use Rattle.std.proofs.Common.{◌≡◌, ℕ, Bool, List, ap, sym, subst, inl, inr}
 use Rattle.cstn_net.specs.Networks.{Network}
 use Rattle.cstn_lines.specs.Pieces.{heard_lines}
-use Rattle.cstn_check.specs.Decisions.{unless_yes, or_else}
+use Rattle.cstn_check.specs.Decisions.{unless_yes, said_instead}
 use Rattle.cstn_check.specs.declared.verdicts.Verdict.{Verdict}
 use Rattle.cstn_check.specs.declared.verdicts.Verdict.TheVariants.{Yes, No, Full as IsFullVerdict}
 use Rattle.cstn_reply.specs.Texts.{Said}
@@ -69,7 +69,7 @@ module _ (refused : Type 0) where
   none_last o never = absurd never
 
   -- what is said of a verdict, where this is said after yes
-  pub or_else_answers : (cap : ℕ) (names : List (List ℕ)) (net : Network) (after_yes : Said) (v : Verdict) → IsAnswerIf refused after_yes.outcome → IsAnswerIf refused (or_else (unless_yes cap names net v) after_yes).outcome
+  pub or_else_answers : (cap : ℕ) (names : List (List ℕ)) (net : Network) (after_yes : Said) (v : Verdict) → IsAnswerIf refused after_yes.outcome → IsAnswerIf refused (said_instead (unless_yes cap names net v) after_yes).outcome
   or_else_answers cap names net after_yes (Yes load) later = later
   or_else_answers cap names net after_yes (No load) later = tt
   or_else_answers cap names net after_yes IsFullVerdict later = tt

@@ -14,29 +14,29 @@ use Rattle.cstn_top.specs.commands.Plan.{refusal_why, IsPlanTold, planned_of}
 use Rattle.cstn_top.specs.commands.Save.{saved}
 
 -- the document of a plan that has a labelled network
-pub plan_saved : (told : Result Parts PlanRefusal) (m : Labelled) (names : List (List ℕ)) (said : Said) → IsFitPlan told m names → said ≡ saved names m → (live : List ℕ) → (planned_of told).output live said
-plan_saved told m names said is same live =
+pub plan_saved : (parsed : Result Parts PlanRefusal) (m : Labelled) (names : List (List ℕ)) (said : Said) → IsFitPlan parsed m names → said ≡ saved names m → (live : List ℕ) → (planned_of parsed).output live said
+plan_saved parsed m names said is same live =
     subst (λ (r : Result Parts PlanRefusal). (planned_of r).output live said) (sym is.told_are)
     (inl (is.fit, same ∙ ap (λ (ns : List (List ℕ)). saved ns m) is.names_are ∙ ap (saved is.parts.names) is.labelled_is))
 
 -- a plan that is refused by its lines
-lines_refused : (told : Result Parts PlanRefusal) (refusal : PlanRefusal) (why : List ℕ) (said : Said) → told ≡ Err refusal → why ≡ refusal_why refusal → said ≡ say Document (codes "plan " ++ why) → (live : List ℕ) → (planned_of told).output live said
-lines_refused told refusal why said is same told_is live =
+lines_refused : (parsed : Result Parts PlanRefusal) (refusal : PlanRefusal) (why : List ℕ) (said : Said) → parsed ≡ Err refusal → why ≡ refusal_why refusal → said ≡ say Document (codes "plan " ++ why) → (live : List ℕ) → (planned_of parsed).output live said
+lines_refused parsed refusal why said is same told_is live =
     subst (λ (r : Result Parts PlanRefusal). (planned_of r).output live said) (sym is) (told_is ∙ ap (λ (w : List ℕ). say Document (codes "plan " ++ w)) same)
 
 -- a plan that is refused
-pub plan_refused : (told : Result Parts PlanRefusal) (error : PlanError) (said : Said) → RefusesPlan told error → IsPlanTold error said → (live : List ℕ) → (planned_of told).output live said
-plan_refused told Long said is h live = lines_refused told too_long h.0 said is h.1 h.2 live
-plan_refused told (Wrong n word) said is h live = lines_refused told (wrong_word n word) h.0 said is h.1 h.2 live
-plan_refused told (Range n) said is h live = lines_refused told (out_of_range n) h.0 said is h.1 h.2 live
-plan_refused told (Twice n text) said is h live = lines_refused told (stands_twice n text) h.0 said is h.1 h.2 live
-plan_refused told (NoName n name) said is h live = lines_refused told (no_name n name) h.0 said is h.1 h.2 live
-plan_refused told (NoLetter n word) said is h live = lines_refused told (no_letter n word) h.0 said is h.1 h.2 live
-plan_refused told NoDeadline said is h live = lines_refused told no_deadline h.0 said is h.1 h.2 live
-plan_refused told (Net error names) said is h live =
+pub plan_refused : (parsed : Result Parts PlanRefusal) (error : PlanError) (said : Said) → RefusesPlan parsed error → IsPlanTold error said → (live : List ℕ) → (planned_of parsed).output live said
+plan_refused parsed Long said is h live = lines_refused parsed too_long h.0 said is h.1 h.2 live
+plan_refused parsed (Wrong n word) said is h live = lines_refused parsed (wrong_word n word) h.0 said is h.1 h.2 live
+plan_refused parsed (Range n) said is h live = lines_refused parsed (out_of_range n) h.0 said is h.1 h.2 live
+plan_refused parsed (Twice n text) said is h live = lines_refused parsed (stands_twice n text) h.0 said is h.1 h.2 live
+plan_refused parsed (NoName n name) said is h live = lines_refused parsed (no_name n name) h.0 said is h.1 h.2 live
+plan_refused parsed (NoLetter n word) said is h live = lines_refused parsed (no_letter n word) h.0 said is h.1 h.2 live
+plan_refused parsed NoDeadline said is h live = lines_refused parsed no_deadline h.0 said is h.1 h.2 live
+plan_refused parsed (Net error names) said is h live =
     subst (λ (r : Result Parts PlanRefusal). (planned_of r).output live said) (sym is.told_are)
     (inr (inl (error, is.unfit, h.2 ∙ ap (λ (w : List ℕ). say Document (codes "plan " ++ w)) (h.1 ∙ ap (λ (ns : List (List ℕ)). network_fault ns error) is.names_are))))
-plan_refused told (Lift error names) said is h live =
+plan_refused parsed (Lift error names) said is h live =
     subst (λ (r : Result Parts PlanRefusal). (planned_of r).output live said) (sym is.told_are)
     (inr (inr (error, is.mislabelled, h.2 ∙ ap (λ (w : List ℕ). say Document (codes "plan " ++ w)) (h.1 ∙ ap (λ (ns : List (List ℕ)). label_fault ns error) is.names_are))))
-plan_refused told (Memory e) said is h live = absurd h.1
+plan_refused parsed (Memory e) said is h live = absurd h.1

@@ -27,8 +27,8 @@ documents_come answer deadline before (bytes ∷ contents) rest (d ∷ ds) are =
     (documents_come answer deadline (before ++ the_named d ∷ []) contents rest ds are.1))
 
 -- what is said where a document is refused, whatever would be said of all networks
-pub refused_come : (answer : List Named → Plan) (told : Option (List ℕ → Option (List ℕ))) (before after : Option (List (List ℕ))) (deadline : Option ℕ) (files : List (List ℕ)) (said : SaidText) → (is : HasRefusedFile told before after deadline files said) → ComesTo (on_documents answer deadline [] is.contents) (says (the_said said))
-refused_come answer told before after deadline files said is =
+pub refused_come : (answer : List Named → Plan) (shelf : Option (List ℕ → Option (List ℕ))) (before after : Option (List (List ℕ))) (deadline : Option ℕ) (files : List (List ℕ)) (said : SaidText) → (is : HasRefusedFile shelf before after deadline files said) → ComesTo (on_documents answer deadline [] is.contents) (says (the_said said))
+refused_come answer shelf before after deadline files said is =
     let all : List Named = map the_named is.file.documents in
     subst (λ (contents : List (List ℕ)). ComesTo (on_documents answer deadline [] contents) (says (the_said said))) (sym is.file.contents_are)
     (comes_through (on_documents answer deadline [] (is.file.earlier ++ is.file.bytes ∷ is.file.later)) (on_documents answer deadline all (is.file.bytes ∷ is.file.later)) (says (the_said said))

@@ -7,7 +7,7 @@ use Rattle.cstn_lift.specs.Labelled.{Labelled}
 use Rattle.cstn_lift.specs.Lowered.{lowered}
 use Rattle.cstn_check.specs.Growth.{log_of, load_of, live_bounds}
 use Rattle.cstn_check.specs.declared.verdicts.Verdict.TheVariants.{Yes}
-use Rattle.cstn_exec.specs.Guides.{begun}
+use Rattle.cstn_exec.specs.Guides.{guide_begun}
 use Rattle.cstn_reply.specs.Texts.{yes_line}
 use Rattle.cstn_reply.specs.Texts.{Said}
 use Rattle.cstn_top.specs.Plans.{Plan, says, unless_said, ComesTo, session}
@@ -21,11 +21,11 @@ verdict_for cap net other same is = subst (λ (n : Network). verdict cap n ≡ Y
 
 -- what is said after no, or where the log has more entries than it may
 pub told_for : (cap : ℕ) (names : List (List ℕ)) (net : Network) (m : Labelled) (said : Said) → net ≡ lowered m → unless_yes cap names net (verdict cap net) ≡ Some said → ComesTo (run_answer cap names m) (says said)
-told_for cap names net m said same told =
-    subst (ComesTo (run_answer cap names m)) (ap (λ (o : Option Said). unless_said o after_yes) (subst (λ (n : Network). unless_yes cap names n (verdict cap n) ≡ Some said) same told))
-    (record { output = λ live s is. is; talks = λ may. may; fault = λ may taken. refl; stops = λ told said is. is })
+told_for cap names net m said same source =
+    subst (ComesTo (run_answer cap names m)) (ap (λ (o : Option Said). unless_said o after_yes) (subst (λ (n : Network). unless_yes cap names n (verdict cap n) ≡ Some said) same source))
+    (record { output = λ live s is. is; talks = λ may. may; fault = λ may taken. refl; stops = λ source said is. is })
   where
     after_yes : Plan
     after_yes =
         session (guide_turn (map printed_name names) m (live_bounds (log_of (lowered m)))) (guide_ending m (live_bounds (log_of (lowered m))))
-        (yes_line (load_of (lowered m))) (begun (count m.base))
+        (yes_line (load_of (lowered m))) (guide_begun (count m.base))

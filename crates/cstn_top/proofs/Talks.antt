@@ -14,7 +14,7 @@ use Rattle.cstn_top.proofs.Hosts.{host_talks}
 use Rattle.cstn_top.proofs.Verbs.{network_reads, labelled_reads}
 
 -- no session is held over a plan in sentences
-plan_silent : (told : Result Parts PlanRefusal) → (planned_of told).talks → ⊥
+plan_silent : (parsed : Result Parts PlanRefusal) → (planned_of parsed).talks → ⊥
 plan_silent (Err refusal) may = may
 plan_silent (Ok parts) may = may.1
 

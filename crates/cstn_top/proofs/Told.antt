@@ -8,9 +8,9 @@ use Rattle.cstn_top.specs.Told.{Answers, IsToldOfCall}
 use Rattle.cstn_top.specs.Meanings.{IsCapRanged}
 
 -- the range of the cap, with what was written, is all that a call tells
-pub told_is : {S : Type 0} (words : Option Request) (told : Option (List ℕ → Option (List ℕ))) (seen : S → LiveState) (source now : S) (old new : Option (List ℕ)) (result : Status) → IfSome words IsCapRanged →
-    Answers words told seen source now old new result → IsToldOfCall words told seen source now old new result
-told_is words told seen source now old new result ranged answered = record {
+pub told_is : {S : Type 0} (words : Option Request) (shelf : Option (List ℕ → Option (List ℕ))) (seen : S → LiveState) (source now : S) (old new : Option (List ℕ)) (result : Status) → IfSome words IsCapRanged →
+    Answers words shelf seen source now old new result → IsToldOfCall words shelf seen source now old new result
+told_is words shelf seen source now old new result ranged answered = record {
   contents = answered.0;
   are = answered.1;
   output = answered.2;

@@ -4,7 +4,7 @@ use Rattle.std.specs.Prelude.{Option, None, Some, Result, Ok, Err}
 use Rattle.cstn_label.specs.Bounds.{Bound}
 use Rattle.cstn_lines.specs.LiveLines.{moment_at, seen, due_now, live_read, Live as LiveLine}
 use Rattle.cstn_exec.specs.Runs.{due}
-use Rattle.cstn_exec.specs.Moves.{Refusal, moment_refusal}
+use Rattle.cstn_exec.specs.Moves.{EventRefusal, moment_refusal}
 use Rattle.cstn_exec.specs.Guides.{Guided, named, advanced, see_refusal}
 use Rattle.cstn_exec.specs.Running.{moment_line, executing}
 use Rattle.cstn_run.specs.Sessions.{named_turn, noted_turn, answer_turn, guide_turn}
@@ -13,7 +13,7 @@ use Rattle.cstn_lift.specs.Lowered.{lowered}
 use Rattle.cstn_reply.specs.declared.output.Outcome.TheVariants.{Good}
 use Rattle.cstn_top.proofs.Played.{TurnIs}
 use Rattle.cstn_net.specs.Limits.{most_constraints}
-use Rattle.cstn_change.specs.Changes.{Change, removes, revalues, Refusal as EditRefusal, refusal}
+use Rattle.cstn_change.specs.Changes.{Change, removes, revalues, ChangeRefusal as EditRefusal, refusal}
 use Rattle.cstn_change.specs.ChangeLines.{addition}
 use Rattle.cstn_edit.specs.Edits.{Session, edited_of, with_change}
 use Rattle.cstn_lines.specs.EditLines.{Edit, added, removed, changed, asked as check_asked, edit_read}
@@ -35,12 +35,12 @@ live_is : (names : List (List ℕ)) (m : Labelled) (bounds : List Bound) (g : Gu
 live_is names m bounds g None = refl
 live_is names m bounds g (Some (moment_at t)) = by_refusal (moment_refusal (lowered m) bounds g.run t)
   where
-    by_refusal : (o : Option Refusal) → TurnIs (Some (moment_at t) ≡ None) (λ outcome. outcome ≡ Good) (named_turn names m bounds g t o)
+    by_refusal : (o : Option EventRefusal) → TurnIs (Some (moment_at t) ≡ None) (λ outcome. outcome ≡ Good) (named_turn names m bounds g t o)
     by_refusal None = executing_is (moment_line names t (named m bounds g.run t)) (advanced m bounds g t) (due (lowered m) bounds (advanced m bounds g t).run) (Some (moment_at t) ≡ None)
     by_refusal (Some refusal) = tt
 live_is names m bounds g (Some (seen p value)) = by_refusal (see_refusal m g p)
   where
-    by_refusal : (o : Option Refusal) → TurnIs (Some (seen p value) ≡ None) (λ outcome. outcome ≡ Good) (noted_turn g p value o)
+    by_refusal : (o : Option EventRefusal) → TurnIs (Some (seen p value) ≡ None) (λ outcome. outcome ≡ Good) (noted_turn g p value o)
     by_refusal None = tt
     by_refusal (Some refusal) = tt
 live_is names m bounds g (Some due_now) = tt
@@ -72,7 +72,7 @@ edit_answers e text = answer_is e (edit_read text)
 
 heard_is : (heard : Heard) (marks : List Following) → TurnIs ⊥ (λ outcome. ⊥) (marked_by canonical heard marks)
 heard_is (says text next) marks = tt
-heard_is (saves m names next) marks = tt
+heard_is (saves how m names next) marks = tt
 
 pub follow_answers : (t : Marked) (text : List ℕ) → TurnIs ⊥ (λ outcome. ⊥) (marked_turn t text)
 follow_answers t text = let h = hear_marked t (saying_read text) in heard_is h.heard h.marks

@@ -12,19 +12,20 @@ use Rattle.cstn_check.specs.Decisions.{verdict, unless_yes}
 use Rattle.cstn_check.specs.declared.verdicts.Verdict.{Verdict}
 use Rattle.cstn_check.specs.declared.verdicts.Verdict.TheVariants.{Yes, No, Full as IsFullVerdict}
 use Rattle.cstn_check.proofs.Deciding.{Tells, verdict_tells}
-use Rattle.cstn_refute.specs.Texts.{Told as ToldSteps, tells as tells_steps, wrong as wrong_step, told as told_steps}
+use Rattle.cstn_refute.specs.Texts.{RefutationTold as ToldSteps, tells as tells_steps, wrong as wrong_step, refutation_told as told_steps}
 use Rattle.cstn_replay.specs.Texts.{IsReplayOfSteps}
-use Rattle.cstn_closed.specs.Texts.{Told as ToldBounds, tells as tells_bounds, wrong as wrong_bound, told as told_bounds}
+use Rattle.cstn_closed.specs.Texts.{ClosedTold as ToldBounds, tells as tells_bounds, wrong as wrong_bound, closed_told as told_bounds}
 use Rattle.cstn_closed.specs.Certificates.{IsCertificateOfBounds}
 use Rattle.cstn_tight.specs.Texts.{tight_said}
 use Rattle.cstn_conflict.specs.Conflicts.{conflict_set}
 use Rattle.cstn_conflict.specs.Texts.{blamed_after_no, blamed_by}
+use Rattle.cstn_cases.specs.Told.{AreCasesUnless}
 use Rattle.cstn_tree.specs.Unfolded.{IsTreeUnless, IsUnfolded}
 use Rattle.cstn_tree.specs.Good.{first_broken}
 use Rattle.cstn_tree.specs.Checked.{told_of_line, checked_lines}
 use Rattle.cstn_outline.specs.Read.{the_tree}
-use Rattle.cstn_outline.specs.Texts.{Told as ToldTree, tells as tells_tree, wrong as wrong_tree, told as told_tree}
-use Rattle.cstn_exec.specs.Guides.{begun}
+use Rattle.cstn_outline.specs.Texts.{TreeTold as ToldTree, tells as tells_tree, wrong as wrong_tree, tree_told as told_tree}
+use Rattle.cstn_exec.specs.Guides.{guide_begun}
 use Rattle.cstn_exec.specs.Runs.{due}
 use Rattle.cstn_exec.specs.Running.{unfinished}
 use Rattle.cstn_run.specs.Sessions.{guide_turn, guide_ending}
@@ -35,7 +36,7 @@ use Rattle.cstn_request.specs.Requests.{AskedFile, of_network, of_labelled}
 use Rattle.cstn_request.specs.declared.words.NetworkVerb.{NetworkVerb}
 use Rattle.cstn_request.specs.declared.words.NetworkVerb.TheVariants.{Check, Closed, Tight, Conflict, Tree, Edit}
 use Rattle.cstn_request.specs.declared.words.LabelledVerb.{LabelledVerb}
-use Rattle.cstn_request.specs.declared.words.LabelledVerb.TheVariants.{Follow, Run}
+use Rattle.cstn_request.specs.declared.words.LabelledVerb.TheVariants.{Follow, Run, Cases}
 use Rattle.cstn_request.specs.declared.words.TextVerb.{TextVerb}
 use Rattle.cstn_request.specs.declared.words.TextVerb.TheVariants.{Replay, Closedcheck, Treecheck}
 use Rattle.cstn_request.specs.declared.words.DocumentVerb.{DocumentVerb}
@@ -94,6 +95,12 @@ module _ (refused : Type 0) where
   network_answered Edit cap names net =
       session_answered refused false edit_wants edit_turn edit_ending [] (begun_editing cap names net) (λ text. edit_read text ≡ None) (λ outcome. ⊥) edit_answers (none_last refused) (λ e. editing_ends e.verdict)
 
+  cases_answers : (names : List (List ℕ)) (m : Labelled) (cap : ℕ) (v : Verdict) (said : Said) → AreCasesUnless names m (unless_yes cap names (lowered m) v) said → IsAnswerIf refused said.outcome
+  cases_answers names m cap (Yes load) said (inl is) = as_said refused said _ is.said_is tt
+  cases_answers names m cap (Yes load) said (inr is) = as_said refused said _ is.said_is tt
+  cases_answers names m cap (No load) said is = as_said refused said _ is tt
+  cases_answers names m cap IsFullVerdict said is = as_said refused said _ is tt
+
   running_ends : (o : Option ℕ) → IsAnswerIf refused (unfinished o).outcome
   running_ends None = tt
   running_ends (Some t) = tt
@@ -115,9 +122,10 @@ module _ (refused : Type 0) where
       session_answered refused true (λ line. true) marked_turn marked_ending (follow_opening (begun_following cap names m)) (begun_marked cap names m) (λ text. ⊥) (λ outcome. ⊥) follow_answers (none_last refused) (λ t. following_ends t.now)
   labelled_answered Run cap names m =
       verdict_answered refused cap names (lowered m)
-      (session (guide_turn (map printed_name names) m (live_bounds (log_of (lowered m)))) (guide_ending m (live_bounds (log_of (lowered m)))) (yes_line (load_of (lowered m))) (begun (count m.base))) (verdict cap (lowered m))
-      (session_answered refused false (λ line. false) (guide_turn (map printed_name names) m (live_bounds (log_of (lowered m)))) (guide_ending m (live_bounds (log_of (lowered m)))) (yes_line (load_of (lowered m))) (begun (count m.base)) (λ text. live_read text ≡ None)
+      (session (guide_turn (map printed_name names) m (live_bounds (log_of (lowered m)))) (guide_ending m (live_bounds (log_of (lowered m)))) (yes_line (load_of (lowered m))) (guide_begun (count m.base))) (verdict cap (lowered m))
+      (session_answered refused false (λ line. false) (guide_turn (map printed_name names) m (live_bounds (log_of (lowered m)))) (guide_ending m (live_bounds (log_of (lowered m)))) (yes_line (load_of (lowered m))) (guide_begun (count m.base)) (λ text. live_read text ≡ None)
       (λ outcome. outcome ≡ Good) (guide_answers (map printed_name names) m (live_bounds (log_of (lowered m)))) (good_answers refused) (λ g. running_ends (due (lowered m) (live_bounds (log_of (lowered m))) g.run)))
+  labelled_answered Cases cap names m = λ live said is. cases_answers names m cap (verdict cap (lowered m)) said is
 
   replay_answers : (told : ToldSteps) (net : Network) (said : Said) → IsReplayOfSteps told net said → IsAnswerIf refused said.outcome
   replay_answers (tells_steps load steps) net said (inl found) = as_said refused said _ found.1 tt
@@ -152,7 +160,7 @@ module _ (refused : Type 0) where
 run_talks : (cap : ℕ) (names : List (List ℕ)) (m : Labelled) → IsOfLabelled names m → (run_answer cap names m).talks → IsLabelledYes cap m
 run_talks cap names m of may = by_verdict (verdict cap (lowered m)) (verdict_tells cap (lowered m) of.plain.good) may
   where
-    by_verdict : (v : Verdict) → Tells cap (lowered m) v → (plan_on_verdict cap names (lowered m) (session (guide_turn (map printed_name names) m (live_bounds (log_of (lowered m)))) (guide_ending m (live_bounds (log_of (lowered m)))) (yes_line (load_of (lowered m))) (begun (count m.base))) v).talks → IsLabelledYes cap m
+    by_verdict : (v : Verdict) → Tells cap (lowered m) v → (plan_on_verdict cap names (lowered m) (session (guide_turn (map printed_name names) m (live_bounds (log_of (lowered m)))) (guide_ending m (live_bounds (log_of (lowered m)))) (yes_line (load_of (lowered m))) (guide_begun (count m.base))) v).talks → IsLabelledYes cap m
     by_verdict (Yes load) tells is = (of.same.consistent.1 tells.0, tells.1)
     by_verdict (No load) tells is = absurd is
     by_verdict IsFullVerdict tells is = absurd is
@@ -169,3 +177,4 @@ network_reads Edit asked cap contents may =
 pub labelled_reads : (verb : LabelledVerb) (asked : AskedFile) (cap : ℕ) (contents : List (List ℕ)) → (plan_at (of_labelled verb asked cap) contents).talks → ReadsLive (of_labelled verb asked cap) contents
 labelled_reads Follow asked cap contents may = talks_labelled (labelled_answer Follow cap) (file_in contents) asked.deadline (λ names m. Unit {0}) (λ names m of is. tt) may
 labelled_reads Run asked cap contents may = talks_labelled (run_answer cap) (file_in contents) asked.deadline (λ names m. IsLabelledYes cap m) (run_talks cap) may
+labelled_reads Cases asked cap contents may = talks_labelled (labelled_answer Cases cap) (file_in contents) asked.deadline (λ names m. ⊥) (λ names m of is. is) may

@@ -4,7 +4,7 @@ use Rattle.cstn_net.specs.Read.{the_network}
 use Rattle.cstn_check.specs.Growth.{load_of}
 use Rattle.cstn_check.specs.Decisions.{verdict}
 use Rattle.cstn_check.specs.declared.verdicts.Verdict.TheVariants.{Yes}
-use Rattle.cstn_run.specs.hosted.Sessions.{begun as begun_session}
+use Rattle.cstn_run.specs.hosted.Sessions.{host_begun as begun_session}
 use Rattle.cstn_run.specs.hosted.Files.{Named, the_file, yes_lines}
 use Rattle.cstn_run.specs.hosted.SessionRead.{the_names, the_files, the_host_session, IsHostSession}
 use Rattle.cstn_request.specs.declared.reading.NamedNetwork.{NamedNetwork}

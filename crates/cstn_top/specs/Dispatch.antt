@@ -6,7 +6,7 @@ use Rattle.cstn_request.specs.Requests.{Request, of_network, of_labelled, of_tex
 use Rattle.cstn_request.specs.declared.words.NetworkVerb.{NetworkVerb}
 use Rattle.cstn_request.specs.declared.words.NetworkVerb.TheVariants.{Check, Closed, Tight, Conflict, Tree, Edit}
 use Rattle.cstn_request.specs.declared.words.LabelledVerb.{LabelledVerb}
-use Rattle.cstn_request.specs.declared.words.LabelledVerb.TheVariants.{Follow, Run}
+use Rattle.cstn_request.specs.declared.words.LabelledVerb.TheVariants.{Follow, Run, Cases}
 use Rattle.cstn_request.specs.declared.words.TextVerb.{TextVerb}
 use Rattle.cstn_request.specs.declared.words.TextVerb.TheVariants.{Replay, Closedcheck, Treecheck}
 use Rattle.cstn_request.specs.declared.words.DocumentVerb.{DocumentVerb}
@@ -16,6 +16,7 @@ use Rattle.cstn_check.specs.Decisions.{checked}
 use Rattle.cstn_closed.specs.Certificates.{IsCertificateOf}
 use Rattle.cstn_tight.specs.Texts.{tightened}
 use Rattle.cstn_conflict.specs.Texts.{blamed}
+use Rattle.cstn_cases.specs.Told.{AreCasesSaid}
 use Rattle.cstn_tree.specs.Unfolded.{IsUnfolded}
 use Rattle.cstn_tree.specs.Checked.{tree_checked}
 use Rattle.cstn_reply.specs.Texts.{Said, say}
@@ -58,15 +59,18 @@ network_kind Edit = an_edit
 abbrev pub labelled_answer : LabelledVerb → ℕ → LabelledAnswer
 labelled_answer Follow cap = follow_answer cap
 labelled_answer Run cap = run_answer cap
+labelled_answer Cases cap = λ names m. says_such (AreCasesSaid cap names m)
 
 abbrev pub labelled_kind : LabelledVerb → AnswerKind
 labelled_kind Follow = a_follow
 labelled_kind Run = a_run
+labelled_kind Cases = a_text
 
 -- a verb holds a session over a labelled network where this holds
 abbrev pub HoldsSession : LabelledVerb → ℕ → Labelled → Type 0
 HoldsSession Follow cap m = Unit {0}
 HoldsSession Run cap m = IsLabelledYes cap m
+HoldsSession Cases cap m = ⊥
 
 -- this is what a verb says of a network by a text, which isn't too long
 abbrev pub IsVerbText : TextVerb → List (List ℕ) → List ℕ → Network → Said → Type 0

@@ -14,8 +14,8 @@ use Rattle.cstn_top.specs.commands.Host.{EachHas}
 
 -- the words are a request, and it holds of the request and the contents of its files
 abbrev pub HoldsOf : Option Request → Option (List ℕ → Option (List ℕ)) → (Request → List (List ℕ) → Type 0) → Type 0
-HoldsOf None told holds = ⊥
-HoldsOf (Some request) told holds = (contents : List (List ℕ)) × AreContents told (files_of request) contents × holds request contents
+HoldsOf None shelf holds = ⊥
+HoldsOf (Some request) shelf holds = (contents : List (List ℕ)) × AreContents shelf (files_of request) contents × holds request contents
 
 -- a call was stopped by a fault or by want of memory
 abbrev pub IsStopped : Status → Type 0
@@ -37,22 +37,22 @@ files_read Wide names = names
 
 -- Which of these files were asked for, where a call has this status: the first of them, in their order and each once, and no other.
 -- Those that were read are among them, and there.
-pub record AreAsked (told : Option (List ℕ → Option (List ℕ))) (before after : Option (List (List ℕ))) (status : Status) (names : List (List ℕ)) : Type 0 where
-  pub first : AskedFirst told before after names
+pub record AreAsked (shelf : Option (List ℕ → Option (List ℕ))) (before after : Option (List (List ℕ))) (status : Status) (names : List (List ℕ)) : Type 0 where
+  pub first : AskedFirst shelf before after names
   pub read : length (files_read status names) ≤ first.count
-  pub there : AreThere told (files_read status names)
+  pub there : AreThere shelf (files_read status names)
 
 -- where a document or a plan in sentences is refused, it is there, and no file behind it was asked for: that of a host with each file before it
 abbrev pub RefusedIsThere : Option (List ℕ → Option (List ℕ)) → Option (List (List ℕ)) → Option (List (List ℕ)) → Request → List (List ℕ) → Type 0
-RefusedIsThere told before after (of_network verb asked cap) contents = WereRead told before after (asked.file ∷ [])
-RefusedIsThere told before after (of_labelled verb asked cap) contents = WereRead told before after (asked.file ∷ [])
-RefusedIsThere told before after (of_text verb asked proof) contents = WereRead told before after (asked.file ∷ [])
-RefusedIsThere told before after (of_document verb asked) contents = WereRead told before after (asked.file ∷ [])
-RefusedIsThere told before after (of_plan asked) contents = WereRead told before after (asked.file ∷ [])
-RefusedIsThere told before after (drill number) contents = ⊥
-RefusedIsThere told before after (host files deadline cap) contents =
-    (place : ℕ) × IsRefused (get_or contents place []) deadline × WereRead told before after (take (suc place) files)
-RefusedIsThere told before after (version release) contents = ⊥
+RefusedIsThere shelf before after (of_network verb asked cap) contents = WereRead shelf before after (asked.file ∷ [])
+RefusedIsThere shelf before after (of_labelled verb asked cap) contents = WereRead shelf before after (asked.file ∷ [])
+RefusedIsThere shelf before after (of_text verb asked proof) contents = WereRead shelf before after (asked.file ∷ [])
+RefusedIsThere shelf before after (of_document verb asked) contents = WereRead shelf before after (asked.file ∷ [])
+RefusedIsThere shelf before after (of_plan asked) contents = WereRead shelf before after (asked.file ∷ [])
+RefusedIsThere shelf before after (drill number) contents = ⊥
+RefusedIsThere shelf before after (host files deadline cap) contents =
+    (place : ℕ) × IsRefused (get_or contents place []) deadline × WereRead shelf before after (take (suc place) files)
+RefusedIsThere shelf before after (version release) contents = ⊥
 
 -- the request reads the live source: a run after yes, `edit` and `follow` where the document has a network, and a host where each
 -- network has a strategy

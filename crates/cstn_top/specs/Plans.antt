@@ -17,7 +17,7 @@ pub record Plan : Type 1 where
 
 -- a text of which this holds, and no more
 abbrev pub says_such : (Said → Type 0) → Plan
-says_such holds = record { output = λ live said. holds said; heard = λ taken. None; stops = λ told said. ⊥; talks = ⊥ }
+says_such holds = record { output = λ live said. holds said; heard = λ taken. None; stops = λ source said. ⊥; talks = ⊥ }
 
 -- this text, and no more
 abbrev pub says : Said → Plan
@@ -59,7 +59,7 @@ abbrev pub where_fit : (fits : Type 0) → (refusal : Said → Type 0) → Plan 
 where_fit fits refusal plan = record {
   output = λ live said. (fits × plan.output live said) ⊎ refusal said;
   heard = plan.heard;
-  stops = λ told said. fits × plan.stops told said;
+  stops = λ source said. fits × plan.stops source said;
   talks = fits × plan.talks;
 }
 
@@ -72,7 +72,7 @@ pub record ComesTo (plan other : Plan) : Type 0 where
   pub output : (live : List ℕ) (said : Said) → other.output live said → plan.output live said
   pub talks : other.talks → plan.talks
   pub fault : other.talks → (taken : List ℕ) → other.heard taken ≡ plan.heard taken
-  pub stops : (told : Option (List ℕ)) (said : List ℕ) → other.stops told said → plan.stops told said
+  pub stops : (source : Option (List ℕ)) (said : List ℕ) → other.stops source said → plan.stops source said
 
 -- what is written for a plan where each write is accepted
 abbrev pub IsPlanText : Plan → LiveState → LiveState → Status → List ℕ → Type 0

@@ -40,17 +40,17 @@ FitsKind kind (Hosts opening session') = EndsLine opening.items × (kind ≡ a_h
 
 -- where the plan says that a document is refused, it is there, and so is each file before it; no file behind it was asked for
 abbrev pub TellsRefused : Option (List ℕ → Option (List ℕ)) → Option (List (List ℕ)) → Option (List (List ℕ)) → Request → Plan → Type 0
-TellsRefused told before after request plan =
-    (live : List ℕ) (said : Said) → plan.output live said → said.outcome ≡ Document → HoldsOf (Some request) told (RefusedIsThere told before after)
+TellsRefused shelf before after request plan =
+    (live : List ℕ) (said : Said) → plan.output live said → said.outcome ≡ Document → HoldsOf (Some request) shelf (RefusedIsThere shelf before after)
 
 -- the first files of the request were asked for, each of them that has to be read for what the plan says
-pub record AsksEnough (request : Request) (told : Option (List ℕ → Option (List ℕ))) (before after : Option (List (List ℕ))) (plan : Plan) : Type 0 where
-  pub first : AskedFirst told before after (files_of request)
+pub record AsksEnough (request : Request) (shelf : Option (List ℕ → Option (List ℕ))) (before after : Option (List (List ℕ))) (plan : Plan) : Type 0 where
+  pub first : AskedFirst shelf before after (files_of request)
   pub enough : (live : List ℕ) (said : Said) → plan.output live said → length (files_read (status_of said.outcome) (files_of request)) ≤ first.count
 
 -- the plan says what the request says of the contents of its files, and the files that were read are there
-pub record Planned (request : Request) (told : Option (List ℕ → Option (List ℕ))) (plan : Plan) : Type 0 where
+pub record Planned (request : Request) (shelf : Option (List ℕ → Option (List ℕ))) (plan : Plan) : Type 0 where
   pub contents : List (List ℕ)
-  pub are : AreContents told (files_of request) contents
+  pub are : AreContents shelf (files_of request) contents
   pub comes : ComesTo (plan_at request contents) plan
-  pub there : (live : List ℕ) (said : Said) → plan.output live said → AreThere told (files_read (status_of said.outcome) (files_of request))
+  pub there : (live : List ℕ) (said : Said) → plan.output live said → AreThere shelf (files_read (status_of said.outcome) (files_of request))

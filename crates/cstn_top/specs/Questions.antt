@@ -37,17 +37,17 @@ the_question (Host documents cap) = attended cap.entries (map the_named document
 the_question (Version release) = says (versioned release)
 
 -- the question says what the request says of the contents of its files, each of which is there
-pub record Asks (request : Request) (told : Option (List ℕ → Option (List ℕ))) (question : Question) : Type 0 where
+pub record Asks (request : Request) (shelf : Option (List ℕ → Option (List ℕ))) (question : Question) : Type 0 where
   pub contents : List (List ℕ)
-  pub are : AreContents told (files_of request) contents
+  pub are : AreContents shelf (files_of request) contents
   pub comes : ComesTo (plan_at request contents) (the_question question)
-  pub there : AreThere told (files_of request)
+  pub there : AreThere shelf (files_of request)
 
 -- this is what the request says, since a file is refused; no file behind it was asked for
-pub record TellsInstead (request : Request) (told : Option (List ℕ → Option (List ℕ))) (before after : Option (List (List ℕ))) (said : SaidText) : Type 0 where
-  pub plan : Planned request told (says (the_said said))
-  pub refused : TellsRefused told before after request (says (the_said said))
-  pub asked : AsksEnough request told before after (says (the_said said))
+pub record TellsInstead (request : Request) (shelf : Option (List ℕ → Option (List ℕ))) (before after : Option (List (List ℕ))) (said : SaidText) : Type 0 where
+  pub plan : Planned request shelf (says (the_said said))
+  pub refused : TellsRefused shelf before after request (says (the_said said))
+  pub asked : AsksEnough request shelf before after (says (the_said said))
 
 -- what is said to the question may still be that a plan in sentences is refused: the others have accepted documents alone
 abbrev pub MayRefuse : Question → Type 0

@@ -29,7 +29,8 @@ pub fn run<F: Shelf, S: Source, K: Sink>(
     ensures told { IsToldOfCall (request_in release words.now) (F.files shelf.old) (view S.left S.faults S.reads) live.old live.new (K.written out.old)
         (K.written out.new) result }
     ensures there { AreAsked (F.files shelf.old) (F.asked shelf.old) (F.asked shelf.new) result (named_files release words.now) }
-    ensures refused { result ≡ Document → TellsOf release words.now (F.files shelf.old) (RefusedIsThere (F.files shelf.old) (F.asked shelf.old) (F.asked shelf.new)) }
+    ensures refused { result ≡ Document → TellsOf release words.now (F.files shelf.old)
+        (RefusedIsThere (F.files shelf.old) (F.asked shelf.old) (F.asked shelf.new)) }
     ensures flushed { result ≢ WriteFault → K.flushed out.new ≡ option_map length (K.written out.new) }
     ensures read_fault { result ≡ ReadFault → Failed F.faults shelf.old shelf.new
         ⊎ (WordsReadLive release words.now (F.files shelf.old) × Failed S.faults live.old live.new) }

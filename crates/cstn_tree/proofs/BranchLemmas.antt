@@ -16,7 +16,7 @@ use Rattle.cstn_exec.proofs.Knowing.{observer_at, at_observer}
 use Rattle.cstn_outline.specs.Trees.{is_named}
 use Rattle.cstn_tree.specs.Good.{Branch, placed_with, are_new, are_in_time, observed_on}
 use Rattle.cstn_tree.specs.Branches.{the_placed, IsBranchOf}
-use Rattle.cstn_outline.specs.Read.{numbers}
+use Rattle.cstn_outline.specs.Read.{node_numbers}
 use Rattle.cstn_tree.specs.declared.branches.Branch.{Branch as ProgramBranch}
 
 -- ---- observers
@@ -153,36 +153,36 @@ module _ (net : Network) (moments : List (Option ℕ)) (t : ℕ) (named : List N
   abbrev pub here : ℕ
   here = (get_or named k d).0
 
-  left : numbers (drop k named) ≡ here ∷ numbers (drop (k + 1) named)
-  left = ap numbers (drop-cons named k d inside) ∙ ap (λ n. here ∷ numbers (drop n named)) (sym (add-one k))
+  left : node_numbers (drop k named) ≡ here ∷ node_numbers (drop (k + 1) named)
+  left = ap node_numbers (drop-cons named k d inside) ∙ ap (λ n. here ∷ node_numbers (drop n named)) (sym (add-one k))
 
   pub fits_next : (x : ℕ) → x ≡ here → x < length moments → is_some (the_placed moments here) ≡ false → t ≤ limit net here →
-      may_name net (the_placed (slice_set moments x (Some t))) t (numbers (drop (k + 1) named)) ≡ may_name net (the_placed moments) t (numbers (drop k named))
+      may_name net (the_placed (slice_set moments x (Some t))) t (node_numbers (drop (k + 1) named)) ≡ may_name net (the_placed moments) t (node_numbers (drop k named))
   fits_next x is within free soon =
       let one = set_one moments t x within ∙ ap (λ y. with_one (the_placed moments) t y) is in
-      ap (λ placed. may_name net placed t (numbers (drop (k + 1) named))) one
-      ∙ sym (may_name_next net (the_placed moments) t here (numbers (drop (k + 1) named)) (ap is_none (is_some-false (the_placed moments here) free)) (le-leb t (limit net here) soon))
+      ap (λ placed. may_name net placed t (node_numbers (drop (k + 1) named))) one
+      ∙ sym (may_name_next net (the_placed moments) t here (node_numbers (drop (k + 1) named)) (ap is_none (is_some-false (the_placed moments here) free)) (le-leb t (limit net here) soon))
       ∙ sym (ap (may_name net (the_placed moments) t) left)
 
   pub placed_more : (x : ℕ) → x ≡ here → x < length moments →
-      placed_with (the_placed (slice_set moments x (Some t))) t (numbers (drop (k + 1) named)) ≡ placed_with (the_placed moments) t (numbers (drop k named))
+      placed_with (the_placed (slice_set moments x (Some t))) t (node_numbers (drop (k + 1) named)) ≡ placed_with (the_placed moments) t (node_numbers (drop k named))
   placed_more x is within =
       let one = set_one moments t x within ∙ ap (λ y. with_one (the_placed moments) t y) is in
-      ap (λ placed. placed_with placed t (numbers (drop (k + 1) named))) one
-      ∙ sym (placed_next (the_placed moments) t here (numbers (drop (k + 1) named)))
+      ap (λ placed. placed_with placed t (node_numbers (drop (k + 1) named))) one
+      ∙ sym (placed_next (the_placed moments) t here (node_numbers (drop (k + 1) named)))
       ∙ sym (ap (placed_with (the_placed moments) t) left)
 
-  pub taken_fails : is_some (the_placed moments here) ≡ true → may_name net (the_placed moments) t (numbers (drop k named)) ≡ false
+  pub taken_fails : is_some (the_placed moments here) ≡ true → may_name net (the_placed moments) t (node_numbers (drop k named)) ≡ false
   taken_fails taken =
       let at = is_some-true (the_placed moments here) taken in
       ap (may_name net (the_placed moments) t) left
-      ∙ may_not_name net (the_placed moments) t here (numbers (drop (k + 1) named)) (ap is_none at.1)
+      ∙ may_not_name net (the_placed moments) t here (node_numbers (drop (k + 1) named)) (ap is_none at.1)
 
-  pub late_fails : limit net here < t → may_name net (the_placed moments) t (numbers (drop k named)) ≡ false
+  pub late_fails : limit net here < t → may_name net (the_placed moments) t (node_numbers (drop k named)) ≡ false
   late_fails late =
       ap (may_name net (the_placed moments) t) left
-      ∙ may_not_name_late net (the_placed moments) t here (numbers (drop (k + 1) named)) (lt-leb t (limit net here) late)
+      ∙ may_not_name_late net (the_placed moments) t here (node_numbers (drop (k + 1) named)) (lt-leb t (limit net here) late)
 
 pub placed_done : (moments : List (Option ℕ)) (t : ℕ) (named : List NodeId) (k : ℕ) → length named ≤ k →
-    the_placed moments ≡ placed_with (the_placed moments) t (numbers (drop k named))
-placed_done moments t named k past = sym (ap (λ l. placed_with (the_placed moments) t (numbers l)) (drop_all k named past))
+    the_placed moments ≡ placed_with (the_placed moments) t (node_numbers (drop k named))
+placed_done moments t named k past = sym (ap (λ l. placed_with (the_placed moments) t (node_numbers l)) (drop_all k named past))

@@ -12,11 +12,11 @@ use Rattle.cstn_facts.proofs.Members.{contains_tail, contains_head, contains_cas
 use Rattle.cstn_label.specs.Labels.{Label}
 use Rattle.cstn_net.specs.Networks.{Network, IsWellFormed, Constraint, Observes, count, limit}
 use Rattle.cstn_exec.specs.Runs.{is_possible, fits_known}
-use Rattle.cstn_outline.specs.Trees.{Tree, Line, is_named, lines_of}
+use Rattle.cstn_outline.specs.Trees.{Tree, TreeLine, is_named, lines_of_tree}
 use Rattle.cstn_outline.specs.Trees.Tree.{at, ask, done}
-use Rattle.cstn_outline.specs.Trees.Line.{AtLine, AskLine, DoneLine}
-use Rattle.cstn_tree.specs.Good.{Branch, start, placed_with, are_new, are_in_time, is_within, is_kept, is_met, fits_at, below_at, observed_on, known_from, below_ask, fits_ask, is_complete, or_else, first_broken_from, first_broken}
-use Rattle.cstn_tree.specs.Breaks.{Above, Named, Asked, IsNamedAt, IsUncontradicted, IsViolated, Breaks, on_branches, IsFirstBreak}
+use Rattle.cstn_outline.specs.Trees.TreeLine.{AtLine, AskLine, DoneLine}
+use Rattle.cstn_tree.specs.Good.{Branch, branch_begun, placed_with, are_new, are_in_time, is_met_within, is_met_so_far, is_met, fits_at, below_at, observed_on, known_from, below_ask, fits_ask, is_complete, or_else, first_broken_from, first_broken}
+use Rattle.cstn_tree.specs.Breaks.{Above, Named, Asked, IsNamedAbove, IsUncontradicted, IsViolated, Breaks, on_branches, IsFirstBreak}
 use Rattle.cstn_tree.specs.Breaks.Breaks.{not_later, not_known, named_above, named_twice, too_late, not_met, not_observed, asked_above, not_named}
 use Rattle.cstn_tree.proofs.Standing.{fits_at_from, fits_ask_from, complete_from}
 use Rattle.cstn_tree.proofs.BranchLemmas.{observed_by}
@@ -48,7 +48,7 @@ asked_later t p v xs above c = elim (contains_cases (Named t xs) (Asked p v) abo
   | inr later ↦ later
 ]
 
-named_later : (p m x : ℕ) (v : Bool) (above : List Above) → IsNamedAt (Asked p v ∷ above) x m → IsNamedAt above x m
+named_later : (p m x : ℕ) (v : Bool) (above : List Above) → IsNamedAbove (Asked p v ∷ above) x m → IsNamedAbove above x m
 named_later p m x v above (xs, c, has) = elim (contains_cases (Asked p v) (Named m xs) above c) [
   | inl same ↦ absurd (named_or_asked m p v xs (sym same))
   | inr later ↦ (xs, later, has)
@@ -60,20 +60,20 @@ named_later p m x v above (xs, c, has) = elim (contains_cases (Asked p v) (Named
 abbrev IsEarly : Network → List Above → ℕ → Type 0
 IsEarly net above t =
     ((u : ℕ) × (ys : List ℕ) × Contains above (Named u ys) × (t ≤ u)) ⊎
-    ((p : ℕ) × (v : Bool) × (x : ℕ) × (m : ℕ) × Contains above (Asked p v) × Observes net x p × IsNamedAt above x m × (t < m + net.reaction p))
+    ((p : ℕ) × (v : Bool) × (x : ℕ) × (m : ℕ) × Contains above (Asked p v) × Observes net x p × IsNamedAbove above x m × (t < m + net.reaction p))
 
 -- the branch says what the lines above say
 record IsBranch (net : Network) (b : Branch) (above : List Above) : Type 0 where
-  placed : (x m : ℕ) → IsNamedAt above x m → b.placed x ≡ Some m
-  named : (x m : ℕ) → b.placed x ≡ Some m → IsNamedAt above x m
+  placed : (x m : ℕ) → IsNamedAbove above x m → b.placed x ≡ Some m
+  named : (x m : ℕ) → b.placed x ≡ Some m → IsNamedAbove above x m
   asked : (p : ℕ) (v : Bool) → Contains above (Asked p v) → b.asked p ≡ Some v
   seen : (p : ℕ) (v : Bool) → b.asked p ≡ Some v → Contains above (Asked p v)
-  observed : (p : ℕ) (v : Bool) → Contains above (Asked p v) → (x : ℕ) × (m : ℕ) × Observes net x p × IsNamedAt above x m
+  observed : (p : ℕ) (v : Bool) → Contains above (Asked p v) → (x : ℕ) × (m : ℕ) × Observes net x p × IsNamedAbove above x m
   later : (u : ℕ) (ys : List ℕ) → Contains above (Named u ys) → u < b.from
-  known : (p : ℕ) (v : Bool) (x m : ℕ) → Contains above (Asked p v) → Observes net x p → IsNamedAt above x m → m + net.reaction p ≤ b.from
+  known : (p : ℕ) (v : Bool) (x m : ℕ) → Contains above (Asked p v) → Observes net x p → IsNamedAbove above x m → m + net.reaction p ≤ b.from
   early : (t : ℕ) → t < b.from → IsEarly net above t
 
-branch_start : (net : Network) → IsBranch net start []
+branch_start : (net : Network) → IsBranch net branch_begun []
 branch_start net = record {
   placed = λ x m named. absurd (let h = named.1.1 in omega arith);
   named = λ x m e. absurd (cc);
@@ -90,7 +90,7 @@ module _ (net : Network) (wf : IsWellFormed net) (b : Branch) (above : List Abov
 
   module _ (t : ℕ) (xs : List ℕ) where
     -- where the time-points of the line are not named above, a time-point is named on the line or above where the branch says so
-    placed_here : ((x : ℕ) → is_named x xs ≡ true → b.placed x ≡ None) → (x m : ℕ) → IsNamedAt (Named t xs ∷ above) x m → placed_with b.placed t xs x ≡ Some m
+    placed_here : ((x : ℕ) → is_named x xs ≡ true → b.placed x ≡ None) → (x m : ℕ) → IsNamedAbove (Named t xs ∷ above) x m → placed_with b.placed t xs x ≡ Some m
     placed_here once x m (ys, c, has) = elim (contains_cases (Named t xs) (Named m ys) above c) [
       | inl same ↦
           let both = same_named t m xs ys same in
@@ -104,7 +104,7 @@ module _ (net : Network) (wf : IsWellFormed net) (b : Branch) (above : List Abov
           ]
     ]
 
-    named_here : (x m : ℕ) → placed_with b.placed t xs x ≡ Some m → IsNamedAt (Named t xs ∷ above) x m
+    named_here : (x m : ℕ) → placed_with b.placed t xs x ≡ Some m → IsNamedAbove (Named t xs ∷ above) x m
     named_here x m e = elim (cases_Bool (is_named x xs)) [
       | inl here ↦
           let same = same_Some t m (sym (cond-true (is_named x xs) (Some t) (b.placed x) here) ∙ e) in
@@ -228,7 +228,7 @@ module _ (net : Network) (wf : IsWellFormed net) (b : Branch) (above : List Abov
         ]
   ]
 
-  not_within : (most : ℤ) (from to : Option ℕ) → is_within most from to ≡ false →
+  not_within : (most : ℤ) (from to : Option ℕ) → is_met_within most from to ≡ false →
       (m_f : ℕ) × (m_t : ℕ) × (from ≡ Some m_f) × (to ≡ Some m_t) × ((pos m_t -ℤ pos m_f) ≤ℤ most → ⊥)
   not_within most None to h = absurd (false≢true (sym h))
   not_within most (Some from) None h = absurd (false≢true (sym h))
@@ -247,8 +247,8 @@ module _ (net : Network) (wf : IsWellFormed net) (b : Branch) (above : List Abov
   violated : (t : ℕ) (xs : List ℕ) (c : Constraint) → is_met (placed_with b.placed t xs) b.asked xs c ≡ false → IsViolated above t xs c
   violated t xs c h =
       let placed = placed_with b.placed t xs in
-      let parts = or_false (not (is_named c.from xs || is_named c.to xs)) (is_kept placed b.asked c) h in
-      let kept = or_false (not (is_possible b.asked c.label)) (is_within c.most (placed c.from) (placed c.to)) parts.1 in
+      let parts = or_false (not (is_named c.from xs || is_named c.to xs)) (is_met_so_far placed b.asked c) h in
+      let kept = or_false (not (is_possible b.asked c.label)) (is_met_within c.most (placed c.from) (placed c.to)) parts.1 in
       let both = not_within c.most (placed c.from) (placed c.to) kept.1 in
       record {
         from = both.0;
@@ -323,7 +323,7 @@ module _ (net : Network) (wf : IsWellFormed net) (b : Branch) (above : List Abov
       let from = (below_ask net b p v).from in
       let above_from : b.from ≤ from = omega arith in
       let above_known : f.moment + net.reaction p ≤ from = omega (arith, known_at) in
-      let deeper : (x m : ℕ) → IsNamedAt above x m → IsNamedAt (Asked p v ∷ above) x m =
+      let deeper : (x m : ℕ) → IsNamedAbove above x m → IsNamedAbove (Asked p v ∷ above) x m =
       λ x m named. (named.0, contains_tail (Asked p v) (Named m named.0) above named.1, named.2) in
       record {
         placed = λ x m named. is.placed x m (named_later p m x v above named);
@@ -401,28 +401,28 @@ module _ (net : Network) (wf : IsWellFormed net) (b : Branch) (above : List Abov
 
 -- ---- the first line that breaks
 
-pub branch_lines : (above : List Above) (tree : Tree) → map (λ (l : List Above × Line). l.1) (on_branches above tree) ≡ lines_of tree
+pub branch_lines : (above : List Above) (tree : Tree) → map (λ (l : List Above × TreeLine). l.1) (on_branches above tree) ≡ lines_of_tree tree
 branch_lines above (at t xs next) = ap (λ ls. AtLine t xs ∷ ls) (branch_lines (Named t xs ∷ above) next)
 branch_lines above (ask p one other) =
-    ap (λ ls. AskLine p ∷ ls) (map-append (λ (l : List Above × Line). l.1) (on_branches (Asked p true ∷ above) one) (on_branches (Asked p false ∷ above) other)
-    ∙ ap (λ ls. ls ++ map (λ (l : List Above × Line). l.1) (on_branches (Asked p false ∷ above) other)) (branch_lines (Asked p true ∷ above) one)
-    ∙ ap (λ ls. lines_of one ++ ls) (branch_lines (Asked p false ∷ above) other))
+    ap (λ ls. AskLine p ∷ ls) (map-append (λ (l : List Above × TreeLine). l.1) (on_branches (Asked p true ∷ above) one) (on_branches (Asked p false ∷ above) other)
+    ∙ ap (λ ls. ls ++ map (λ (l : List Above × TreeLine). l.1) (on_branches (Asked p false ∷ above) other)) (branch_lines (Asked p true ∷ above) one)
+    ∙ ap (λ ls. lines_of_tree one ++ ls) (branch_lines (Asked p false ∷ above) other))
 branch_lines above done = refl
 
 module _ (net : Network) where
-  abbrev Stays : List Above × Line → Type 0
+  abbrev Stays : List Above × TreeLine → Type 0
   Stays l = Breaks net l.0 l.1 → ⊥
 
-  first_here : (first : ℕ) (l : List Above × Line) (ls : List (List Above × Line)) → Breaks net l.0 l.1 → IsFirstBreak net first (l ∷ ls) (Some first)
+  first_here : (first : ℕ) (l : List Above × TreeLine) (ls : List (List Above × TreeLine)) → Breaks net l.0 l.1 → IsFirstBreak net first (l ∷ ls) (Some first)
   first_here first l ls breaks = ([], l, ls, refl, omega arith, All-nil Stays, breaks)
 
-  first_later : (first : ℕ) (l : List Above × Line) (ls : List (List Above × Line)) (o : Option ℕ) → (Breaks net l.0 l.1 → ⊥) →
+  first_later : (first : ℕ) (l : List Above × TreeLine) (ls : List (List Above × TreeLine)) (o : Option ℕ) → (Breaks net l.0 l.1 → ⊥) →
       IsFirstBreak net (first + 1) ls o → IsFirstBreak net first (l ∷ ls) o
   first_later first l ls None fits none = All-cons Stays l ls fits none
   first_later first l ls (Some number) fits (before, line, after, same, is, none, breaks) =
       (l ∷ before, line, after, ap (λ k. l ∷ k) same, omega (arith, is), All-cons Stays l before fits none, breaks)
 
-  first_append : (first : ℕ) (one other : List (List Above × Line)) (o p : Option ℕ) → IsFirstBreak net first one o → IsFirstBreak net (first + length one) other p →
+  first_append : (first : ℕ) (one other : List (List Above × TreeLine)) (o p : Option ℕ) → IsFirstBreak net first one o → IsFirstBreak net (first + length one) other p →
       IsFirstBreak net first (one ++ other) (or_else o p)
   first_append first one other (Some number) p (before, line, after, same, is, none, breaks) second =
       (before, line, after ++ other, ap (λ l. l ++ other) same ∙ append_assoc before (line ∷ after) other, is, none, breaks)
@@ -431,7 +431,7 @@ module _ (net : Network) where
       let size = length-append one before in
       (one ++ before, line, after, ap (λ l. one ++ l) same ∙ sym (append_assoc one before (line ∷ after)), omega (arith, is, size), All-append Stays one before none none_before, breaks)
 
-  first_if : (test : Bool) (first : ℕ) (l : List Above × Line) (ls : List (List Above × Line)) (rest : Option ℕ) → (test ≡ true → Breaks net l.0 l.1 → ⊥) →
+  first_if : (test : Bool) (first : ℕ) (l : List Above × TreeLine) (ls : List (List Above × TreeLine)) (rest : Option ℕ) → (test ≡ true → Breaks net l.0 l.1 → ⊥) →
       (test ≡ false → Breaks net l.0 l.1) → (test ≡ true → IsFirstBreak net (first + 1) ls rest) → IsFirstBreak net first (l ∷ ls) (if test then rest else Some first)
   first_if true first l ls rest fits breaks below = first_later first l ls rest (fits refl) (below refl)
   first_if false first l ls rest fits breaks below = first_here first l ls (breaks refl)
@@ -445,21 +445,21 @@ module _ (net : Network) where
   first_from wf b above (ask p one other) first is =
       let left = on_branches (Asked p true ∷ above) one in
       let right = on_branches (Asked p false ∷ above) other in
-      let size : length left ≡ length (lines_of one) = sym (length-mapped left) ∙ ap length (branch_lines (Asked p true ∷ above) one) in
+      let size : length left ≡ length (lines_of_tree one) = sym (length-mapped left) ∙ ap length (branch_lines (Asked p true ∷ above) one) in
       first_if (fits_ask net b p) first (above, AskLine p) (left ++ right)
-      (or_else (first_broken_from net (below_ask net b p true) one (first + 1)) (first_broken_from net (below_ask net b p false) other (first + 1 + length (lines_of one))))
+      (or_else (first_broken_from net (below_ask net b p true) one (first + 1)) (first_broken_from net (below_ask net b p false) other (first + 1 + length (lines_of_tree one))))
       (unbroken_ask net wf b above is p) (breaks_ask net wf b above is p)
       (λ fits. first_append (first + 1) left right (first_broken_from net (below_ask net b p true) one (first + 1))
-      (first_broken_from net (below_ask net b p false) other (first + 1 + length (lines_of one)))
+      (first_broken_from net (below_ask net b p false) other (first + 1 + length (lines_of_tree one)))
       (first_from wf (below_ask net b p true) (Asked p true ∷ above) one (first + 1) (branch_ask net wf b above is p true fits))
-      (subst (λ n. IsFirstBreak net (first + 1 + n) right (first_broken_from net (below_ask net b p false) other (first + 1 + length (lines_of one)))) (sym size)
-      (first_from wf (below_ask net b p false) (Asked p false ∷ above) other (first + 1 + length (lines_of one)) (branch_ask net wf b above is p false fits))))
+      (subst (λ n. IsFirstBreak net (first + 1 + n) right (first_broken_from net (below_ask net b p false) other (first + 1 + length (lines_of_tree one)))) (sym size)
+      (first_from wf (below_ask net b p false) (Asked p false ∷ above) other (first + 1 + length (lines_of_tree one)) (branch_ask net wf b above is p false fits))))
     where
-      length-mapped : (ls : List (List Above × Line)) → length (map (λ (l : List Above × Line). l.1) ls) ≡ length ls
-      length-mapped ls = length-map ls (λ (l : List Above × Line). l.1)
+      length-mapped : (ls : List (List Above × TreeLine)) → length (map (λ (l : List Above × TreeLine). l.1) ls) ≡ length ls
+      length-mapped ls = length-map ls (λ (l : List Above × TreeLine). l.1)
   first_from wf b above done first is =
       first_if (is_complete net b) first (above, DoneLine) [] None (unbroken_done net wf b above is) (breaks_done net wf b above is) (λ whole. All-nil Stays)
 
   -- the line that is found is the first that breaks
   pub first_breaks : (tree : Tree) → IsWellFormed net → IsFirstBreak net 2 (on_branches [] tree) (first_broken net tree)
-  first_breaks tree wf = first_from wf start [] tree 2 (branch_start net)
+  first_breaks tree wf = first_from wf branch_begun [] tree 2 (branch_start net)

@@ -7,18 +7,18 @@ use Rattle.cstn_net.specs.Strategies.{IsStrategy}
 use Rattle.cstn_tree.specs.declared.checking.TreeAnswer.{TreeAnswer}
 use Rattle.cstn_tree.specs.declared.checking.TreeAnswer.TheVariants.{Accepted, Rejected}
 use Rattle.cstn_outline.specs.declared.trees.Line.{Line as ProgramLine}
-use Rattle.cstn_outline.specs.Trees.{Tree, Line, lines_of, names_on, table_of}
-use Rattle.cstn_tree.specs.Good.{start, first_broken, IsUnbroken}
+use Rattle.cstn_outline.specs.Trees.{Tree, TreeLine, lines_of_tree, names_on, table_of}
+use Rattle.cstn_tree.specs.Good.{branch_begun, first_broken, IsUnbroken}
 use Rattle.cstn_tree.specs.Walks.{first_broken_in}
-use Rattle.cstn_outline.specs.Read.{the_line, the_tree}
+use Rattle.cstn_outline.specs.Read.{the_tree_line, the_tree}
 use Rattle.cstn_tree.specs.Branches.{the_answer}
 use Rattle.cstn_tree.proofs.TreeLemmas.{walk_finds}
 use Rattle.cstn_tree.proofs.Strategies.{good_is_strategy}
 
-pub finds : (net : Network) (o : Option ℕ) (ls tree : List Line) → o ≡ first_broken_in net (start ∷ []) ls 2 → ls ≡ tree →
-    tree ≡ lines_of (the_tree tree) → o ≡ first_broken net (the_tree tree)
+pub finds : (net : Network) (o : Option ℕ) (ls tree : List TreeLine) → o ≡ first_broken_in net (branch_begun ∷ []) ls 2 → ls ≡ tree →
+    tree ≡ lines_of_tree (the_tree tree) → o ≡ first_broken net (the_tree tree)
 finds net o ls tree e same whole =
-    e ∙ ap (λ l. first_broken_in net (start ∷ []) l 2) (same ∙ whole) ∙ walk_finds net (the_tree tree)
+    e ∙ ap (λ l. first_broken_in net (branch_begun ∷ []) l 2) (same ∙ whole) ∙ walk_finds net (the_tree tree)
 
 -- an answer that names the first line that breaks, if any, accepts exactly where no line breaks
 pub accepts : (net : Network) (tree : Tree) (a : TreeAnswer) → the_answer a ≡ first_broken net tree → (a ≡ Accepted) ↔ IsUnbroken net tree
@@ -31,7 +31,7 @@ accepted_strategy net tree a wf e h = good_is_strategy net tree wf.network ((acc
 
 -- the lines from the place k on are the one at k and those from k + 1 on
 pub lines_next : (lines : List ProgramLine) (k : ℕ) (l : ProgramLine) → k < length lines → l ≡ get_or lines k l →
-    map the_line (drop k lines) ≡ the_line l ∷ map the_line (drop (k + 1) lines)
+    map the_tree_line (drop k lines) ≡ the_tree_line l ∷ map the_tree_line (drop (k + 1) lines)
 lines_next lines k l inside at =
-    ap (map the_line) (drop-cons lines k l inside) ∙ ap (λ x. the_line x ∷ map the_line (drop (suc k) lines)) (sym at)
-    ∙ ap (λ n. the_line l ∷ map the_line (drop n lines)) (sym (add-one k))
+    ap (map the_tree_line) (drop-cons lines k l inside) ∙ ap (λ x. the_tree_line x ∷ map the_tree_line (drop (suc k) lines)) (sym at)
+    ∙ ap (λ n. the_tree_line l ∷ map the_tree_line (drop n lines)) (sym (add-one k))

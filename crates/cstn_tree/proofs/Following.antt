@@ -17,9 +17,9 @@ use Rattle.cstn_net.specs.Networks.{Network, Constraint, IsConstraint, IsWellFor
 use Rattle.cstn_net.specs.Strategies.{Table}
 use Rattle.cstn_plan.specs.Asked.{greatest}
 use Rattle.cstn_plan.specs.Plans.{IsEarliest}
-use Rattle.cstn_exec.specs.Runs.{Run, start, next, executed_at, outcome_of, is_ready, known, is_awaited, awaited, is_possible, fits_known, is_free, has_work, called, due}
-use Rattle.cstn_exec.specs.Moves.{Awaiting, moment_refusal, moved, handed, executed}
-use Rattle.cstn_exec.specs.Right.{AgreesKnown, IsRight}
+use Rattle.cstn_exec.specs.Runs.{Run, start_of_run, next, executed_at, outcome_of, is_outcome_ready, known, is_awaited, awaited, is_possible, fits_known, is_free, has_work, called, due}
+use Rattle.cstn_exec.specs.Moves.{Awaiting, moment_refusal, run_moved, handed, executed}
+use Rattle.cstn_exec.specs.Right.{AgreesKnown, IsRightRun}
 use Rattle.cstn_exec.proofs.Knowing.{Ready, observed_where, known_from, awaited_from}
 use Rattle.cstn_exec.proofs.Judging.{judged}
 use Rattle.cstn_exec.proofs.Naming.{passing, passing_yes, passing_no, from_passing, in_passing, executed_passing, executed_failing, executed_size}
@@ -28,7 +28,7 @@ use Rattle.cstn_exec.proofs.Moving.{start_right, handed_right, moved_right, free
 use Rattle.cstn_exec.proofs.Dues.{seen_scenario, seen_agrees, due_first, accepted_quiet}
 use Rattle.cstn_outline.specs.Trees.{is_named}
 use Rattle.cstn_outline.proofs.WalkLemmas.{named_has, has_named}
-use Rattle.cstn_tree.specs.Good.{Branch, start as first_branch, placed_with, below_at, are_new, are_in_time, is_within, is_kept, is_met, fits_at, observed_on, known_from as known_at, below_ask, fits_ask}
+use Rattle.cstn_tree.specs.Good.{Branch, branch_begun as first_branch, placed_with, below_at, are_new, are_in_time, is_met_within, is_met_so_far, is_met, fits_at, observed_on, known_from as known_at, below_ask, fits_ask}
 use Rattle.cstn_tree.proofs.BranchLemmas.{observed_by}
 use Rattle.cstn_tree.proofs.Strategies.{AreOf}
 use Rattle.cstn_label.proofs.MarkLemmas.{fits_true}
@@ -60,7 +60,7 @@ passing_new placed test a (suc n) free = elim (cases_Bool (test a)) [
 -- the branch has the moments and the outcomes of a right run, in which there is nothing to be done before the first moment
 -- that may follow
 pub record Follows (net : Network) (bounds : List Bound) (run : Run) (b : Branch) : Type 0 where
-  pub right : IsRight net run
+  pub right : IsRightRun net run
   pub placed : (x : ℕ) → b.placed x ≡ executed_at run x
   pub asked : (p : ℕ) → b.asked p ≡ outcome_of run p
   pub from : next run ≤ b.from
@@ -81,7 +81,7 @@ plain_holds No plain = tt
 plain_holds Unknown plain = plain
 
 module _ (net : Network) (bounds : List Bound) (table : Table) (wf : IsWellFormed net) (plan : IsEarliest net bounds table) where
-  pub follows_start : Follows net bounds (start (count net)) first_branch
+  pub follows_start : Follows net bounds (start_of_run (count net)) first_branch
   follows_start = record {
     right = start_right net bounds table wf plan;
     placed = λ x. sym (get_or_repeated (count net) x None);
@@ -117,26 +117,26 @@ module _ (net : Network) (bounds : List Bound) (table : Table) (wf : IsWellForme
             let fit = each_passes (λ q. fits_known (b.asked q) (a q)) 0 52 possible p (omega arith) (omega arith) in
             subst (λ o. MarkFits (value_or o (a p)) (a p)) (sym e) (fits_true v (a p) (subst (λ o. fits_known o (a p) ≡ true) e fit))
 
-    within_true : (most : ℤ) (m n : ℕ) → (pos n -ℤ pos m) ≤ℤ most → is_within most (Some m) (Some n) ≡ true
+    within_true : (most : ℤ) (m n : ℕ) → (pos n -ℤ pos m) ≤ℤ most → is_met_within most (Some m) (Some n) ≡ true
     within_true most m n met = grind (arith, met.le)
 
     -- each constraint is met as far as its ends are placed
-    pub constraints_kept : (c : Constraint) → Contains net.constraints c → is_kept b.placed b.asked c ≡ true
+    pub constraints_kept : (c : Constraint) → Contains net.constraints c → is_met_so_far b.placed b.asked c ≡ true
     constraints_kept c has = elim (cases_Bool (is_possible b.asked c.label)) [
-      | inl possible ↦ or_right (not (is_possible b.asked c.label)) (is_within c.most (b.placed c.from) (b.placed c.to)) (go possible (b.placed c.from) (b.placed c.to) refl refl)
-      | inr impossible ↦ or_left (not (is_possible b.asked c.label)) (is_within c.most (b.placed c.from) (b.placed c.to)) (ap not impossible)
+      | inl possible ↦ or_right (not (is_possible b.asked c.label)) (is_met_within c.most (b.placed c.from) (b.placed c.to)) (go possible (b.placed c.from) (b.placed c.to) refl refl)
+      | inr impossible ↦ or_left (not (is_possible b.asked c.label)) (is_met_within c.most (b.placed c.from) (b.placed c.to)) (ap not impossible)
     ]
       where
-        go : is_possible b.asked c.label ≡ true → (m n : Option ℕ) → b.placed c.from ≡ m → b.placed c.to ≡ n → is_within c.most (b.placed c.from) (b.placed c.to) ≡ true
-        go possible None n from to = ap (λ o. is_within c.most o (b.placed c.to)) from
-        go possible (Some m) None from to = ap (λ o. is_within c.most o (b.placed c.to)) from ∙ ap (is_within c.most (Some m)) to
+        go : is_possible b.asked c.label ≡ true → (m n : Option ℕ) → b.placed c.from ≡ m → b.placed c.to ≡ n → is_met_within c.most (b.placed c.from) (b.placed c.to) ≡ true
+        go possible None n from to = ap (λ o. is_met_within c.most o (b.placed c.to)) from
+        go possible (Some m) None from to = ap (λ o. is_met_within c.most o (b.placed c.to)) from ∙ ap (is_met_within c.most (Some m)) to
         go possible (Some m) (Some n) from to =
             let plain = (All-contains (IsConstraint net) net.constraints c wf.network.constraints has).plain in
             let of = holding_of c.label in
             let met = plan.strategy.meets (holding c.label) c has (holding_holds c.label plain possible) in
             let one = placed_is (holding c.label) of c.from m from in
             let two = placed_is (holding c.label) of c.to n to in
-            ap (λ o. is_within c.most o (b.placed c.to)) from ∙ ap (is_within c.most (Some m)) to
+            ap (λ o. is_met_within c.most o (b.placed c.to)) from ∙ ap (is_met_within c.most (Some m)) to
             ∙ within_true c.most m n (subst (λ k. (pos n -ℤ pos k) ≤ℤ c.most) one (subst (λ k. (pos k -ℤ pos (table (holding c.label) c.from)) ≤ℤ c.most) two met))
 
     -- the next `at` may have the due moment
@@ -166,7 +166,7 @@ module _ (net : Network) (bounds : List Bound) (table : Table) (wf : IsWellForme
       from_at : next run ≤ t
       from_at = (judged net bounds run t None accepted).from
 
-      placed_at : (x : ℕ) → placed_with b.placed t new x ≡ executed_at (moved net bounds run t) x
+      placed_at : (x : ℕ) → placed_with b.placed t new x ≡ executed_at (run_moved net bounds run t) x
       placed_at x =
           let size = f.right.moments in
           elim (cases_Bool (is_named x new)) [
@@ -178,7 +178,7 @@ module _ (net : Network) (bounds : List Bound) (table : Table) (wf : IsWellForme
             | inr away ↦ cond-false (is_named x new) (Some t) (b.placed x) away ∙ f.placed x ∙ stays away (cases_lt x (count net))
           ]
         where
-          stays : is_named x new ≡ false → (x < count net) ⊎ (count net ≤ x) → executed_at run x ≡ executed_at (moved net bounds run t) x
+          stays : is_named x new ≡ false → (x < count net) ⊎ (count net ≤ x) → executed_at run x ≡ executed_at (run_moved net bounds run t) x
           stays away (inl inside) = elim (cases_Bool (free x)) [
             | inl passes ↦ absurd (both_ways (is_named x new) away (has_named x new (in_passing free 0 (count net) x (omega arith) (omega arith) passes)))
             | inr fails ↦ sym (executed_failing free t 0 (count net) run.moments x fails)
@@ -188,7 +188,7 @@ module _ (net : Network) (bounds : List Bound) (table : Table) (wf : IsWellForme
               let after = executed_size t new run.moments in
               get_or_past run.moments x None (omega arith) ∙ sym (get_or_past (executed t new run.moments) x None (omega arith))
 
-      pub follows_at : Follows net bounds (moved net bounds run t) (below_at b t new)
+      pub follows_at : Follows net bounds (run_moved net bounds run t) (below_at b t new)
       follows_at = record {
         right = moved_right net bounds table wf plan run f.right t from_at quiet_at nobody;
         placed = placed_at;
@@ -233,8 +233,8 @@ module _ (net : Network) (bounds : List Bound) (table : Table) (wf : IsWellForme
       let below = follows_at net bounds table wf plan run b f t is accepted in
       let kept : list_all (is_met (placed_with b.placed t new) b.asked new) net.constraints ≡ true =
       each_of (is_met (placed_with b.placed t new) b.asked new) net.constraints (λ c has.
-      or_right (not (is_named c.from new || is_named c.to new)) (is_kept (placed_with b.placed t new) b.asked c)
-      (constraints_kept net bounds table wf plan (moved net bounds run t) (below_at b t new) below c has)) in
+      or_right (not (is_named c.from new || is_named c.to new)) (is_met_so_far (placed_with b.placed t new) b.asked c)
+      (constraints_kept net bounds table wf plan (run_moved net bounds run t) (below_at b t new) below c has)) in
       and_from (nat_le b.from t) _ (le-leb b.from t (due_may_follow net bounds table wf plan run b f t is))
       (and_from (are_new b.placed new) _
       (passing_new b.placed (is_free net bounds run t) 0 (count net) (free_unplaced net bounds table wf plan run b f t is accepted))
@@ -269,7 +269,7 @@ module _ (net : Network) (bounds : List Bound) (table : Table) (wf : IsWellForme
         is_some (find awaits (range_with_len 0 52))
         || list_any (λ x. is_none (executed_at run x) && not (nat_lt u (greatest (λ c. (c.node == x) && is_possible values c.label) bounds))) (range_with_len 0 (count net))
 
-    work_same : (v : Bool) (u : ℕ) → is_ready net run (u + 1) p ≡ false → has_work net bounds run u ≡ has_work net bounds (handed run p v) u
+    work_same : (v : Bool) (u : ℕ) → is_outcome_ready net run (u + 1) p ≡ false → has_work net bounds run u ≡ has_work net bounds (handed run p v) u
     unfolding awaited
     work_same v u unready =
         ap (λ values. work_by values (is_awaited net run (u + 1)) u) (fun_ext known_same)
@@ -278,28 +278,28 @@ module _ (net : Network) (bounds : List Bound) (table : Table) (wf : IsWellForme
         known_same : (q : ℕ) → known net run (u + 1) q ≡ known net (handed run p v) (u + 1) q
         known_same q = elim (cases_eq q p) [
           | inl same ↦ subst (λ r. known net run (u + 1) r ≡ known net (handed run p v) (u + 1) r) (sym same)
-              (cond-false (is_ready net run (u + 1) p) (outcome_of run p) None unready
-              ∙ sym (cond-false (is_ready net run (u + 1) p) (outcome_of (handed run p v) p) None unready))
-          | inr other ↦ ap (λ o. cond (is_ready net run (u + 1) q) o None) (sym (get_or-set_other run.outcomes p q (Some v) None other))
+              (cond-false (is_outcome_ready net run (u + 1) p) (outcome_of run p) None unready
+              ∙ sym (cond-false (is_outcome_ready net run (u + 1) p) (outcome_of (handed run p v) p) None unready))
+          | inr other ↦ ap (λ o. cond (is_outcome_ready net run (u + 1) q) o None) (sym (get_or-set_other run.outcomes p q (Some v) None other))
         ]
 
         awaited_same : (q : ℕ) → is_awaited net run (u + 1) q ≡ is_awaited net (handed run p v) (u + 1) q
         awaited_same q = elim (cases_eq q p) [
           | inl same ↦ subst (λ r. is_awaited net run (u + 1) r ≡ is_awaited net (handed run p v) (u + 1) r) (sym same)
               (ap (λ r. r && is_none (outcome_of run p)) unready ∙ sym (ap (λ r. r && is_none (outcome_of (handed run p v) p)) unready))
-          | inr other ↦ ap (λ o. is_ready net run (u + 1) q && is_none o) (sym (get_or-set_other run.outcomes p q (Some v) None other))
+          | inr other ↦ ap (λ o. is_outcome_ready net run (u + 1) q && is_none o) (sym (get_or-set_other run.outcomes p q (Some v) None other))
         ]
 
     quiet_ask : (v : Bool) (u : ℕ) → next run ≤ u → u < t → has_work net bounds (handed run p v) u ≡ false
     quiet_ask v u low high =
         let first = (due_first net bounds table wf plan run f.right t is).1 in
         let idle = first.before u low high in
-        sym (work_same v u (unready idle (is_ready net run (u + 1) p) refl)) ∙ idle
+        sym (work_same v u (unready idle (is_outcome_ready net run (u + 1) p) refl)) ∙ idle
       where
-        unready : has_work net bounds run u ≡ false → (r : Bool) → is_ready net run (u + 1) p ≡ r → is_ready net run (u + 1) p ≡ false
+        unready : has_work net bounds run u ≡ false → (r : Bool) → is_outcome_ready net run (u + 1) p ≡ r → is_outcome_ready net run (u + 1) p ≡ false
         unready idle false e = e
         unready idle true e =
-            absurd ((idle_from net bounds run wf u idle).none_awaited p (and_from (is_ready net run (u + 1) p) (is_none (outcome_of run p)) e (ap is_none missing)))
+            absurd ((idle_from net bounds run wf u idle).none_awaited p (and_from (is_outcome_ready net run (u + 1) p) (is_none (outcome_of run p)) e (ap is_none missing)))
 
     pub follows_ask : (v : Bool) → Follows net bounds (handed run p v) (below_ask net b p v)
     follows_ask v =

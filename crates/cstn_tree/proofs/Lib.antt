@@ -4,8 +4,8 @@ mod Standing
 mod Ways
 pub mod Strategies
 -- Lines that break.
-mod BranchLemmas
-mod Following
+pub mod BranchLemmas
+pub mod Following
 mod StartLemmas
 mod BreakLemmas
 mod Checks
@@ -15,6 +15,6 @@ mod MakingLemmas
 mod MadeTrees
 mod OneTree
 mod SameTree
-mod TreeLengths
+pub mod TreeLengths
 -- Texts of trees.
 mod SayingTrees

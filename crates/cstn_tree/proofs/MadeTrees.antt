@@ -11,24 +11,24 @@ use Rattle.cstn_net.specs.Limits.{most_load}
 use Rattle.cstn_net.specs.Networks.{Network, IsWellFormed, count}
 use Rattle.cstn_net.specs.Strategies.{Table, IsLeast}
 use Rattle.cstn_plan.specs.Plans.{IsEarliest}
-use Rattle.cstn_exec.specs.Runs.{Run, start, is_free, called, due}
-use Rattle.cstn_exec.specs.Moves.{Awaiting, moment_refusal, moved, handed, executed}
+use Rattle.cstn_exec.specs.Runs.{Run, start_of_run, is_free, called, due}
+use Rattle.cstn_exec.specs.Moves.{Awaiting, moment_refusal, run_moved, handed, executed}
 use Rattle.cstn_exec.proofs.Naming.{from_passing}
 use Rattle.cstn_exec.proofs.Moving.{free_parts}
 use Rattle.cstn_exec.proofs.Dues.{done_from, due_is_due, due_none}
-use Rattle.cstn_outline.specs.Trees.{Tree, Line, IsAmong, lines_of, names_on, moment_or_zero, table_of}
+use Rattle.cstn_outline.specs.Trees.{Tree, TreeLine, IsAmong, lines_of_tree, names_on, moment_or_zero, table_of}
 use Rattle.cstn_outline.specs.Trees.Tree.{done}
-use Rattle.cstn_outline.specs.Trees.Line.{AtLine, AskLine, DoneLine}
-use Rattle.cstn_tree.specs.Good.{Branch, start as first_branch, below_at, below_ask, fits_at, fits_ask, is_complete, or_else, first_broken_from, IsUnbroken}
+use Rattle.cstn_outline.specs.Trees.TreeLine.{AtLine, AskLine, DoneLine}
+use Rattle.cstn_tree.specs.Good.{Branch, branch_begun as first_branch, below_at, below_ask, fits_at, fits_ask, is_complete, or_else, first_broken_from, IsUnbroken}
 use Rattle.cstn_tree.specs.Made.{IsTreeFrom, IsTreeOf}
 use Rattle.cstn_tree.specs.Made.IsTreeFrom.{ends, asks, names}
-use Rattle.cstn_outline.specs.Written.{NamesSome, depth, FitsText, IsPrintableLine, AreWritten}
+use Rattle.cstn_outline.specs.Written.{NamesSome, depth, TreeFitsText, IsPrintableLine, IsTreeWritten}
 use Rattle.cstn_tree.proofs.Strategies.{AreOf, asked_of}
 use Rattle.cstn_tree.proofs.Ways.{full, placed_full, full_at, full_true, full_false}
 use Rattle.cstn_tree.proofs.Following.{Follows, follows_start, placed_is, follows_at, named_unplaced, some_named, at_fits, ask_fits, missing, letter, follows_ask}
 
 -- the time-points of the line are below n
-abbrev NamesBelow : ℕ → Line → Type 0
+abbrev NamesBelow : ℕ → TreeLine → Type 0
 NamesBelow n l = All (λ x. x < n) (names_on l)
 
 -- ---- how many values are missing
@@ -96,17 +96,17 @@ module _ (net : Network) (bounds : List Bound) (table : Table) (wf : IsWellForme
   good_from run tree (names r t next is accepted below) b f line =
       holds_if (fits_at net b t (called net bounds r t)) (first_broken_from net (below_at b t (called net bounds r t)) next (line + 1)) line
       (at_fits net bounds table wf plan r b f t is accepted)
-      (good_from (moved net bounds r t) next below (below_at b t (called net bounds r t)) (follows_at net bounds table wf plan r b f t is accepted) (line + 1))
+      (good_from (run_moved net bounds r t) next below (below_at b t (called net bounds r t)) (follows_at net bounds table wf plan r b f t is accepted) (line + 1))
   good_from run tree (asks r t p one other is waits first second) b f line =
       let here = first_broken_from net (below_ask net b p true) one (line + 1) in
-      let there = first_broken_from net (below_ask net b p false) other (line + 1 + length (lines_of one)) in
+      let there = first_broken_from net (below_ask net b p false) other (line + 1 + length (lines_of_tree one)) in
       holds_if (fits_ask net b p) (or_else here there) line (ask_fits net bounds table wf plan r b f t is p waits)
       (neither_breaks here there
       (good_from (handed r p true) one first (below_ask net b p true) (follows_ask net bounds table wf plan r b f t is p waits true) (line + 1))
-      (good_from (handed r p false) other second (below_ask net b p false) (follows_ask net bounds table wf plan r b f t is p waits false) (line + 1 + length (lines_of one))))
+      (good_from (handed r p false) other second (below_ask net b p false) (follows_ask net bounds table wf plan r b f t is p waits false) (line + 1 + length (lines_of_tree one))))
 
   pub made_good : (tree : Tree) → IsTreeOf net bounds tree → IsUnbroken net tree
-  made_good tree made = good_from (start (count net)) tree made first_branch (follows_start net bounds table wf plan) 2
+  made_good tree made = good_from (start_of_run (count net)) tree made first_branch (follows_start net bounds table wf plan) 2
 
   -- ---- least moments
 
@@ -117,7 +117,7 @@ module _ (net : Network) (bounds : List Bound) (table : Table) (wf : IsWellForme
       placed_full b done s x there.0 there.1 ∙ ap (λ m. Some m) (sym (placed_is net bounds table wf plan r b f s of x there.0 there.1))
   least_from run tree (names r t next is accepted below) b f s of x here =
       sym (full_at b t (called net bounds r t) next s x (named_unplaced net bounds table wf plan r b f t is accepted))
-      ∙ least_from (moved net bounds r t) next below (below_at b t (called net bounds r t)) (follows_at net bounds table wf plan r b f t is accepted) s of x here
+      ∙ least_from (run_moved net bounds r t) next below (below_at b t (called net bounds r t)) (follows_at net bounds table wf plan r b f t is accepted) s of x here
   least_from run tree (asks r t p one other is waits first second) b f s of x here = elim (cases_Bool (s p)) [
     | inl value ↦
         sym (full_true net b p one other s x value)
@@ -129,24 +129,24 @@ module _ (net : Network) (bounds : List Bound) (table : Table) (wf : IsWellForme
 
   pub made_least : (tree : Tree) → IsTreeOf net bounds tree → (s : Scenario) (x : ℕ) → x < count net → IsLeast net s x (table_of tree s x)
   made_least tree made s x here =
-      let at = least_from (start (count net)) tree made first_branch (follows_start net bounds table wf plan) s (λ p v e. let f : ⊥ = cc in absurd f) x here in
+      let at = least_from (start_of_run (count net)) tree made first_branch (follows_start net bounds table wf plan) s (λ p v e. let f : ⊥ = cc in absurd f) x here in
       subst (λ m. IsLeast net s x m) (sym (ap moment_or_zero at)) (plan.least s x here)
 
   -- ---- texts
 
-  some_from : (run : Run) (tree : Tree) → IsTreeFrom net bounds run tree → (b : Branch) → Follows net bounds run b → All NamesSome (lines_of tree)
+  some_from : (run : Run) (tree : Tree) → IsTreeFrom net bounds run tree → (b : Branch) → Follows net bounds run b → All NamesSome (lines_of_tree tree)
   some_from run tree (ends r none) b f = All-cons NamesSome DoneLine [] tt (All-nil NamesSome)
   some_from run tree (names r t next is accepted below) b f =
-      All-cons NamesSome (AtLine t (called net bounds r t)) (lines_of next) (some_named net bounds table wf plan r b f t is accepted)
-      (some_from (moved net bounds r t) next below (below_at b t (called net bounds r t)) (follows_at net bounds table wf plan r b f t is accepted))
+      All-cons NamesSome (AtLine t (called net bounds r t)) (lines_of_tree next) (some_named net bounds table wf plan r b f t is accepted)
+      (some_from (run_moved net bounds r t) next below (below_at b t (called net bounds r t)) (follows_at net bounds table wf plan r b f t is accepted))
   some_from run tree (asks r t p one other is waits first second) b f =
-      All-cons NamesSome (AskLine p) (lines_of one ++ lines_of other) tt
-      (All-append NamesSome (lines_of one) (lines_of other)
+      All-cons NamesSome (AskLine p) (lines_of_tree one ++ lines_of_tree other) tt
+      (All-append NamesSome (lines_of_tree one) (lines_of_tree other)
       (some_from (handed r p true) one first (below_ask net b p true) (follows_ask net bounds table wf plan r b f t is p waits true))
       (some_from (handed r p false) other second (below_ask net b p false) (follows_ask net bounds table wf plan r b f t is p waits false)))
 
   -- a moment leaves fewer time-points that aren't executed, and an outcome fewer outcomes that weren't seen
-  pub moved_fewer : (run : Run) (b : Branch) → Follows net bounds run b → (t : ℕ) → due net bounds run ≡ Some t → moment_refusal net bounds run t ≡ None → left (moved net bounds run t).moments + 1 ≤ left run.moments
+  pub moved_fewer : (run : Run) (b : Branch) → Follows net bounds run b → (t : ℕ) → due net bounds run ≡ Some t → moment_refusal net bounds run t ≡ None → left (run_moved net bounds run t).moments + 1 ≤ left run.moments
   moved_fewer run b f t is accepted = executed_less t (called net bounds run t) run.moments (some_named net bounds table wf plan run b f t is accepted) (λ x has.
       let in_range = from_passing (is_free net bounds run t) 0 (count net) x has in
       let upto = in_range.1 in
@@ -163,7 +163,7 @@ module _ (net : Network) (bounds : List Bound) (table : Table) (wf : IsWellForme
   short_from : (run : Run) (tree : Tree) → IsTreeFrom net bounds run tree → (b : Branch) → Follows net bounds run b → depth tree ≤ left run.moments + left run.outcomes + 1
   short_from run tree (ends r none) b f = omega arith
   short_from run tree (names r t next is accepted below) b f =
-      let more = short_from (moved net bounds r t) next below (below_at b t (called net bounds r t)) (follows_at net bounds table wf plan r b f t is accepted) in
+      let more = short_from (run_moved net bounds r t) next below (below_at b t (called net bounds r t)) (follows_at net bounds table wf plan r b f t is accepted) in
       let fewer = moved_fewer r b f t is accepted in
       omega arith
   short_from run tree (asks r t p one other is waits first second) b f =
@@ -173,44 +173,44 @@ module _ (net : Network) (bounds : List Bound) (table : Table) (wf : IsWellForme
       let other_less = handed_fewer r b f t is p waits false in
       omega arith
 
-  pub made_fits : (tree : Tree) → IsTreeOf net bounds tree → FitsText tree
+  pub made_fits : (tree : Tree) → IsTreeOf net bounds tree → TreeFitsText tree
   made_fits tree made =
       let first = follows_start net bounds table wf plan in
-      let short = short_from (start (count net)) tree made first_branch first in
-      let moments = left_upto (start (count net)).moments in
-      let outcomes = left_upto (start (count net)).outcomes in
+      let short = short_from (start_of_run (count net)) tree made first_branch first in
+      let moments = left_upto (start_of_run (count net)).moments in
+      let outcomes = left_upto (start_of_run (count net)).outcomes in
       let size = first.right.moments in
       let letters = first.right.outcomes in
       let few = wf.few_points in
       record {
-        named = some_from (start (count net)) tree made first_branch first;
+        named = some_from (start_of_run (count net)) tree made first_branch first;
         short = omega arith;
       }
 
   -- each line can be said
-  printable_from : (texts : List (List ℕ)) → length texts ≡ count net → (run : Run) (tree : Tree) → IsTreeFrom net bounds run tree → (b : Branch) → Follows net bounds run b → All (IsPrintableLine texts) (lines_of tree)
+  printable_from : (texts : List (List ℕ)) → length texts ≡ count net → (run : Run) (tree : Tree) → IsTreeFrom net bounds run tree → (b : Branch) → Follows net bounds run b → All (IsPrintableLine texts) (lines_of_tree tree)
   printable_from texts named run tree (ends r none) b f = All-cons (IsPrintableLine texts) DoneLine [] tt (All-nil (IsPrintableLine texts))
   printable_from texts named run tree (names r t next is accepted below) b f =
       let soon = (due_is_due net bounds table wf plan r f.right t is).1 in
       let in_time = wf.in_time in
-      All-cons (IsPrintableLine texts) (AtLine t (called net bounds r t)) (lines_of next) (
+      All-cons (IsPrintableLine texts) (AtLine t (called net bounds r t)) (lines_of_tree next) (
         omega (arith, soon, in_time),
         All-weaker (Contains (called net bounds r t)) (λ x. x < length texts)
             (λ x has. let upto = (from_passing (is_free net bounds r t) 0 (count net) x has).1 in omega (arith, upto, named)) (called net bounds r t) (All-contains_itself (called net bounds r t)),
       )
-      (printable_from texts named (moved net bounds r t) next below (below_at b t (called net bounds r t)) (follows_at net bounds table wf plan r b f t is accepted))
+      (printable_from texts named (run_moved net bounds r t) next below (below_at b t (called net bounds r t)) (follows_at net bounds table wf plan r b f t is accepted))
   printable_from texts named run tree (asks r t p one other is waits first second) b f =
-      All-cons (IsPrintableLine texts) (AskLine p) (lines_of one ++ lines_of other) (letter net bounds table wf plan r b f t is p waits)
-      (All-append (IsPrintableLine texts) (lines_of one) (lines_of other)
+      All-cons (IsPrintableLine texts) (AskLine p) (lines_of_tree one ++ lines_of_tree other) (letter net bounds table wf plan r b f t is p waits)
+      (All-append (IsPrintableLine texts) (lines_of_tree one) (lines_of_tree other)
       (printable_from texts named (handed r p true) one first (below_ask net b p true) (follows_ask net bounds table wf plan r b f t is p waits true))
       (printable_from texts named (handed r p false) other second (below_ask net b p false) (follows_ask net bounds table wf plan r b f t is p waits false)))
 
-  pub made_written : (texts : List (List ℕ)) (load : ℕ) → length texts ≡ count net → 1 ≤ load → load ≤ most_load → (tree : Tree) → IsTreeOf net bounds tree → AreWritten texts load tree
+  pub made_written : (texts : List (List ℕ)) (load : ℕ) → length texts ≡ count net → 1 ≤ load → load ≤ most_load → (tree : Tree) → IsTreeOf net bounds tree → IsTreeWritten texts load tree
   made_written texts load named low high tree made = record {
     load_low = low;
     load_high = high;
     fits = made_fits tree made;
-    each = printable_from texts named (start (count net)) tree made first_branch (follows_start net bounds table wf plan);
+    each = printable_from texts named (start_of_run (count net)) tree made first_branch (follows_start net bounds table wf plan);
   }
 
 -- ---- time-points
@@ -219,13 +219,13 @@ module _ (net : Network) (bounds : List Bound) where
   among_from : (run : Run) (tree : Tree) → IsTreeFrom net bounds run tree → IsAmong (count net) tree
   among_from run tree (ends r none) = All-cons (NamesBelow (count net)) DoneLine [] (All-nil (λ x. x < count net)) (All-nil (NamesBelow (count net)))
   among_from run tree (names r t next is accepted below) =
-      All-cons (NamesBelow (count net)) (AtLine t (called net bounds r t)) (lines_of next)
+      All-cons (NamesBelow (count net)) (AtLine t (called net bounds r t)) (lines_of_tree next)
       (All-weaker (Contains (called net bounds r t)) (λ x. x < count net)
       (λ x has. let upto = (from_passing (is_free net bounds r t) 0 (count net) x has).1 in omega arith) (called net bounds r t) (All-contains_itself (called net bounds r t)))
-      (among_from (moved net bounds r t) next below)
+      (among_from (run_moved net bounds r t) next below)
   among_from run tree (asks r t p one other is waits first second) =
-      All-cons (NamesBelow (count net)) (AskLine p) (lines_of one ++ lines_of other) (All-nil (λ x. x < count net))
-      (All-append (NamesBelow (count net)) (lines_of one) (lines_of other) (among_from (handed r p true) one first) (among_from (handed r p false) other second))
+      All-cons (NamesBelow (count net)) (AskLine p) (lines_of_tree one ++ lines_of_tree other) (All-nil (λ x. x < count net))
+      (All-append (NamesBelow (count net)) (lines_of_tree one) (lines_of_tree other) (among_from (handed r p true) one first) (among_from (handed r p false) other second))
 
   pub made_among : (tree : Tree) → IsTreeOf net bounds tree → IsAmong (count net) tree
-  made_among tree made = among_from (start (count net)) tree made
+  made_among tree made = among_from (start_of_run (count net)) tree made

@@ -5,11 +5,11 @@ use Rattle.cstn_label.specs.Bounds.{Bound}
 use Rattle.cstn_net.specs.Networks.{Network, IsWellFormed, count}
 use Rattle.cstn_net.specs.Strategies.{Table}
 use Rattle.cstn_plan.specs.Plans.{IsEarliest}
-use Rattle.cstn_exec.specs.Runs.{Run, start, called, due}
-use Rattle.cstn_exec.specs.Moves.{Refusal, Awaiting, moment_refusal, moved, handed}
+use Rattle.cstn_exec.specs.Runs.{Run, start_of_run, called, due}
+use Rattle.cstn_exec.specs.Moves.{EventRefusal, Awaiting, moment_refusal, run_moved, handed}
 use Rattle.cstn_outline.specs.Trees.{Tree}
 use Rattle.cstn_outline.specs.Trees.Tree.{at, ask, done}
-use Rattle.cstn_tree.specs.Good.{Branch, start as first_branch, below_at, below_ask}
+use Rattle.cstn_tree.specs.Good.{Branch, branch_begun as first_branch, below_at, below_ask}
 use Rattle.cstn_tree.specs.Made.{IsTreeFrom, IsTreeOf}
 use Rattle.cstn_tree.specs.Made.IsTreeFrom.{ends, asks, names}
 use Rattle.cstn_tree.proofs.Following.{Follows, follows_start, follows_at, follows_ask}
@@ -24,7 +24,7 @@ module _ (net : Network) (bounds : List Bound) where
       let f : ⊥ = cc in
       f
 
-  same_prop : (o : Option Refusal) (p q : ℕ) → o ≡ Some (Awaiting p) → o ≡ Some (Awaiting q) → p ≡ q
+  same_prop : (o : Option EventRefusal) (p q : ℕ) → o ≡ Some (Awaiting p) → o ≡ Some (Awaiting q) → p ≡ q
   same_prop o p q one two =
       let e : Some (Awaiting p) ≡ Some (Awaiting q) = sym one ∙ two in
       cc
@@ -49,11 +49,11 @@ module _ (net : Network) (bounds : List Bound) where
       absurd (none_some (moment_refusal net bounds r t) (Awaiting p) accepted (subst (λ (v : ℕ). moment_refusal net bounds r v ≡ Some (Awaiting p)) (sym time) waits))
   same_from run tree again (names r t next is accepted below) (names q u after also free deeper) =
       let time : t ≡ u = same_Some t u (sym is ∙ also) in
-      let same : next ≡ after = same_from (moved net bounds r t) next after below (subst (λ (v : ℕ). IsTreeFrom net bounds (moved net bounds r v) after) (sym time) deeper) in
+      let same : next ≡ after = same_from (run_moved net bounds r t) next after below (subst (λ (v : ℕ). IsTreeFrom net bounds (run_moved net bounds r v) after) (sym time) deeper) in
       ap (at t (called net bounds r t)) same ∙ ap (λ (v : ℕ). at v (called net bounds r v) after) time
 
   pub one_tree : (tree again : Tree) → IsTreeOf net bounds tree → IsTreeOf net bounds again → tree ≡ again
-  one_tree = same_from (start (count net))
+  one_tree = same_from (start_of_run (count net))
 
 -- ---- at least one
 
@@ -70,7 +70,7 @@ module _ (net : Network) (bounds : List Bound) (table : Table) (waits : Waits ne
       by_refusal : (t : ℕ) → due net bounds run ≡ Some t → (moment_refusal net bounds run t ≡ None) ⊎ ((p : ℕ) × (moment_refusal net bounds run t ≡ Some (Awaiting p))) → (tree : Tree) × IsTreeFrom net bounds run tree
       by_refusal t is (inl accepted) =
           let fewer = moved_fewer net bounds table wf plan run b f t is accepted in
-          let next = deeper (moved net bounds run t) (below_at b t (called net bounds run t)) (follows_at net bounds table wf plan run b f t is accepted) (omega (arith, fewer)) in
+          let next = deeper (run_moved net bounds run t) (below_at b t (called net bounds run t)) (follows_at net bounds table wf plan run b f t is accepted) (omega (arith, fewer)) in
           (at t (called net bounds run t) next.0, names run t next.0 is accepted next.1)
       by_refusal t is (inr (p, asked)) =
           let one_less = handed_fewer net bounds table wf plan run b f t is p asked true in
@@ -89,5 +89,5 @@ module _ (net : Network) (bounds : List Bound) (table : Table) (waits : Waits ne
 
   pub some_tree : (tree : Tree) × IsTreeOf net bounds tree
   some_tree =
-      let first = start (count net) in
+      let first = start_of_run (count net) in
       tree_from (left first.moments + left first.outcomes + 1) first first_branch (follows_start net bounds table wf plan) (omega arith)

@@ -12,15 +12,15 @@ use Rattle.cstn_plan.specs.Plans.{IsEarliest}
 use Rattle.cstn_plan.proofs.PlanLemmas.{asked_earliest}
 use Rattle.cstn_check.specs.Growth.{log_of, live_bounds}
 use Rattle.cstn_check.proofs.Decides.{log_decides, log_closed, log_sound}
-use Rattle.cstn_exec.specs.Runs.{Run, start, called, due, is_done, is_free, awaited}
-use Rattle.cstn_exec.specs.Moves.{Done, moment_refusal, unless_past, unless_awaiting, unless_late, moved, handed, executed}
-use Rattle.cstn_exec.specs.Right.{IsRight, IsDue}
+use Rattle.cstn_exec.specs.Runs.{Run, start_of_run, called, due, is_run_done, is_free, awaited}
+use Rattle.cstn_exec.specs.Moves.{Done, moment_refusal, unless_past, unless_awaiting, unless_late, run_moved, handed, executed}
+use Rattle.cstn_exec.specs.Right.{IsRightRun, IsDue}
 use Rattle.cstn_exec.proofs.Dues.{due_is_due, due_none, done_none}
 use Rattle.cstn_exec.proofs.Naming.{from_passing, in_passing}
 use Rattle.cstn_exec.proofs.Refusals.{called_exactly}
 use Rattle.cstn_outline.specs.Trees.{Tree}
 use Rattle.cstn_outline.specs.Trees.Tree.{at}
-use Rattle.cstn_tree.specs.Good.{Branch, start as first_branch, below_at, below_ask}
+use Rattle.cstn_tree.specs.Good.{Branch, branch_begun as first_branch, below_at, below_ask}
 use Rattle.cstn_tree.specs.Made.{IsTreeFrom, IsTreeOf, IsTheTree}
 use Rattle.cstn_tree.specs.Made.IsTreeFrom.{ends, asks, names}
 use Rattle.cstn_tree.proofs.Following.{Follows, follows_start, follows_at, follows_ask}
@@ -38,7 +38,7 @@ one_due net run t u one two = elim (cases_lt t u) [
 
 -- a time-point that is called by one plan is called by the other
 free_by : (net : Network) (bounds others : List Bound) (table other : Table) (run : Run) (t : ℕ) → IsWellFormed net → IsEarliest net bounds table → IsEarliest net others other →
-    IsRight net run → moment_refusal net bounds run t ≡ None → moment_refusal net others run t ≡ None →
+    IsRightRun net run → moment_refusal net bounds run t ≡ None → moment_refusal net others run t ≡ None →
     (x : ℕ) → x < 0 + count net → is_free net bounds run t x ≡ true → is_free net others run t x ≡ true
 free_by net bounds others table other run t wf plan again right accepted accepts x here free =
     let has = in_passing (is_free net bounds run t) 0 (count net) x (omega arith) here free in
@@ -46,7 +46,7 @@ free_by net bounds others table other run t wf plan again right accepted accepts
     (from_passing (is_free net others run t) 0 (count net) x ((called_exactly net others other run t wf again right accepts x).1 is)).2
 
 module _ (net : Network) (bounds others : List Bound) (table other : Table) (wf : IsWellFormed net) (plan : IsEarliest net bounds table) (again : IsEarliest net others other) where
-  same_due : (run : Run) → IsRight net run → due net bounds run ≡ due net others run
+  same_due : (run : Run) → IsRightRun net run → due net bounds run ≡ due net others run
   same_due run right = go (due net bounds run) (due net others run) refl refl
     where
       go : (o q : Option ℕ) → due net bounds run ≡ o → due net others run ≡ q → o ≡ q
@@ -55,11 +55,11 @@ module _ (net : Network) (bounds others : List Bound) (table other : Table) (wf 
       go (Some t) (Some u) one two =
           ap Some (one_due net run t u (due_is_due net bounds table wf plan run right t one).0 (due_is_due net others other wf again run right u two).0)
 
-  same_refusal : (run : Run) (t : ℕ) → IsRight net run → moment_refusal net bounds run t ≡ moment_refusal net others run t
+  same_refusal : (run : Run) (t : ℕ) → IsRightRun net run → moment_refusal net bounds run t ≡ moment_refusal net others run t
   same_refusal run t right =
-      ap (λ (d : Option ℕ). if is_done run then Some Done else unless_past t run.now (unless_awaiting (awaited net run (t + 1)) (unless_late t d))) (same_due run right)
+      ap (λ (d : Option ℕ). if is_run_done run then Some Done else unless_past t run.now (unless_awaiting (awaited net run (t + 1)) (unless_late t d))) (same_due run right)
 
-  same_called : (run : Run) (t : ℕ) → IsRight net run → moment_refusal net bounds run t ≡ None → moment_refusal net others run t ≡ None → called net bounds run t ≡ called net others run t
+  same_called : (run : Run) (t : ℕ) → IsRightRun net run → moment_refusal net bounds run t ≡ None → moment_refusal net others run t ≡ None → called net bounds run t ≡ called net others run t
   same_called run t right accepted accepts =
       passing_same (is_free net bounds run t) (is_free net others run t) 0 (count net)
       (λ x from upto. same_truth (is_free net bounds run t x) (is_free net others run t x)
@@ -77,13 +77,13 @@ module _ (net : Network) (bounds others : List Bound) (table other : Table) (wf 
       let accepts = sym (same_refusal r t f.right) ∙ accepted in
       let same = same_called r t f.right accepted accepts in
       let after : List ℕ → Run = λ xs. record { now = Some t; moments = executed t xs r.moments; outcomes = r.outcomes } in
-      let later = same_from (moved net bounds r t) next below (below_at b t (called net bounds r t)) (follows_at net bounds table wf plan r b f t is accepted) in
+      let later = same_from (run_moved net bounds r t) next below (below_at b t (called net bounds r t)) (follows_at net bounds table wf plan r b f t is accepted) in
       subst (λ (xs : List ℕ). IsTreeFrom net others r (at t xs next)) (sym same)
       (names r t next (sym (same_due r f.right) ∙ is) accepts (subst (λ (m : Run). IsTreeFrom net others m next) (ap after same) later))
 
   pub same_tree : (tree other_tree : Tree) → IsTreeOf net bounds tree → IsTreeOf net others other_tree → tree ≡ other_tree
   same_tree tree other_tree one two =
-      one_tree net others tree other_tree (same_from (start (count net)) tree one first_branch (follows_start net bounds table wf plan)) two
+      one_tree net others tree other_tree (same_from (start_of_run (count net)) tree one first_branch (follows_start net bounds table wf plan)) two
 
 -- the tree of a network is one
 pub the_tree_is_one : (net : Network) (tree other : Tree) → IsWellFormed net → IsTheTree net tree → IsTheTree net other → tree ≡ other

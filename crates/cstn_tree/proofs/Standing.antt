@@ -11,9 +11,9 @@ use Rattle.cstn_facts.proofs.Ranges.{each_passes}
 use Rattle.cstn_net.specs.Networks.{Network, IsNetwork, Constraint, Observes, count, limit, is_prop}
 use Rattle.cstn_exec.specs.Runs.{is_possible}
 use Rattle.cstn_exec.proofs.Knowing.{at_observer}
-use Rattle.cstn_outline.specs.Trees.{Tree, is_named, lines_of}
+use Rattle.cstn_outline.specs.Trees.{Tree, is_named, lines_of_tree}
 use Rattle.cstn_outline.specs.Trees.Tree.{at, ask, done}
-use Rattle.cstn_tree.specs.Good.{Branch, placed_with, below_at, are_new, are_in_time, is_within, is_met, fits_at, observed_on, known_from, below_ask, fits_ask, is_complete, or_else, first_broken_from}
+use Rattle.cstn_tree.specs.Good.{Branch, placed_with, below_at, are_new, are_in_time, is_met_within, is_met, fits_at, observed_on, known_from, below_ask, fits_ask, is_complete, or_else, first_broken_from}
 
 -- the branch names p's observer at the moment m
 pub record IsPlaced (net : Network) (b : Branch) (p m : ℕ) : Type 0 where
@@ -75,10 +75,10 @@ met_within : (placed : ℕ → Option ℕ) (asked : ℕ → Option Bool) (xs : L
     is_met placed asked xs c ≡ true → is_possible asked c.label ≡ true → (is_named c.from xs || is_named c.to xs) ≡ true →
     placed c.from ≡ Some m_f → placed c.to ≡ Some m_t → (pos m_t -ℤ pos m_f) ≤ℤ c.most
 met_within placed asked xs c m_f m_t h possible named from to =
-    let one = subst (λ b. (not b || (not (is_possible asked c.label) || is_within c.most (placed c.from) (placed c.to))) ≡ true) named h in
-    let two = subst (λ b. (not b || is_within c.most (placed c.from) (placed c.to)) ≡ true) possible one in
-    let three = subst (λ o. is_within c.most o (placed c.to) ≡ true) from two in
-    let four = subst (λ o. is_within c.most (Some m_f) o ≡ true) to three in
+    let one = subst (λ b. (not b || (not (is_possible asked c.label) || is_met_within c.most (placed c.from) (placed c.to))) ≡ true) named h in
+    let two = subst (λ b. (not b || is_met_within c.most (placed c.from) (placed c.to)) ≡ true) possible one in
+    let three = subst (λ o. is_met_within c.most o (placed c.to) ≡ true) from two in
+    let four = subst (λ o. is_met_within c.most (Some m_f) o ≡ true) to three in
     record { le = grind (arith, four) }
 
 pub fits_at_from : (net : Network) (b : Branch) (t : ℕ) (xs : List ℕ) → fits_at net b t xs ≡ true → FitsAt net b t xs
@@ -148,12 +148,12 @@ stands_from net wf b (at t xs next) line e =
     )
 stands_from net wf b (ask p one other) line e =
     let first = first_broken_from net (below_ask net b p true) one (line + 1) in
-    let second = first_broken_from net (below_ask net b p false) other (line + 1 + length (lines_of one)) in
+    let second = first_broken_from net (below_ask net b p false) other (line + 1 + length (lines_of_tree one)) in
     let both = neither first second (rest_fits (fits_ask net b p) (or_else first second) line e) in (
       fits_ask_from net wf b p (here_fits (fits_ask net b p) (or_else first second) line e),
       (
         stands_from net wf (below_ask net b p true) one (line + 1) both.0,
-        stands_from net wf (below_ask net b p false) other (line + 1 + length (lines_of one)) both.1,
+        stands_from net wf (below_ask net b p false) other (line + 1 + length (lines_of_tree one)) both.1,
       ),
     )
 stands_from net wf b done line e = complete_from net b (here_fits (is_complete net b) None line e)

@@ -13,8 +13,8 @@ use Rattle.cstn_net.specs.Read.{the_constraint}
 use Rattle.cstn_tree.specs.declared.starts.End.{End}
 use Rattle.cstn_tree.specs.declared.starts.End.TheVariants.{From, To}
 use Rattle.cstn_outline.specs.Trees.{is_named}
-use Rattle.cstn_tree.specs.Good.{is_kept, is_met}
-use Rattle.cstn_outline.specs.Read.{numbers}
+use Rattle.cstn_tree.specs.Good.{is_met_so_far, is_met}
+use Rattle.cstn_outline.specs.Read.{node_numbers}
 use Rattle.cstn_tree.specs.Starts.{end_of, standing, starts, AreLinkedFrom, TellsAt, AllPass, SomeFails}
 use Rattle.cstn_tree.proofs.Following.{each_of}
 use Rattle.cstn_outline.proofs.WalkLemmas.{has_named}
@@ -151,7 +151,7 @@ module _ (test : TheConstraint → Bool) (end : End) (cs : List Constraint) (x :
 
 module _ (placed : ℕ → Option ℕ) (asked : ℕ → Option Bool) (named : List ℕ) (cs : List Constraint) where
   abbrev kept : TheConstraint → Bool
-  kept = is_kept placed asked
+  kept = is_met_so_far placed asked
 
   -- the test of the line fails where a constraint with an end among the named time-points isn't kept
   pub not_met : (end : End) (x : ℕ) → is_named x named ≡ true → SomeFails kept end cs x → list_all (is_met placed asked named) (map the_constraint cs) ≡ false
@@ -200,20 +200,20 @@ named_push y (x ∷ xs) z = ap (λ b. (y == x) || b) (named_push y xs z) ∙ sym
 
 -- what holds of the first k named time-points and of the next one holds of the first k + 1
 pub named_more : (P : ℕ → Type 0) (named : List NodeId) (k : ℕ) (d : NodeId) → k < length named →
-    ((y : ℕ) → is_named y (numbers (take k named)) ≡ true → P y) → P (get_or named k d).0 →
-    (y : ℕ) → is_named y (numbers (take (k + 1) named)) ≡ true → P y
+    ((y : ℕ) → is_named y (node_numbers (take k named)) ≡ true → P y) → P (get_or named k d).0 →
+    (y : ℕ) → is_named y (node_numbers (take (k + 1) named)) ≡ true → P y
 named_more P named k d inside before here y there =
-    let more = ap (is_named y) (map_more (λ (x : NodeId). x.0) named k d inside) ∙ named_push y (numbers (take k named)) (get_or named k d).0 in
-    elim (or_cases (is_named y (numbers (take k named))) (y == (get_or named k d).0) (sym more ∙ there)) [
+    let more = ap (is_named y) (map_more (λ (x : NodeId). x.0) named k d inside) ∙ named_push y (node_numbers (take k named)) (get_or named k d).0 in
+    elim (or_cases (is_named y (node_numbers (take k named))) (y == (get_or named k d).0) (sym more ∙ there)) [
       | inl earlier ↦ before y earlier
       | inr now ↦ subst P (sym (eqb-true y (get_or named k d).0 now)) here
     ]
 
-pub named_here : (named : List NodeId) (k : ℕ) (d : NodeId) → k < length named → is_named (get_or named k d).0 (numbers named) ≡ true
+pub named_here : (named : List NodeId) (k : ℕ) (d : NodeId) → k < length named → is_named (get_or named k d).0 (node_numbers named) ≡ true
 named_here named k d inside =
     let x = (get_or named k d).0 in
     let size = length-map named (λ (y : NodeId). y.0) in
-    has_named x (numbers named) (k, omega arith, get_or-map (λ (y : NodeId). y.0) named k d x inside)
+    has_named x (node_numbers named) (k, omega arith, get_or-map (λ (y : NodeId). y.0) named k d x inside)
 
 pub both_ends : (P : End → Type 0) → P From → P To → (end : End) → P end
 both_ends P from to From = from

@@ -13,7 +13,7 @@ use Rattle.cstn_net.specs.Strategies.{IsStrategy}
 use Rattle.cstn_exec.specs.Runs.{fits_known, is_possible}
 use Rattle.cstn_outline.specs.Trees.{Tree, is_named, walk, moment_or_zero, table_of}
 use Rattle.cstn_outline.specs.Trees.Tree.{at, ask, done}
-use Rattle.cstn_tree.specs.Good.{Branch, start, placed_with, below_at, below_ask, IsUnbroken}
+use Rattle.cstn_tree.specs.Good.{Branch, branch_begun, placed_with, below_at, below_ask, IsUnbroken}
 use Rattle.cstn_tree.proofs.Standing.{Stands, stands_from}
 use Rattle.cstn_outline.proofs.WalkLemmas.{named_walk, unnamed_walk, true_walk, false_walk}
 use Rattle.cstn_tree.proofs.Ways.{full, some_same, placed_full, full_at, full_true, full_false, walk_alike}
@@ -112,25 +112,25 @@ walk_meets net b done s c m_f m_t good of has f_in t_in h e_f e_t new = elim new
   | inr n ↦ let there = good.all c.to t_in in absurd (some_or_none (b.placed c.to) there.0 there.1 n)
 ]
 
-module _ (net : Network) (tree : Tree) (wf : IsNetwork net) (good : Stands net start tree) where
+module _ (net : Network) (tree : Tree) (wf : IsNetwork net) (good : Stands net branch_begun tree) where
   pub stands_at : (s : Scenario) (x : ℕ) → x < count net → walk tree s x ≡ Some (table_of tree s x)
   stands_at s x inside =
-      let there = all_placed net start tree s good x inside in
+      let there = all_placed net branch_begun tree s good x inside in
       there.1 ∙ ap (λ m. Some m) (sym (ap moment_or_zero there.1))
 
   tree_strategy : IsStrategy net (table_of tree)
   tree_strategy = record {
-    within = λ s x inside. walk_within net start tree s x (table_of tree s x) good (stands_at s x inside);
+    within = λ s x inside. walk_within net branch_begun tree s x (table_of tree s x) good (stands_at s x inside);
     dynamic = λ s r x inside agrees.
-        ap moment_or_zero (walk_alike net start tree s r x (table_of tree s x) good (stands_at s x inside) (λ p k.
+        ap moment_or_zero (walk_alike net branch_begun tree s r x (table_of tree s x) good (stands_at s x inside) (λ p k.
         let at : table_of tree s k.observer ≡ k.moment = ap moment_or_zero k.there in
         let soon = k.passed in
         agrees p (record { observer = k.observer; observes = k.observes; passed = omega arith })));
     meets = λ s c has h.
         let ends = All-contains (IsConstraint net) net.constraints c wf.constraints has in
-        walk_meets net start tree s c (table_of tree s c.from) (table_of tree s c.to) good (λ p v e. let f : ⊥ = cc in absurd f) has ends.from ends.to h
+        walk_meets net branch_begun tree s c (table_of tree s c.from) (table_of tree s c.to) good (λ p v e. let f : ⊥ = cc in absurd f) has ends.from ends.to h
         (stands_at s c.from ends.from) (stands_at s c.to ends.to) (inl refl);
   }
 
 pub good_is_strategy : (net : Network) (tree : Tree) → IsNetwork net → IsUnbroken net tree → IsStrategy net (table_of tree)
-good_is_strategy net tree wf good = tree_strategy net tree wf (stands_from net wf start tree 2 good)
+good_is_strategy net tree wf good = tree_strategy net tree wf (stands_from net wf branch_begun tree 2 good)

@@ -17,17 +17,17 @@ use Rattle.cstn_text.specs.Names.{AreNames}
 use Rattle.cstn_text.specs.Numbers.{printed_number}
 use Rattle.cstn_text.specs.PrintedNames.{printed_name}
 use Rattle.cstn_text.proofs.PrintedNameLemmas.{name_length}
-use Rattle.cstn_exec.specs.Runs.{Run, start, is_free, called}
-use Rattle.cstn_exec.specs.Moves.{moved, handed, executed}
+use Rattle.cstn_exec.specs.Runs.{Run, start_of_run, is_free, called}
+use Rattle.cstn_exec.specs.Moves.{run_moved, handed, executed}
 use Rattle.cstn_exec.proofs.Dues.{due_is_due}
 use Rattle.cstn_exec.proofs.Moving.{free_parts}
 use Rattle.cstn_exec.proofs.Naming.{passing, passing_yes, passing_no, from_passing}
 use Rattle.cstn_tree.specs.Limits.{most_observed}
-use Rattle.cstn_outline.specs.Trees.{Tree, Line, lines_of}
-use Rattle.cstn_outline.specs.Trees.Line.{AtLine, AskLine, DoneLine}
-use Rattle.cstn_outline.specs.Texts.{printed_line, printed_lines, shown}
-use Rattle.cstn_tree.specs.Unfolded.{observed}
-use Rattle.cstn_tree.specs.Good.{Branch, start as first_branch, below_at, below_ask}
+use Rattle.cstn_outline.specs.Trees.{Tree, TreeLine, lines_of_tree}
+use Rattle.cstn_outline.specs.Trees.TreeLine.{AtLine, AskLine, DoneLine}
+use Rattle.cstn_outline.specs.Texts.{printed_line, printed_lines, tree_shown}
+use Rattle.cstn_tree.specs.Unfolded.{how_many_observed}
+use Rattle.cstn_tree.specs.Good.{Branch, branch_begun as first_branch, below_at, below_ask}
 use Rattle.cstn_tree.specs.Made.{IsTreeFrom, IsTreeOf}
 use Rattle.cstn_tree.specs.Made.IsTreeFrom.{ends, asks, names}
 use Rattle.cstn_tree.proofs.Following.{Follows, follows_start, follows_at, follows_ask, some_named, missing, letter, ready}
@@ -74,10 +74,10 @@ halves (suc a) y n m i j whole one other first second is =
 
 -- ---- lines
 
-bytes : List (List ℕ) → List Line → ℕ
+bytes : List (List ℕ) → List TreeLine → ℕ
 bytes texts lines = length (printed_lines texts lines)
 
-bytes_are : (texts : List (List ℕ)) (lines : List Line) → bytes texts lines ≡ length (printed_lines texts lines)
+bytes_are : (texts : List (List ℕ)) (lines : List TreeLine) → bytes texts lines ≡ length (printed_lines texts lines)
 unfolding bytes
 bytes_are texts lines = refl
 
@@ -85,14 +85,14 @@ bytes_none : (texts : List (List ℕ)) → bytes texts [] ≡ 0
 unfolding bytes
 bytes_none texts = refl
 
-bytes_first : (texts : List (List ℕ)) (l : Line) (lines : List Line) → bytes texts (l ∷ lines) ≡ length (printed_line texts l) + 1 + bytes texts lines
+bytes_first : (texts : List (List ℕ)) (l : TreeLine) (lines : List TreeLine) → bytes texts (l ∷ lines) ≡ length (printed_line texts l) + 1 + bytes texts lines
 unfolding bytes
 bytes_first texts l lines =
     let whole = length-append (printed_line texts l ++ 10 ∷ []) (printed_lines texts lines) in
     let one = length-append (printed_line texts l) (10 ∷ []) in
     omega arith
 
-bytes_both : (texts : List (List ℕ)) (one other : List Line) → bytes texts (one ++ other) ≡ bytes texts one + bytes texts other
+bytes_both : (texts : List (List ℕ)) (one other : List TreeLine) → bytes texts (one ++ other) ≡ bytes texts one + bytes texts other
 unfolding bytes
 bytes_both texts [] other = omega arith
 bytes_both texts (l ∷ one) other =
@@ -124,7 +124,7 @@ at_short texts are t low xs some inside =
 -- ---- what may still be asked and named
 
 -- how many of these observed propositions have no outcome
-unseen : List (Option ℕ) → List (Option Bool) → ℕ
+pub unseen : List (Option ℕ) → List (Option Bool) → ℕ
 unseen [] outcomes = 0
 unseen (None ∷ os) outcomes = unseen os outcomes
 unseen (Some p ∷ os) outcomes = cond (is_none (slice_index_or outcomes p None)) (suc (unseen os outcomes)) (unseen os outcomes)
@@ -172,7 +172,7 @@ unseen_here os outcomes q p v inside none same =
     let more = unseen_fewer os outcomes p v inside in
     omega (arith, first, before, more)
 
-unseen_less : (os : List (Option ℕ)) (outcomes : List (Option Bool)) (x p : ℕ) (v : Bool) → p < length outcomes → slice_index_or outcomes p None ≡ None →
+pub unseen_less : (os : List (Option ℕ)) (outcomes : List (Option Bool)) (x p : ℕ) (v : Bool) → p < length outcomes → slice_index_or outcomes p None ≡ None →
     slice_index_or os x None ≡ Some p → unseen os (slice_set outcomes p (Some v)) + 1 ≤ unseen os outcomes
 unfolding unseen
 unseen_less [] outcomes x p v inside none at = let f : ⊥ = cc in absurd f
@@ -196,7 +196,7 @@ unseen_less (Some q ∷ os) outcomes (suc x) p v inside none at = elim (cases_eq
 observed_more : (o : Option ℕ) (os : List (Option ℕ)) → count_by is_some (o ∷ os) ≡ cond (is_some o) 1 0 + count_by is_some os
 observed_more o os = sum_by-cons (λ x. cond (is_some x) 1 0) o os
 
-unseen_upto : (os : List (Option ℕ)) (outcomes : List (Option Bool)) → unseen os outcomes ≤ count_by is_some os
+pub unseen_upto : (os : List (Option ℕ)) (outcomes : List (Option Bool)) → unseen os outcomes ≤ count_by is_some os
 unfolding unseen
 unseen_upto [] outcomes = omega arith
 unseen_upto (None ∷ os) outcomes = let more = unseen_upto os outcomes in let here = observed_more None os in omega arith
@@ -234,13 +234,13 @@ passing_left test t a (suc n) ms free = elim (cases_Bool (test a)) [
 
 module _ (texts : List (List ℕ)) (are : AreNames texts) (net : Network) (bounds : List Bound) (table : Table) (wf : IsWellFormed net) (plan : IsEarliest net bounds table)
     (named : length texts ≡ count net) where
-  called_left : (run : Run) (b : Branch) → Follows net bounds run b → (t : ℕ) → left (moved net bounds run t).moments + length (called net bounds run t) ≤ left run.moments
+  called_left : (run : Run) (b : Branch) → Follows net bounds run b → (t : ℕ) → left (run_moved net bounds run t).moments + length (called net bounds run t) ≤ left run.moments
   called_left run b f t = passing_left (is_free net bounds run t) t 0 (count net) run.moments (λ x from upto h.
       let size = f.right.moments in
       (omega (arith, size, upto), (free_parts net bounds run t x h).0))
 
   short_from : (run : Run) (tree : Tree) → IsTreeFrom net bounds run tree → (b : Branch) → Follows net bounds run b →
-      bytes texts (lines_of tree) ≤ most (unseen net.observes run.outcomes) (left run.moments)
+      bytes texts (lines_of_tree tree) ≤ most (unseen net.observes run.outcomes) (left run.moments)
   short_from run tree (ends r none) b f =
       let one = bytes_first texts DoneLine [] in
       let end = bytes_none texts in
@@ -250,15 +250,15 @@ module _ (texts : List (List ℕ)) (are : AreNames texts) (net : Network) (bound
       let soon = (due_is_due net bounds table wf plan r f.right t is).1 in
       let in_time = wf.in_time in
       let xs = called net bounds r t in
-      let first = bytes_first texts (AtLine t xs) (lines_of next) in
+      let first = bytes_first texts (AtLine t xs) (lines_of_tree next) in
       let here = at_short texts are t (omega (arith, soon, in_time)) xs (some_named net bounds table wf plan r b f t is accepted)
       (λ k d inside. let upto = (from_passing (is_free net bounds r t) 0 (count net) (get_or xs k d) (k, inside, get_or_default xs k (get_or xs k d) d inside)).1 in omega (arith, upto, named)) in
-      let rest = short_from (moved net bounds r t) next below (below_at b t xs) (follows_at net bounds table wf plan r b f t is accepted) in
-      let more = most_named (unseen net.observes r.outcomes) (left r.moments) (left (moved net bounds r t).moments) (length xs) (called_left r b f t) in
+      let rest = short_from (run_moved net bounds r t) next below (below_at b t xs) (follows_at net bounds table wf plan r b f t is accepted) in
+      let more = most_named (unseen net.observes r.outcomes) (left r.moments) (left (run_moved net bounds r t).moments) (length xs) (called_left r b f t) in
       omega (arith, first, here, rest, more)
   short_from run tree (asks r t p one other is waits first second) b f =
-      let line = bytes_first texts (AskLine p) (lines_of one ++ lines_of other) in
-      let both = bytes_both texts (lines_of one) (lines_of other) in
+      let line = bytes_first texts (AskLine p) (lines_of_tree one ++ lines_of_tree other) in
+      let both = bytes_both texts (lines_of_tree one) (lines_of_tree other) in
       let here = short_from (handed r p true) one first (below_ask net b p true) (follows_ask net bounds table wf plan r b f t is p waits true) in
       let there = short_from (handed r p false) other second (below_ask net b p false) (follows_ask net bounds table wf plan r b f t is p waits false) in
       let size = f.right.outcomes in
@@ -269,14 +269,14 @@ module _ (texts : List (List ℕ)) (are : AreNames texts) (net : Network) (bound
       let if_true = unseen_less net.observes r.outcomes seer.observer p true inside none seer.observes.what in
       let if_false = unseen_less net.observes r.outcomes seer.observer p false inside none seer.observes.what in
       halves (unseen net.observes r.outcomes) (unseen net.observes (handed r p true).outcomes) (unseen net.observes (handed r p false).outcomes) (left r.moments)
-      (bytes texts (lines_of one)) (bytes texts (lines_of other)) (bytes texts (AskLine p ∷ (lines_of one ++ lines_of other))) if_true if_false here there (omega (arith, line, both))
+      (bytes texts (lines_of_tree one)) (bytes texts (lines_of_tree other)) (bytes texts (AskLine p ∷ (lines_of_tree one ++ lines_of_tree other))) if_true if_false here there (omega (arith, line, both))
 
-  pub made_short : (load : ℕ) → load ≤ most_load → observed net ≤ most_observed → (tree : Tree) → IsTreeOf net bounds tree → length (shown texts load (lines_of tree)) ≤ most_text
+  pub made_short : (load : ℕ) → load ≤ most_load → how_many_observed net ≤ most_observed → (tree : Tree) → IsTreeOf net bounds tree → length (tree_shown texts load (lines_of_tree tree)) ≤ most_text
   made_short load low narrow tree made =
-      let first = start (count net) in
+      let first = start_of_run (count net) in
       let begun = follows_start net bounds table wf plan in
-      let lines : length (printed_lines texts (lines_of tree)) ≤ most (unseen net.observes first.outcomes) (left first.moments) =
-      (let short = short_from first tree made first_branch begun in let same = bytes_are texts (lines_of tree) in omega arith) in
+      let lines : length (printed_lines texts (lines_of_tree tree)) ≤ most (unseen net.observes first.outcomes) (left first.moments) =
+      (let short = short_from first tree made first_branch begun in let same = bytes_are texts (lines_of_tree tree) in omega arith) in
       let asked = unseen_upto net.observes first.outcomes in
       let size = begun.right.moments in
       let few = wf.few_points in
@@ -284,7 +284,7 @@ module _ (texts : List (List ℕ)) (are : AreNames texts) (net : Network) (bound
       let wide = most_grows (unseen net.observes first.outcomes) most_observed (left first.moments) (omega (arith, asked, narrow)) in
       let deep = most_named most_observed most_time_points (left first.moments) 0 (omega (arith, size, few, upto)) in
       let number : length (printed_number load) ≤ 7 = length-decimal-le 7 load (omega arith) (omega arith) (omega arith) in
-      let top = length-append (printed_number load) (10 ∷ printed_lines texts (lines_of tree)) in
-      let whole = length-append (codes "yes ") (printed_number load ++ 10 ∷ printed_lines texts (lines_of tree)) in
+      let top = length-append (printed_number load) (10 ∷ printed_lines texts (lines_of_tree tree)) in
+      let whole = length-append (codes "yes ") (printed_number load ++ 10 ∷ printed_lines texts (lines_of_tree tree)) in
       let ten = most_ten in
       omega (arith, lines, wide, deep, number, top, whole, ten)

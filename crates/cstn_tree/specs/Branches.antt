@@ -10,7 +10,7 @@ use Rattle.cstn_tree.specs.Good.{Branch as TheBranch}
 use Rattle.cstn_tree.specs.declared.walks.Walk.{Walk}
 use Rattle.cstn_tree.specs.declared.walks.Step.{Step}
 use Rattle.cstn_tree.specs.declared.walks.Step.TheVariants.{Broken, On, End}
-use Rattle.cstn_tree.specs.Walks.{Step as TheStep, Broken as SpecBroken, On as SpecOn, End as SpecEnd}
+use Rattle.cstn_tree.specs.Walks.{WalkStep as TheStep, Broken as SpecBroken, On as SpecOn, End as SpecEnd}
 
 -- the moment of each time-point, which stands at its place in the list
 abbrev pub the_placed : List (Option ℕ) → ℕ → Option ℕ
@@ -34,10 +34,10 @@ pub record IsWalkOf (n : ℕ) (w : Walk) : Type 0 where
   pub pending : All (IsBranchOf n) w.pending.items
 
 -- the step of the definition that a program's step stands for
-abbrev pub the_step : Step → TheStep
-the_step Broken = SpecBroken
-the_step On = SpecOn
-the_step End = SpecEnd
+abbrev pub the_walk_step : Step → TheStep
+the_walk_step Broken = SpecBroken
+the_walk_step On = SpecOn
+the_walk_step End = SpecEnd
 
 -- the line that an answer names, if it names one
 abbrev pub the_answer : TreeAnswer → Option ℕ

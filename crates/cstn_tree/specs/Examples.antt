@@ -3,7 +3,7 @@ use Rattle.std.specs.Prelude.{ℕ, zero, suc, [], ◌∷◌, None, Some, ℤ, ne
 use Rattle.cstn_label.specs.declared.marks.Mark.TheVariants.{Absent, Yes}
 use Rattle.cstn_label.specs.Labels.{Label}
 use Rattle.cstn_net.specs.Networks.{Network, Constraint}
-use Rattle.cstn_net.specs.Examples.{branch, only}
+use Rattle.cstn_net.specs.Examples.{branch, only_mark}
 use Rattle.cstn_outline.specs.Trees.{Tree}
 use Rattle.cstn_outline.specs.Trees.Tree.{at, ask, done}
 
@@ -20,12 +20,12 @@ abbrev pub named_twice : Tree
 named_twice = at 0 (0 ∷ 0 ∷ 1 ∷ []) (ask 0 (at 10 (2 ∷ []) done) (at 1 (2 ∷ []) done))
 
 -- X is left out where p is false
-abbrev pub left_out : Tree
-left_out = at 0 (0 ∷ 1 ∷ []) (ask 0 (at 10 (2 ∷ []) done) done)
+abbrev pub left_out_tree : Tree
+left_out_tree = at 0 (0 ∷ 1 ∷ []) (ask 0 (at 10 (2 ∷ []) done) done)
 
 -- the branch network, in which p is known 2 ticks after P
-abbrev pub slow_branch : Network
-slow_branch = record branch { reaction = λ p. 2 }
+abbrev pub slow_branch_tree : Network
+slow_branch_tree = record branch { reaction = λ p. 2 }
 
 abbrev pub before : ℕ → ℕ → ℕ → ℤ → Label → Constraint
 before id from to most label = record { id = id; from = from; to = to; most = most; label = label }
@@ -33,20 +33,20 @@ before id from to most label = record { id = id; from = from; to = to; most = mo
 -- the label by which q is true
 abbrev pub second : Label
 second zero = Absent
-second (suc p) = only Yes p
+second (suc p) = only_mark Yes p
 
 -- P is at 5 or later where q is true, and Q is at 5 or later where p is true
-abbrev pub crossed : Network
-crossed = record {
+abbrev pub crossed_waits : Network
+crossed_waits = record {
   deadline = 5;
   observes = None ∷ Some 0 ∷ Some 1 ∷ [];
   reaction = λ p. 1;
-  constraints = before 0 1 0 (negsuc 4) second ∷ before 1 2 0 (negsuc 4) (only Yes) ∷ [];
+  constraints = before 0 1 0 (negsuc 4) second ∷ before 1 2 0 (negsuc 4) (only_mark Yes) ∷ [];
 }
 
 abbrev pub crossed_tree : Tree
 crossed_tree = at 0 (0 ∷ []) (at 5 (1 ∷ 2 ∷ []) done)
 
 -- a network of the origin alone
-abbrev pub alone : Network
-alone = record { deadline = 5; observes = None ∷ []; reaction = λ p. 1; constraints = [] }
+abbrev pub lone_origin : Network
+lone_origin = record { deadline = 5; observes = None ∷ []; reaction = λ p. 1; constraints = [] }

@@ -5,7 +5,7 @@ use Rattle.std.specs.List.{position, list_all, range_with_len}
 use Rattle.std.specs.Option.{option_and_then}
 use Rattle.cstn_net.specs.Networks.{Network, Constraint, count, limit, is_prop}
 use Rattle.cstn_exec.specs.Runs.{is_possible}
-use Rattle.cstn_outline.specs.Trees.{Tree, is_named, lines_of}
+use Rattle.cstn_outline.specs.Trees.{Tree, is_named, lines_of_tree}
 use Rattle.cstn_outline.specs.Trees.Tree.{at, ask, done}
 
 -- what the branch of a line says: the moment of each time-point that it names, the outcome of each proposition that it asks,
@@ -16,8 +16,8 @@ pub record Branch : Type 0 where
   pub from : ℕ
 
 -- the branch of the first line
-abbrev pub start : Branch
-start = record { placed = λ x. None; asked = λ p. None; from = 0 }
+abbrev pub branch_begun : Branch
+branch_begun = record { placed = λ x. None; asked = λ p. None; from = 0 }
 
 -- ---- `at`
 
@@ -37,18 +37,18 @@ abbrev pub are_in_time : Network → ℕ → List ℕ → Bool
 are_in_time net t xs = list_all (λ x. nat_le t (limit net x)) xs
 
 -- `to` is at most `most` ticks after `from`, where both moments are there
-abbrev pub is_within : ℤ → Option ℕ → Option ℕ → Bool
-is_within most None to = true
-is_within most (Some from) None = true
-is_within most (Some from) (Some to) = le_z (pos to -ℤ pos from) most
+abbrev pub is_met_within : ℤ → Option ℕ → Option ℕ → Bool
+is_met_within most None to = true
+is_met_within most (Some from) None = true
+is_met_within most (Some from) (Some to) = le_z (pos to -ℤ pos from) most
 
 -- the constraint is met as far as its ends are placed, unless an outcome that was asked contradicts its label
-abbrev pub is_kept : (ℕ → Option ℕ) → (ℕ → Option Bool) → Constraint → Bool
-is_kept placed asked c = not (is_possible asked c.label) || is_within c.most (placed c.from) (placed c.to)
+abbrev pub is_met_so_far : (ℕ → Option ℕ) → (ℕ → Option Bool) → Constraint → Bool
+is_met_so_far placed asked c = not (is_possible asked c.label) || is_met_within c.most (placed c.from) (placed c.to)
 
 -- the constraint is kept, or has no end among xs
 abbrev pub is_met : (ℕ → Option ℕ) → (ℕ → Option Bool) → List ℕ → Constraint → Bool
-is_met placed asked xs c = not (is_named c.from xs || is_named c.to xs) || is_kept placed asked c
+is_met placed asked xs c = not (is_named c.from xs || is_named c.to xs) || is_met_so_far placed asked c
 
 -- an `at` doesn't break: its moment may follow; its time-points are named for the first time, and not above their limits; and
 -- the constraints that have one end on this line, and the other here or above, are met
@@ -99,13 +99,13 @@ first_broken_from net b (at t xs next) line =
 first_broken_from net b (ask p one other) line =
     if fits_ask net b p then
     or_else (first_broken_from net (below_ask net b p true) one (line + 1))
-    (first_broken_from net (below_ask net b p false) other (line + 1 + length (lines_of one)))
+    (first_broken_from net (below_ask net b p false) other (line + 1 + length (lines_of_tree one)))
     else Some line
 first_broken_from net b done line = if is_complete net b then None else Some line
 
 -- the first line of the tree's text that breaks; the line of the load is 1
 abbrev pub first_broken : Network → Tree → Option ℕ
-first_broken net tree = first_broken_from net start tree 2
+first_broken net tree = first_broken_from net branch_begun tree 2
 
 -- a tree is good where no line breaks
 abbrev pub IsUnbroken : Network → Tree → Type 0

@@ -10,8 +10,8 @@ use Rattle.cstn_exec.specs.Moves.{moment_refusal, outcome_refusal, handed}
 use Rattle.cstn_exec.specs.Read.{ExecParts, IsRunOf, moved_on}
 use Rattle.cstn_tree.specs.declared.making.OpenAsk.{OpenAsk}
 use Rattle.cstn_tree.specs.declared.making.Making.{Making}
-use Rattle.cstn_outline.specs.Read.{the_line}
-use Rattle.cstn_tree.specs.Made.{IsGrown}
+use Rattle.cstn_outline.specs.Read.{the_tree_line}
+use Rattle.cstn_tree.specs.Made.{IsGrownTree}
 
 -- the run of the second tree of an `ask`
 abbrev pub second_run : OpenAsk → Run
@@ -29,7 +29,7 @@ pub record IsOpenAsk (net : Network) (a : OpenAsk) : Type 0 where
 -- the lines, followed by those of the trees from the executive's run and from the pending runs, are the lines of the tree of
 -- the network
 pub record IsMaking (net : Network) (bounds : List Bound) (run : Run) (m : Making) : Type 0 where
-  pub grown : IsGrown net bounds (map the_line m.lines.items) (run ∷ the_pending m.asks.items)
+  pub grown : IsGrownTree net bounds (map the_tree_line m.lines.items) (run ∷ the_pending m.asks.items)
   pub asks : All (IsOpenAsk net) m.asks.items
 
 -- the executive has accepted the due moment t, whose line is still to come

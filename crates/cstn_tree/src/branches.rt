@@ -5,10 +5,11 @@ ghost use Rattle.std.specs.Option.{option_map};
 ghost use Rattle.cstn_net.specs.Limits.{most_deadline};
 ghost use Rattle.cstn_net.specs.Networks.{count, limit};
 ghost use Rattle.cstn_net.specs.Read.{the_network, the_constraint, IsInRange};
-ghost use Rattle.cstn_tree.specs.Good.{start, placed_with, are_new, are_in_time, is_within, is_kept, is_met, fits_at, below_at, observed_on, known_from};
+ghost use Rattle.cstn_tree.specs.Good.{branch_begun, placed_with, are_new, are_in_time, is_met_within, is_met_so_far, is_met, fits_at, below_at, observed_on};
+ghost use Rattle.cstn_tree.specs.Good.{known_from};
 ghost use Rattle.cstn_tree.specs.Good.{fits_ask, below_ask, is_complete};
 ghost use Rattle.cstn_tree.specs.Branches.{the_branch, the_placed, IsBranchOf};
-ghost use Rattle.cstn_outline.specs.Read.{numbers};
+ghost use Rattle.cstn_outline.specs.Read.{node_numbers};
 ghost use Rattle.cstn_tree.specs.declared.starts.End.{End as TheEnd};
 ghost use Rattle.cstn_tree.specs.Starts.{AreStarts, TellsAt, AllPass, SomeFails};
 
@@ -30,7 +31,7 @@ pub struct Branch {
 impl Branch {
     /// The branch of the first line, which names and asks nothing.
     pub fn start(alloc: Global, net: &Network) -> Result<Branch, AllocError>
-        ensures start { IfOk result (λ b. the_branch b ≡ start) }
+        ensures start { IfOk result (λ b. the_branch b ≡ branch_begun) }
         ensures branch { IfOk result (IsBranchOf (count (the_network net.now))) }
     {
         let mut moments = Vec::new(alloc);
@@ -127,8 +128,8 @@ impl Branch {
         requires branch { IsBranchOf (count (the_network net.now)) self.old }
         requires starts { AreStarts (count (the_network net.now)) net.now.constraints starts.now }
         requires inside { All (λ x. x.0 < count (the_network net.now)) named.now }
-        ensures fits { result ≡ fits_at (the_network net.now) (the_branch self.old) t (numbers named.now) }
-        ensures below { result ≡ true → the_branch self.new ≡ below_at (the_branch self.old) t (numbers named.now) }
+        ensures fits { result ≡ fits_at (the_network net.now) (the_branch self.old) t (node_numbers named.now) }
+        ensures below { result ≡ true → the_branch self.new ≡ below_at (the_branch self.old) t (node_numbers named.now) }
         ensures branch { result ≡ true → IsBranchOf (count (the_network net.now)) self.new }
     {
         if (t as u64) < self.from
@@ -145,8 +146,9 @@ impl Branch {
     fn name_all(&mut self, net: &Network, t: u32, named: &[NodeId]) -> bool
         requires branch { IsBranchOf (count (the_network net.now)) self.old }
         requires inside { All (λ x. x.0 < count (the_network net.now)) named.now }
-        ensures fits { result ≡ (are_new (the_branch self.old).placed (numbers named.now) && are_in_time (the_network net.now) t (numbers named.now)) }
-        ensures placed { result ≡ true → (the_branch self.new).placed ≡ placed_with (the_branch self.old).placed t (numbers named.now) }
+        ensures fits { result ≡ (are_new (the_branch self.old).placed (node_numbers named.now)
+            && are_in_time (the_network net.now) t (node_numbers named.now)) }
+        ensures placed { result ≡ true → (the_branch self.new).placed ≡ placed_with (the_branch self.old).placed t (node_numbers named.now) }
         ensures asked { self.new.asked ≡ self.old.asked }
         ensures from { self.new.from ≡ self.old.from }
         ensures branch { IsBranchOf (count (the_network net.now)) self.new }
@@ -165,7 +167,8 @@ impl Branch {
         requires branch { IsBranchOf (count (the_network net.now)) self.now }
         requires starts { AreStarts (count (the_network net.now)) net.now.constraints starts.now }
         requires inside { All (λ x. x.0 < count (the_network net.now)) named.now }
-        ensures { result ≡ list_all (is_met (the_branch self.now).placed (the_branch self.now).asked (numbers named.now)) (the_network net.now).constraints }
+        ensures { result ≡ list_all (is_met (the_branch self.now).placed (the_branch self.now).asked (node_numbers named.now))
+            (the_network net.now).constraints }
     {
         for x in named {
             if !self.meets_both(net, starts, *x) {
@@ -180,9 +183,10 @@ impl Branch {
         requires branch { IsBranchOf (count (the_network net.now)) self.now }
         requires starts { AreStarts (count (the_network net.now)) net.now.constraints starts.now }
         requires inside { x.0 < count (the_network net.now) }
-        ensures kept { result ≡ true → (end : TheEnd) → AllPass (is_kept (the_branch self.now).placed (the_branch self.now).asked) end net.now.constraints x.0 }
+        ensures kept { result ≡ true → (end : TheEnd) → AllPass
+            (is_met_so_far (the_branch self.now).placed (the_branch self.now).asked) end net.now.constraints x.0 }
         ensures broken { result ≡ false → (end : TheEnd)
-            × SomeFails (is_kept (the_branch self.now).placed (the_branch self.now).asked) end net.now.constraints x.0 }
+            × SomeFails (is_met_so_far (the_branch self.now).placed (the_branch self.now).asked) end net.now.constraints x.0 }
     {
         if !self.meets_at(net, starts, End::From, x) {
             return false;
@@ -195,8 +199,8 @@ impl Branch {
         requires branch { IsBranchOf (count (the_network net.now)) self.now }
         requires starts { AreStarts (count (the_network net.now)) net.now.constraints starts.now }
         requires inside { x.0 < count (the_network net.now) }
-        ensures kept { result ≡ true → AllPass (is_kept (the_branch self.now).placed (the_branch self.now).asked) end net.now.constraints x.0 }
-        ensures broken { result ≡ false → SomeFails (is_kept (the_branch self.now).placed (the_branch self.now).asked) end net.now.constraints x.0 }
+        ensures kept { result ≡ true → AllPass (is_met_so_far (the_branch self.now).placed (the_branch self.now).asked) end net.now.constraints x.0 }
+        ensures broken { result ≡ false → SomeFails (is_met_so_far (the_branch self.now).placed (the_branch self.now).asked) end net.now.constraints x.0 }
     {
         let mut at = starts.first(net, end, x);
         while let Some(place) = at {
@@ -212,7 +216,7 @@ impl Branch {
     fn keeps(&self, net: &Network, place: usize) -> bool
         requires branch { IsBranchOf (count (the_network net.now)) self.now }
         requires inside { place < length net.now.constraints }
-        ensures kept { TellsAt (is_kept (the_branch self.now).placed (the_branch self.now).asked) net.now.constraints place result }
+        ensures kept { TellsAt (is_met_so_far (the_branch self.now).placed (the_branch self.now).asked) net.now.constraints place result }
     {
         self.is_kept(net, &net.constraints()[place])
     }
@@ -220,7 +224,7 @@ impl Branch {
     fn is_kept(&self, net: &Network, c: &Constraint) -> bool
         requires branch { IsBranchOf (count (the_network net.now)) self.now }
         requires inside { IsInRange (count (the_network net.now)) c.now }
-        ensures { result ≡ is_kept (the_branch self.now).placed (the_branch self.now).asked (the_constraint c.now) }
+        ensures { result ≡ is_met_so_far (the_branch self.now).placed (the_branch self.now).asked (the_constraint c.now) }
     {
         if !is_possible(c.label, &self.asked) {
             return true;
@@ -244,7 +248,7 @@ fn are_named(moments: &[Option<u32>]) -> bool
 }
 
 fn is_within(most: i32, from: Option<u32>, to: Option<u32>) -> bool
-    ensures { result ≡ is_within most from to }
+    ensures { result ≡ is_met_within most from to }
 {
     match (from, to) {
         (Some(from), Some(to)) => to as i64 - from as i64 <= most as i64,

@@ -5,10 +5,10 @@ ghost use Rattle.cstn_net.specs.Networks.{count, IsWellFormed};
 ghost use Rattle.cstn_net.specs.Strategies.{IsStrategy, IsConsistent};
 ghost use Rattle.cstn_net.specs.Read.{the_network};
 ghost use Rattle.cstn_tree.specs.declared.checking.TreeAnswer.TheVariants.{Accepted};
-ghost use Rattle.cstn_outline.specs.Trees.{Tree, IsAmong, lines_of, names_on, table_of};
-ghost use Rattle.cstn_tree.specs.Good.{start, first_broken, IsUnbroken};
+ghost use Rattle.cstn_outline.specs.Trees.{Tree, IsAmong, lines_of_tree, names_on, table_of};
+ghost use Rattle.cstn_tree.specs.Good.{branch_begun, first_broken, IsUnbroken};
 ghost use Rattle.cstn_tree.specs.Walks.{first_broken_in};
-ghost use Rattle.cstn_outline.specs.Read.{the_line, the_tree};
+ghost use Rattle.cstn_outline.specs.Read.{the_tree_line, the_tree};
 ghost use Rattle.cstn_tree.specs.Branches.{the_answer};
 
 use crate::starts::Starts;
@@ -54,9 +54,9 @@ fn answer(broken: Option<u32>) -> TreeAnswer
 
 // The first line that breaks among lines in preorder. They are counted from 2, since the line of the load is 1.
 fn first_broken(alloc: Global, net: &Network, lines: &[Line]) -> Result<Option<u32>, AllocError>
-    requires among { All (λ l. All (λ x. x < count (the_network net.now)) (names_on l)) (map the_line lines.now) }
+    requires among { All (λ l. All (λ x. x < count (the_network net.now)) (names_on l)) (map the_tree_line lines.now) }
     requires few { length lines.now + 1 < 2 ^ 32 }
-    ensures first { IfOk result (λ line. line ≡ first_broken_in (the_network net.now) (start ∷ []) (map the_line lines.now) 2) }
+    ensures first { IfOk result (λ line. line ≡ first_broken_in (the_network net.now) (branch_begun ∷ []) (map the_tree_line lines.now) 2) }
 {
     let starts = Starts::of(alloc, net)?;
     let mut walk = Walk::start(alloc, net)?;

@@ -10,15 +10,15 @@ ghost use Rattle.cstn_text.specs.Limits.{most_text};
 ghost use Rattle.cstn_plan.specs.Plans.{IsEarliest};
 ghost use Rattle.cstn_text.specs.Names.{AreNames};
 ghost use Rattle.cstn_tree.specs.Limits.{most_observed};
-ghost use Rattle.cstn_outline.specs.Trees.{Tree, Line, IsAmong, at, done, lines_of, table_of};
+ghost use Rattle.cstn_outline.specs.Trees.{Tree, TreeLine, IsAmong, at, done, lines_of_tree, table_of};
 ghost use Rattle.cstn_tree.specs.Good.{first_broken, IsUnbroken};
 ghost use Rattle.cstn_tree.specs.Breaks.{IsFirstBreak, on_branches};
 ghost use Rattle.cstn_tree.specs.Made.{IsTreeOf, IsTheTree};
-ghost use Rattle.cstn_outline.specs.Texts.{shown, tells, told};
-ghost use Rattle.cstn_tree.specs.Unfolded.{observed};
-ghost use Rattle.cstn_outline.specs.Written.{AreWritten, FitsText, IsTextOfTree};
+ghost use Rattle.cstn_outline.specs.Texts.{tree_shown, tells, tree_told};
+ghost use Rattle.cstn_tree.specs.Unfolded.{how_many_observed};
+ghost use Rattle.cstn_outline.specs.Written.{IsTreeWritten, TreeFitsText, IsTextOfTree};
 ghost use Rattle.cstn_outline.specs.Read.{the_tree};
-ghost use Rattle.cstn_tree.specs.Examples.{branch_tree, asked_first, named_twice, left_out, slow_branch, crossed, crossed_tree, alone};
+ghost use Rattle.cstn_tree.specs.Examples.{branch_tree, asked_first, named_twice, left_out_tree, slow_branch_tree, crossed_waits, crossed_tree, lone_origin};
 
 use cstn_exec::due_is_exact;
 
@@ -38,9 +38,9 @@ pub fn made_trees_are_good()
         → IsTreeOf net bounds tree → (s : Scenario) (x : ℕ) → x < count net → IsLeast net s x (table_of tree s x) }
     ensures among { (net : Network) (bounds : List Bound) (tree : Tree) → IsTreeOf net bounds tree → IsAmong (count net) tree }
     ensures fits { (net : Network) (bounds : List Bound) (table : Table) → IsWellFormed net → IsEarliest net bounds table → (tree : Tree)
-        → IsTreeOf net bounds tree → FitsText tree }
+        → IsTreeOf net bounds tree → TreeFitsText tree }
     ensures written { (names : List (List ℕ)) (load : ℕ) (net : Network) (bounds : List Bound) (table : Table) → IsWellFormed net → IsEarliest net bounds table
-        → length names ≡ count net → 1 ≤ load → load ≤ most_load → (tree : Tree) → IsTreeOf net bounds tree → AreWritten names load tree }
+        → length names ≡ count net → 1 ≤ load → load ≤ most_load → (tree : Tree) → IsTreeOf net bounds tree → IsTreeWritten names load tree }
 {}
 
 /// A network has one tree by given bounds at most, and one by bounds that have a strategy with each time-point at the least moment
@@ -61,14 +61,14 @@ pub fn networks_have_one_tree()
 pub fn made_texts_are_short()
     ensures short { (names : List (List ℕ)) (load : ℕ) (net : Network) (bounds : List Bound) (table : Table) → AreNames names → length names ≡ count net
         → load ≤ most_load
-        → observed net ≤ most_observed → IsWellFormed net → IsEarliest net bounds table → (tree : Tree) → IsTreeOf net bounds tree
-        → length (shown names load (lines_of tree)) ≤ most_text }
+        → how_many_observed net ≤ most_observed → IsWellFormed net → IsEarliest net bounds table → (tree : Tree) → IsTreeOf net bounds tree
+        → length (tree_shown names load (lines_of_tree tree)) ≤ most_text }
 {}
 
 /// The line that a check finds is the first that breaks by what stands above it on its branch; where it finds none, no line breaks.
 pub fn the_first_that_breaks_is_found()
     ensures first { (net : Network) (tree : Tree) → IsWellFormed net → IsFirstBreak net 2 (on_branches [] tree) (first_broken net tree) }
-    ensures lines { (tree : Tree) → map (λ l. l.1) (on_branches [] tree) ≡ lines_of tree }
+    ensures lines { (tree : Tree) → map (λ l. l.1) (on_branches [] tree) ≡ lines_of_tree tree }
 {}
 
 /// Which line of some small trees is the first that breaks, if any does.
@@ -78,10 +78,10 @@ pub fn broken_lines_are_known()
     ensures at_once { first_broken branch (branch_tree 10 0) ≡ Some 6 }
     ensures asked_first { first_broken branch asked_first ≡ Some 2 }
     ensures named_twice { first_broken branch named_twice ≡ Some 2 }
-    ensures left_out { first_broken branch left_out ≡ Some 6 }
-    ensures unknown { first_broken slow_branch (branch_tree 10 1) ≡ Some 6 }
-    ensures known { first_broken slow_branch (branch_tree 10 2) ≡ None }
-    ensures crossed { first_broken crossed crossed_tree ≡ None }
-    ensures alone { first_broken alone (at 0 (0 ∷ []) done) ≡ None }
-    ensures above_the_limit { first_broken alone (at 1 (0 ∷ []) done) ≡ Some 2 }
+    ensures left_out { first_broken branch left_out_tree ≡ Some 6 }
+    ensures unknown { first_broken slow_branch_tree (branch_tree 10 1) ≡ Some 6 }
+    ensures known { first_broken slow_branch_tree (branch_tree 10 2) ≡ None }
+    ensures crossed { first_broken crossed_waits crossed_tree ≡ None }
+    ensures alone { first_broken lone_origin (at 0 (0 ∷ []) done) ≡ None }
+    ensures above_the_limit { first_broken lone_origin (at 1 (0 ∷ []) done) ≡ Some 2 }
 {}

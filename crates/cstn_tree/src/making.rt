@@ -1,19 +1,19 @@
 // The tree of a network, made by what its executive does.
 ghost use Rattle.std.specs.Prelude.{ℕ, ◌≡◌, ◌<◌, ◌+◌, ◌++◌, ◌∷◌, [], true, false, None, Some, List, length, map, IfOk, OnOk, MatchOption};
 ghost use Rattle.std.specs.Option.{option_map};
-ghost use Rattle.cstn_exec.specs.Read.{the_refusal, moved_on};
+ghost use Rattle.cstn_exec.specs.Read.{the_event_refusal, moved_on};
 ghost use Rattle.cstn_label.specs.Labels.{Scenario};
 ghost use Rattle.cstn_net.specs.Networks.{count};
 ghost use Rattle.cstn_net.specs.Strategies.{IsLeast};
 ghost use Rattle.cstn_net.specs.Read.{the_network};
 ghost use Rattle.cstn_plan.specs.Plans.{the_bounds};
-ghost use Rattle.cstn_exec.specs.Runs.{start, due};
+ghost use Rattle.cstn_exec.specs.Runs.{start_of_run, due};
 ghost use Rattle.cstn_exec.specs.Moves.{Awaiting, moment_refusal, outcome_refusal, handed};
 ghost use Rattle.cstn_outline.specs.Trees.{IsAmong, table_of};
 ghost use Rattle.cstn_tree.specs.Good.{IsUnbroken};
-ghost use Rattle.cstn_tree.specs.Made.{IsTreeOf, IsGrown};
-ghost use Rattle.cstn_outline.specs.Written.{FitsText};
-ghost use Rattle.cstn_outline.specs.Read.{the_line, the_tree};
+ghost use Rattle.cstn_tree.specs.Made.{IsTreeOf, IsGrownTree};
+ghost use Rattle.cstn_outline.specs.Written.{TreeFitsText};
+ghost use Rattle.cstn_outline.specs.Read.{the_tree_line, the_tree};
 ghost use Rattle.cstn_tree.specs.Making.{IsMaking, IsMovedTo};
 
 use cstn_exec::{ExecError, Executive, Snapshot, due_is_exact, refusals_are_right};
@@ -28,13 +28,13 @@ use std::alloc::{AllocError, Global};
 /// the tree for false below it a copy of what the executive knows. Where k propositions are observed a tree can have 2^k branches.
 pub fn make(alloc: Global, exec: &mut Executive) -> Result<Tree, AllocError>
     ensures tree { IfOk result (λ t. IsTreeOf (the_network exec.old.net) (the_bounds exec.old.bounds) (the_tree t)) }
-    ensures restarted { exec.new ≡ record exec.old { run = start (count (the_network exec.old.net)); named = [] } }
+    ensures restarted { exec.new ≡ record exec.old { run = start_of_run (count (the_network exec.old.net)); named = [] } }
 
     ensures good { IfOk result (λ t. IsUnbroken (the_network exec.old.net) (the_tree t)) }
     ensures least { IfOk result (λ t. (s : Scenario) (x : ℕ) → x < count (the_network exec.old.net)
         → IsLeast (the_network exec.old.net) s x (table_of (the_tree t) s x)) }
     ensures among { IfOk result (λ t. IsAmong (count (the_network exec.old.net)) (the_tree t)) }
-    ensures fits { IfOk result (λ t. FitsText (the_tree t)) }
+    ensures fits { IfOk result (λ t. TreeFitsText (the_tree t)) }
 {
     // This call tells the proof that the executive's plan has a strategy with each time-point at its least moment.
     exec.network();
@@ -45,7 +45,7 @@ pub fn make(alloc: Global, exec: &mut Executive) -> Result<Tree, AllocError>
 }
 
 fn grow(alloc: Global, exec: &mut Executive) -> Result<Tree, AllocError>
-    requires started { exec.old.run ≡ start (count (the_network exec.old.net)) }
+    requires started { exec.old.run ≡ start_of_run (count (the_network exec.old.net)) }
     ensures tree { IfOk result (λ t. IsTreeOf (the_network exec.old.net) (the_bounds exec.old.bounds) (the_tree t)) }
     ensures same { exec.new ≡ record exec.old { run = exec.new.run; named = exec.new.named } }
 {
@@ -84,7 +84,7 @@ impl Making {
         requires making { IsMaking (the_network exec.old.net) (the_bounds exec.old.bounds) exec.old.run self.old }
         ensures goes_on { IfOk result (λ more. more ≡ true → IsMaking (the_network exec.old.net) (the_bounds exec.old.bounds) exec.new.run self.new) }
         ensures ends { IfOk result (λ more. more ≡ false
-            → IsGrown (the_network exec.old.net) (the_bounds exec.old.bounds) (map the_line self.new.lines.items) []) }
+            → IsGrownTree (the_network exec.old.net) (the_bounds exec.old.bounds) (map the_tree_line self.new.lines.items) []) }
         ensures same { exec.new ≡ record exec.old { run = exec.new.run; named = exec.new.named } }
     {
         let Some(t) = exec.due() else {
@@ -102,7 +102,7 @@ impl Making {
         requires over { due (the_network exec.old.net) (the_bounds exec.old.bounds) exec.old.run ≡ None }
         ensures goes_on { IfOk result (λ more. more ≡ true → IsMaking (the_network exec.old.net) (the_bounds exec.old.bounds) exec.new.run self.new) }
         ensures ends { IfOk result (λ more. more ≡ false
-            → IsGrown (the_network exec.old.net) (the_bounds exec.old.bounds) (map the_line self.new.lines.items) []) }
+            → IsGrownTree (the_network exec.old.net) (the_bounds exec.old.bounds) (map the_tree_line self.new.lines.items) []) }
         ensures same { exec.new ≡ record exec.old { run = exec.new.run; named = exec.new.named } }
     {
         self.lines.push(Line::Done)?;
@@ -164,7 +164,7 @@ fn move_on(exec: &mut Executive, t: u32) -> Option<Prop>
 }
 
 fn awaited_by(refusal: ExecError) -> Option<Prop>
-    ensures { (p : ℕ) → the_refusal refusal ≡ Awaiting p → option_map (λ q. q.index) result ≡ Some p }
+    ensures { (p : ℕ) → the_event_refusal refusal ≡ Awaiting p → option_map (λ q. q.index) result ≡ Some p }
 {
     match refusal {
         ExecError::Awaiting { prop } => Some(prop),

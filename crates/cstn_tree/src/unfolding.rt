@@ -7,7 +7,7 @@ ghost use Rattle.cstn_check.specs.Growth.{log_of, load_of, live_bounds};
 ghost use Rattle.cstn_check.specs.declared.verdicts.Verdict.TheVariants.{Yes};
 ghost use Rattle.cstn_reply.specs.Read.{the_said};
 ghost use Rattle.cstn_reply.specs.Texts.{say};
-ghost use Rattle.cstn_tree.specs.Unfolded.{observed, IsTreeText, IsUnfolded};
+ghost use Rattle.cstn_tree.specs.Unfolded.{how_many_observed, IsTreeText, IsUnfolded};
 
 use crate::make;
 use cstn_check::{Check, Judged, growth_is_bounded, judge};
@@ -49,7 +49,7 @@ pub fn tree_text(
 
 // How many propositions are observed.
 fn observed(network: &Network) -> u16
-    ensures { result ≡ observed (the_network network.now) }
+    ensures { result ≡ how_many_observed (the_network network.now) }
 {
     let mut observed = 0;
     for x in 0..network.count() {

@@ -3,12 +3,12 @@ ghost use Rattle.std.specs.Prelude.{ℕ, ◌≡◌, ◌≢◌, ◌<◌, ◌∷�
 ghost use Rattle.std.specs.List.{All};
 ghost use Rattle.cstn_net.specs.Networks.{count};
 ghost use Rattle.cstn_net.specs.Read.{the_network};
-ghost use Rattle.cstn_outline.specs.Trees.{Line as TheLine, AtLine, AskLine, DoneLine, names_on};
+ghost use Rattle.cstn_outline.specs.Trees.{TreeLine as TheLine, AtLine, AskLine, DoneLine, names_on};
 ghost use Rattle.cstn_tree.specs.declared.walks.Step.TheVariants.{On};
-ghost use Rattle.cstn_tree.specs.Good.{start};
+ghost use Rattle.cstn_tree.specs.Good.{branch_begun};
 ghost use Rattle.cstn_tree.specs.Walks.{first_broken_in, after_step};
-ghost use Rattle.cstn_outline.specs.Read.{the_line};
-ghost use Rattle.cstn_tree.specs.Branches.{the_branches, the_step, IsWalkOf, IsBranchOf};
+ghost use Rattle.cstn_outline.specs.Read.{the_tree_line};
+ghost use Rattle.cstn_tree.specs.Branches.{the_branches, the_walk_step, IsWalkOf, IsBranchOf};
 ghost use Rattle.cstn_tree.specs.Starts.{AreStarts};
 
 use crate::branches::Branch;
@@ -39,7 +39,7 @@ pub enum Step {
 impl Walk {
     /// A walk that begins at the first line.
     pub fn start(alloc: Global, net: &Network) -> Result<Walk, AllocError>
-        ensures start { IfOk result (λ w. the_branches w ≡ start ∷ []) }
+        ensures start { IfOk result (λ w. the_branches w ≡ branch_begun ∷ []) }
         ensures walk { IfOk result (IsWalkOf (count (the_network net.now))) }
     {
         Ok(Walk {
@@ -58,10 +58,10 @@ impl Walk {
     ) -> Result<Step, AllocError>
         requires walk { IsWalkOf (count (the_network net.now)) self.old }
         requires starts { AreStarts (count (the_network net.now)) net.now.constraints starts.now }
-        requires inside { All (λ x. x < count (the_network net.now)) (names_on (the_line line.now)) }
+        requires inside { All (λ x. x < count (the_network net.now)) (names_on (the_tree_line line.now)) }
         ensures step { IfOk result (λ s. (ls : List TheLine) (k : ℕ)
-            → first_broken_in (the_network net.now) (the_branches self.old) (the_line line.now ∷ ls) k
-            ≡ after_step (the_step s) (the_network net.now) (the_branches self.new) ls k) }
+            → first_broken_in (the_network net.now) (the_branches self.old) (the_tree_line line.now ∷ ls) k
+            ≡ after_step (the_walk_step s) (the_network net.now) (the_branches self.new) ls k) }
         ensures walk { IfOk result (λ s. s ≡ On → IsWalkOf (count (the_network net.now)) self.new) }
     {
         match line {
@@ -77,7 +77,7 @@ impl Walk {
         requires inside { All (λ x. x < count (the_network net.now)) named.now }
         ensures step { (ls : List TheLine) (k : ℕ)
             → first_broken_in (the_network net.now) (the_branches self.old) (AtLine t named.now ∷ ls) k
-            ≡ after_step (the_step result) (the_network net.now) (the_branches self.new) ls k }
+            ≡ after_step (the_walk_step result) (the_network net.now) (the_branches self.new) ls k }
         ensures walk { result ≡ On → IsWalkOf (count (the_network net.now)) self.new }
     {
         if self.here.place(net, starts, t, named.as_slice()) {
@@ -91,7 +91,7 @@ impl Walk {
         requires walk { IsWalkOf (count (the_network net.now)) self.old }
         ensures step { IfOk result (λ s. (ls : List TheLine) (k : ℕ)
             → first_broken_in (the_network net.now) (the_branches self.old) (AskLine p.index ∷ ls) k
-            ≡ after_step (the_step s) (the_network net.now) (the_branches self.new) ls k) }
+            ≡ after_step (the_walk_step s) (the_network net.now) (the_branches self.new) ls k) }
         ensures walk { IfOk result (λ s. s ≡ On → IsWalkOf (count (the_network net.now)) self.new) }
     {
         if !self.here.can_ask(net, p) {
@@ -108,7 +108,7 @@ impl Walk {
         requires walk { IsWalkOf (count (the_network net.now)) self.old }
         ensures step { (ls : List TheLine) (k : ℕ)
             → first_broken_in (the_network net.now) (the_branches self.old) (DoneLine ∷ ls) k
-            ≡ after_step (the_step result) (the_network net.now) (the_branches self.new) ls k }
+            ≡ after_step (the_walk_step result) (the_network net.now) (the_branches self.new) ls k }
         ensures walk { result ≡ On → IsWalkOf (count (the_network net.now)) self.new }
     {
         if !self.here.is_complete(net) {

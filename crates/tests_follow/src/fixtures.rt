@@ -90,6 +90,7 @@ pub(super) fn says(
     match session.hear(read).expect(rt, "memory") {
         Heard::Text(text) => assert!(rt; text.as_slice() == answer.as_bytes(), "{line}"),
         Heard::Rest { .. } => panic!(rt; "{line}: a document"),
+        Heard::Digest { .. } => panic!(rt; "{line}: a digest"),
     }
 }
 
@@ -105,6 +106,27 @@ pub(super) fn leaves(
     match session.hear(read).expect(rt, "memory") {
         Heard::Text(_) => panic!(rt; "a text"),
         Heard::Rest { network, names } => {
+            assert!(rt; names.count() == points as u32);
+            assert!(rt; network.base().count() == points);
+            assert!(rt; network.base().constraints().len() == constraints);
+        }
+        Heard::Digest { .. } => panic!(rt; "a digest"),
+    }
+}
+
+/// The session answers to `digest` with a network of these sizes.
+pub(super) fn has_digest_of(
+    rt: &impl Abort,
+    alloc: Global,
+    session: &mut Following,
+    points: u16,
+    constraints: usize,
+) {
+    let read = read_spoken(alloc, b"digest").expect(rt, "memory");
+    match session.hear(read).expect(rt, "memory") {
+        Heard::Text(_) => panic!(rt; "a text"),
+        Heard::Rest { .. } => panic!(rt; "a document"),
+        Heard::Digest { network, names } => {
             assert!(rt; names.count() == points as u32);
             assert!(rt; network.base().count() == points);
             assert!(rt; network.base().constraints().len() == constraints);
@@ -155,6 +177,7 @@ pub(super) fn says_marked(
     match session.hear(read).expect(rt, "memory") {
         Heard::Text(text) => assert!(rt; text.as_slice() == answer.as_bytes(), "{line}"),
         Heard::Rest { .. } => panic!(rt; "{line}: a document"),
+        Heard::Digest { .. } => panic!(rt; "{line}: a digest"),
     }
 }
 

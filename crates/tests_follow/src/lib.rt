@@ -6,6 +6,8 @@ mod asked;
 #[cfg(test)]
 mod cases;
 #[cfg(test)]
+mod expected;
+#[cfg(test)]
 mod fixtures;
 #[cfg(test)]
 mod forgiven;
@@ -13,3 +15,5 @@ mod forgiven;
 mod marks;
 #[cfg(test)]
 mod sessions;
+#[cfg(test)]
+mod stepped;

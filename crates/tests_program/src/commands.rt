@@ -6,7 +6,7 @@ use std::process::Abort;
 use std::test::Fail;
 
 // Each command with files for it, and what the program is.
-const COMMANDS: [Row<'static>; 16] = [
+const COMMANDS: [Row<'static>; 17] = [
     Row {
         name: "check",
         words: &["check", "f", "--deadline", "10"],
@@ -121,6 +121,16 @@ const COMMANDS: [Row<'static>; 16] = [
     Row {
         name: "tree",
         words: &["tree", "f", "--deadline", "10"],
+        file: BRANCH,
+        other: "",
+        live: "moment 0\n",
+        status: Status::Good,
+        text: TREE,
+        left: "moment 0\n",
+    },
+    Row {
+        name: "cases",
+        words: &["cases", "f", "--deadline", "10"],
         file: BRANCH,
         other: "",
         live: "moment 0\n",

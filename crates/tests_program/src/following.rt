@@ -4,7 +4,7 @@ use crate::requests::{Row, expect_all_by_bytes};
 use cstn_top::Status;
 use std::test::Fail;
 
-const FOLLOWED: [Row<'static>; 5] = [
+const FOLLOWED: [Row<'static>; 6] = [
     Row {
         name: "a late step, and a limit given up",
         words: &["follow", "f"],
@@ -54,6 +54,22 @@ const FOLLOWED: [Row<'static>; 5] = [
         status: Status::Unfinished,
         text: "follow 1\nyes 19\nyes 19\nyes 10\nnext 10 do Drip\nyes 7\nnext 47 do Swallow\n\
             by 180 Swallow\nunfinished 17\n",
+        left: "",
+    },
+    Row {
+        name: "which plan it is",
+        words: &["follow", "f"],
+        file: PATHWAY,
+        other: "",
+        live: "digest\ndid 5 Sample\ndigest\nstep Call\ndigest\nstep Call\ntry step Review\ndigest \n",
+        status: Status::Unfinished,
+        text: "follow 1\nyes 16\n\
+            digest 9424b10e6e6a13be4ad84e4234702b6c187101b5ab00e34d1c0bc0ee12a68dd5\n\
+            yes 17\n\
+            digest 9424b10e6e6a13be4ad84e4234702b6c187101b5ab00e34d1c0bc0ee12a68dd5\n\
+            step Call\n\
+            digest 879ef2d440be968fa0a0ebb49ce7a5c0185ae913c186a4b3eeef7845ea1caa76\n\
+            refused S8 Call\nrefused S8 Review\nrefused line 8\nunfinished 5\n",
         left: "",
     },
     Row {

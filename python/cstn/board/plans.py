@@ -11,7 +11,7 @@ from typing import Any
 
 from cstn.answers import Can
 from cstn.clock import Clock
-from cstn.errors import CstnError, Moved
+from cstn.errors import CstnError, Moved, NotYet, OutOfTime, Refused, Unavailable, WaitsFor
 from cstn.events import Event, Now, with_key
 from cstn.follower import Follower, Receipt
 from cstn.host import Host
@@ -26,6 +26,7 @@ from cstn.board.words import shown
 
 MOST_PLANS = 200
 MOST_TITLE = 80
+LONGEST_ATTEMPT = 1.0
 SHORT = 16
 """How many digits of a digest name a plan in an address."""
 
@@ -71,6 +72,8 @@ class Board:
         self.lock = threading.Lock()
         self.looks: dict[str, tuple[object, Data]] = {}
         self.turns: dict[str, threading.Lock] = {}
+        self.slow: dict[str, int] = {}
+        """The version of each plan at which an attempt took long."""
         self.pending = {short(it.title): it.title for it in documents.values() if it.title not in self.host.plans()}
         if timing.by_hand or timing.start is not None:
             for title in list(self.pending.values()):
@@ -118,7 +121,7 @@ class Board:
         if data.get("kind") == "begin":
             return {"id": self.begin(self.title(plan), self.title(plan))}
         follower = self.follower(plan)
-        event = event_of(data, follower.plan, follower.outlook(latest=False).limits)
+        event = event_of(data, follower.plan, follower.outlook(latest=False))
         receipt = follower.tell(with_key(event, key_of(data)))
         self.news.say(plan)
         return told(receipt)
@@ -132,7 +135,7 @@ class Board:
         version, key = data.get("version"), data.get("of")
         if not isinstance(version, int) or not isinstance(key, str):
             raise Wrong("a correction says of which event and of which version of the plan")
-        event = None if instead is None else event_of(instead, follower.plan, follower.outlook(latest=False).limits)
+        event = None if instead is None else event_of(instead, follower.plan, follower.outlook(latest=False))
         receipt = follower.correct(key, event, expect=version)
         self.news.say(plan)
         return told(receipt)
@@ -145,10 +148,31 @@ class Board:
             if now is not None:
                 trial.tell(Now(now))
             outlook = trial.outlook(latest=False)
-            receipt = trial.tell(event_of(data, follower.plan, outlook.limits))
+            receipt = trial.tell(event_of(data, follower.plan, outlook))
             after = trial.outlook(latest=False)
             blame = (tried(trial.blame) if after.verdict.can is Can.NO else None) or ()
         return told(receipt) | outcome(follower.plan, after, blame)
+
+    def attempt(self, plan: str, data: Mapping[str, Any]) -> Data:
+        """Whether it would still fit after an event: the verdict alone, or why the event cannot be told, or not yet.
+        Nothing where that took long of the plan as it stands: it is asked while somebody writes."""
+        follower = self.follower(plan)
+        event = event_of(data, follower.plan, follower.outlook(latest=False))
+        found: Data = {"verdict": None, "waits": [], "why": ""}
+        if self.slow.get(plan) == follower.version:
+            return found
+        begun = time.monotonic()
+        try:
+            found["verdict"] = follower.attempt(event, now=self.now(follower)).can.value
+        except NotYet as error:
+            found["waits"] = waiting(error.waits_for)
+        except Refused as error:
+            found["why"] = shown(error.says)
+        except (OutOfTime, Unavailable):
+            pass
+        if time.monotonic() - begun > LONGEST_ATTEMPT:
+            self.slow[plan] = follower.version
+        return found
 
     # ---- what is shown ----
 
@@ -225,6 +249,9 @@ def unknown_clock() -> Data:
 
 
 def told(receipt: Receipt) -> Data:
-    waits = [*receipt.waits_for.letters, *receipt.waits_for.steps]
-    return {"version": receipt.version, "again": receipt.again, "waits": [shown(it) for it in waits],
+    return {"version": receipt.version, "again": receipt.again, "waits": waiting(receipt.waits_for),
             "fallen": len(receipt.fallen)}
+
+
+def waiting(found: WaitsFor) -> list[str]:
+    return [shown(it) for it in (*found.letters, *found.steps)]

@@ -2,16 +2,18 @@
 from __future__ import annotations
 
 import re
-from collections.abc import Mapping
+from collections.abc import Mapping, Sequence
 from typing import Any
 
-from cstn.events import Add, Change, Deadline, Did, Event, Expect, Now, Saw
-from cstn.plan import Limit, Plan
+from cstn.events import Add, AddStep, Change, Deadline, Did, Event, Expect, Forgive, NotBefore, Now, Saw
+from cstn.outlook import Outlook
+from cstn.plan import Limit, Plan, Step
 from cstn.refusals import MOST
 
 from cstn.board.words import is_least
 
 MOST_VALUE = 1_000_000_000
+LONGEST_NAME = 80
 KEY = re.compile(r"[0-9A-Za-z_-]{8,64}")
 
 
@@ -35,9 +37,17 @@ def truth(data: Mapping[str, Any], name: str) -> bool:
     return value
 
 
-def step_of(data: Mapping[str, Any], name: str, plan: Plan) -> str:
-    """A step is named by its place in the document, so that no name has to be understood on its way."""
-    return plan.steps[number(data, name, 0, len(plan.steps) - 1)].name
+def step_of(data: Mapping[str, Any], name: str, steps: Sequence[Step]) -> str:
+    """A step is named by its place, so that no name has to be understood on its way."""
+    return steps[number(data, name, 0, len(steps) - 1)].name
+
+
+def new_name(data: Mapping[str, Any]) -> str:
+    """The name of a further step, without blanks around it."""
+    name = data.get("name")
+    if not isinstance(name, str) or not 0 < len(name.strip()) <= LONGEST_NAME or not name.strip().isprintable():
+        raise Wrong(f"a step has a name of 1 to {LONGEST_NAME} letters")
+    return name.strip()
 
 
 def letter_of(data: Mapping[str, Any], plan: Plan) -> str:
@@ -54,8 +64,8 @@ def limit_of(data: Mapping[str, Any], limits: Mapping[int, Limit]) -> Limit:
     return limit
 
 
-def added(data: Mapping[str, Any], plan: Plan) -> Add:
-    step, from_, value = step_of(data, "step", plan), step_of(data, "from", plan), number(data, "value", 0, MOST)
+def added(data: Mapping[str, Any], steps: Sequence[Step]) -> Add:
+    step, from_, value = step_of(data, "step", steps), step_of(data, "from", steps), number(data, "value", 0, MOST)
     match data.get("bound"):
         case "least":
             return Add(step, from_, -value)
@@ -71,11 +81,16 @@ def key_of(data: Mapping[str, Any]) -> str:
     return key
 
 
-def event_of(data: Mapping[str, Any], plan: Plan, limits: Mapping[int, Limit]) -> Event:
-    """The event that data of JSON say. Raises `Wrong`."""
+def event_of(data: Mapping[str, Any], plan: Plan, outlook: Outlook) -> Event:
+    """The event that data of JSON say of a plan as it stands. Raises `Wrong`."""
+    steps, limits = plan.steps_with(outlook.further), outlook.limits
     match data.get("kind"):
         case "did":
-            return Did(step_of(data, "step", plan), number(data, "at", 0, MOST))
+            return Did(step_of(data, "step", steps), number(data, "at", 0, MOST))
+        case "not_before":
+            return NotBefore(step_of(data, "step", steps), number(data, "at", 0, MOST))
+        case "step":
+            return AddStep(new_name(data))
         case "saw":
             return Saw(letter_of(data, plan), truth(data, "value"), number(data, "at", 0, MOST))
         case "await":
@@ -84,11 +99,13 @@ def event_of(data: Mapping[str, Any], plan: Plan, limits: Mapping[int, Limit]) -
             return Now(number(data, "at", 0, MOST))
         case "deadline":
             return Deadline(number(data, "at", 0, MOST))
+        case "forgive":
+            return Forgive()
         case "remove":
             return Change(limit_of(data, limits).id, None)
         case "change":
             limit, value = limit_of(data, limits), number(data, "value", -MOST_VALUE, MOST_VALUE)
             return Change(limit.id, -value if is_least(limit) else value)
         case "add":
-            return added(data, plan)
+            return added(data, steps)
     raise Wrong("no such kind of event")

@@ -10,19 +10,28 @@ from typing import Any, TypeVar
 from cstn.answers import Can, Done, Next
 from cstn.child import Child
 from cstn.errors import CstnError, OutOfTime, Unavailable
-from cstn.events import Change, Did, Event, Expect, Now, Saw
-from cstn.follower import Follower, Trial
+from cstn.events import Change, Did, Event, Expect, Forgive, NotBefore, Now, Saw
+from cstn.follower import Follower, Trial, forgiven_by
 from cstn.outlook import Late, Outlook, WayOut
 from cstn.plan import Limit, Plan, Step
+from cstn.refusals import MOST
 from cstn.session import Telling
 
 from cstn.board.ahead import Ahead, overdue, play
-from cstn.board.words import Part, is_least, limit_parts, named, number_of, shown, spoken, told
+from cstn.board.words import Part, forgiven, is_least, limit_parts, named, number_of, shown, spoken, told
 
 Data = dict[str, Any]
 Found = TypeVar("Found")
 SECONDS = 1.5
 """How long a look may take to find until when steps can wait: what it does not come to stands without."""
+
+
+@dataclass(frozen=True)
+class Forgiving:
+    """Which limits what was done has broken, and how it stands without them."""
+
+    ids: tuple[int, ...]
+    can: Can
 
 
 @dataclass(frozen=True)
@@ -38,8 +47,19 @@ class Look:
     lates: Mapping[str, Late | None]
     ways: Sequence[WayOut] | None
     """None where they could not be found in time."""
+    forgiving: Forgiving | None
+    until: int | None
+    """Until when nothing at all may happen."""
     meanwhile: Next | None
     let_go: Sequence[int]
+
+    @property
+    def steps(self) -> tuple[Step, ...]:
+        return self.plan.steps_with(self.outlook.further)
+
+    @property
+    def places(self) -> dict[str, int]:
+        return places(self.plan, self.outlook)
 
 
 def look(follower: Follower, now: int | None, chosen: Mapping[str, bool], *, whole: bool) -> Look:
@@ -49,16 +69,19 @@ def look(follower: Follower, now: int | None, chosen: Mapping[str, bool], *, who
         if now is not None:
             trial.tell(Now(now))
         outlook = trial.outlook(latest=False)
-        due = due_before(trial, outlook.now)
+        due = due_before(trial, outlook)
         if not whole:
-            return Look(follower.plan, outlook, tellings, Ahead(), {}, due, {}, (), None, [])
+            return Look(follower.plan, outlook, tellings, Ahead(), {}, due, {}, (), None, None, None, [])
         is_no = outlook.verdict.can is Can.NO
         ways = tried(trial.ways_out) if is_no else ()
+        forgiving = tried(partial(forgive, trial)) if is_no else None
+        until = tried(trial.until) if outlook.verdict.is_yes else None
         lates = {} if is_no else {it.letter: tried(partial(trial.late, it.letter)) for it in outlook.awaited}
         meanwhile, let_go = (tried(partial(let_all_go, trial)) if is_no else None) or (None, list[int]())
-        ahead = way_ahead(trial, chosen)
+        ahead = way_ahead(trial, outlook, chosen)
         latest = {} if is_no else latest_of(trial, outlook, ahead)
-    return Look(follower.plan, outlook, tellings, ahead, latest, due, lates, ways, meanwhile, let_go)
+    return Look(follower.plan, outlook, tellings, ahead, latest, due, lates, ways, forgiving, until,
+                meanwhile, let_go)
 
 
 def tried(question: Callable[[], Found]) -> Found | None:
@@ -72,13 +95,22 @@ def tried(question: Callable[[], Found]) -> Found | None:
 def latest_of(trial: Trial, outlook: Outlook, ahead: Ahead) -> dict[str, int]:
     """Until when each step can wait: the next ones first, and as many as there is time for."""
     end, found = time.monotonic() + SECONDS, {}
-    left = [it.name for it in trial.plan.steps if it.name not in outlook.done and it.name not in outlook.left_out]
+    left = [it.name for it in trial.plan.steps_with(outlook.further)
+            if it.name not in outlook.done and it.name not in outlook.left_out]
     for step in sorted(left, key=lambda it: ahead.steps.get(it, outlook.deadline)):
         if time.monotonic() > end:
             break
         if (at := tried(partial(trial.by, step))) is not None:
             found[step] = at
     return found
+
+
+def forgive(trial: Trial) -> Forgiving | None:
+    """What would be forgiven, and what that would leave; nothing where nothing is broken."""
+    trial.mark()
+    receipt = trial.forgive()
+    trial.back()
+    return Forgiving(receipt.forgiven, receipt.verdict.can) if receipt.forgiven else None
 
 
 def let_all_go(trial: Trial) -> tuple[Next | None, list[int]]:
@@ -90,16 +122,21 @@ def let_all_go(trial: Trial) -> tuple[Next | None, list[int]]:
     return (answer, gone) if isinstance(answer, Next) else (None, [])
 
 
-def way_ahead(trial: Trial, chosen: Mapping[str, bool]) -> Ahead:
+def most_moments(plan: Plan, outlook: Outlook) -> int:
+    """How many moments what is left has at most."""
+    return 2 * len(plan.steps_with(outlook.further))
+
+
+def way_ahead(trial: Trial, outlook: Outlook, chosen: Mapping[str, bool]) -> Ahead:
     """How the plan goes on, after a "no" without what was let go; nothing where that takes too long."""
     try:
         with trial.copied() as (child, _):
-            return play(child, chosen, 2 * len(trial.plan.steps))
+            return play(child, chosen, most_moments(trial.plan, outlook))
     except CstnError:
         return Ahead()
 
 
-def due_before(trial: Trial, now: int) -> dict[str, int]:
+def due_before(trial: Trial, outlook: Outlook) -> dict[str, int]:
     """Which steps were wanted before now, by what was told but the time that has passed."""
     plan, allowed = trial.plan, trial.allowed
     try:
@@ -111,7 +148,7 @@ def due_before(trial: Trial, now: int) -> dict[str, int]:
     try:
         for line in lines:
             child.ask(line)
-        return overdue(child, now, 2 * len(plan.steps))
+        return overdue(child, outlook.now, most_moments(plan, outlook))
     except CstnError:
         return {}
     finally:
@@ -120,22 +157,22 @@ def due_before(trial: Trial, now: int) -> dict[str, int]:
 
 # ---- the parts of the page ----
 
-def places(plan: Plan) -> dict[str, int]:
-    """For each step its place in the document, by which a page names it."""
-    return {step.name: index for index, step in enumerate(plan.steps)}
+def places(plan: Plan, outlook: Outlook) -> dict[str, int]:
+    """For each step its place, by which a page names it: that of the document, and behind these such as were put in."""
+    return {step.name: index for index, step in enumerate(plan.steps_with(outlook.further))}
 
 
-def next_data(found: Next | None, plan: Plan) -> Data | None:
+def next_data(found: Next | None, plan: Plan, outlook: Outlook) -> Data | None:
     if found is None:
         return None
-    place = places(plan)
+    place = places(plan, outlook)
     return {"at": found.at, "do": [place[step] for step in found.do], "names": [shown(step) for step in found.do],
             "wait": [spoken(letter, plan.words) for letter in found.wait]}
 
 
 def lateness(it: Look) -> list[Data]:
     """What is late: steps that were wanted before now, and results that were expected before now."""
-    now, place = it.outlook.now, places(it.plan)
+    now, place = it.outlook.now, it.places
     steps = [{"step": place[step], "name": shown(step), "due": at, "by": now - at}
              for step, at in it.due.items() if step not in it.outlook.done]
     results = [{"letter": each.letter, "name": f"result {spoken(each.letter, it.plan.words)}", "due": each.expected,
@@ -149,7 +186,8 @@ def standing(step: Step, it: Look) -> str:
         return "done"
     if step.name in it.outlook.left_out:
         return "out"
-    return "open" if all(letter in it.outlook.seen for letter in it.plan.letters_of(step.name)) else "unknown"
+    letters = it.plan.letters_of(step.name) if step.label else ()
+    return "open" if all(letter in it.outlook.seen for letter in letters) else "unknown"
 
 
 def still_open(step: Step, it: Look) -> str:
@@ -163,12 +201,13 @@ def step_data(index: int, step: Step, it: Look) -> Data:
     return {"index": index, "shown": shown(step.name), "start": step.name == "Z", "observes": observes,
             "reaction": step.reaction, "label": still_open(step, it), "state": standing(step, it),
             "at": it.outlook.done.get(step.name), "planned": it.ahead.steps.get(step.name),
-            "by": it.latest.get(step.name)}
+            "by": it.latest.get(step.name), "ready": it.outlook.ready.get(step.name),
+            "further": step.name in it.outlook.further}
 
 
 def result_data(letter: str, it: Look) -> Data:
     observer = it.plan.observers[letter]
-    data: Data = {"letter": letter, "word": spoken(letter, it.plan.words), "step": places(it.plan)[observer.name],
+    data: Data = {"letter": letter, "word": spoken(letter, it.plan.words), "step": it.places[observer.name],
                   "shown": shown(observer.name), "state": "unasked", "at": None,
                   "expected": it.ahead.results.get(letter), "until": None}
     if (seen := it.outlook.seen.get(letter)) is not None:
@@ -204,23 +243,40 @@ def blame_data(it: Look) -> Data | None:
     if it.outlook.verdict.can is not Can.NO or it.ways is None:
         return None
     originals = {limit.id: limit for limit in it.plan.limits}
-    limits, deadline = [], None
+    limits, results, deadline = [], [], None
     for way in it.ways:
         if way.is_deadline:
             deadline = way.would_do
+        elif way.letter is not None:
+            results.append({"letter": way.letter, "word": spoken(way.letter, it.plan.words), "expected": way.is_now,
+                            "needed": way.would_do})
         elif way.limit is not None:
             least = is_least(originals.get(way.limit.id, way.limit))
             needed = None if way.would_do is None else number_of(way.limit, way.would_do, least)
             limits.append({"id": way.limit.id, "needed": needed})
     limits.sort(key=lambda each: each["id"] not in originals)
-    return {"limits": limits, "deadline": deadline, "let_go": list(it.let_go)}
+    return {"limits": limits, "results": results, "deadline": deadline, "forgive": forgive_data(it),
+            "let_go": list(it.let_go)}
 
 
-def again(event: Event, plan: Plan) -> Data | None:
+def forgive_data(it: Look) -> Data | None:
+    """What what was done has broken, and whether it fits without that."""
+    if it.forgiving is None:
+        return None
+    found = {limit.id: limit for limit in all_limits(it)}
+    limits = [limit_parts(limit, is_least(limit), limit.most, it.plan.words)
+              for number in it.forgiving.ids if (limit := it.outlook.limits.get(number, found.get(number)))]
+    return {"limits": limits, "verdict": it.forgiving.can.value}
+
+
+def again(event: Event, it: Look) -> Data | None:
     """A fact as a page sends it, to be corrected. What was decided is not corrected, but decided anew."""
+    place = it.places
     match event:
-        case Did(step, at):
-            return {"kind": "did", "step": places(plan)[step], "at": at}
+        case Did(step, at) if step in place:
+            return {"kind": "did", "step": place[step], "at": at}
+        case NotBefore(step, at) if step in place:
+            return {"kind": "not_before", "step": place[step], "at": at}
         case Saw(letter, value, at):
             return {"kind": "saw", "letter": letter, "value": value, "at": at}
         case Expect(letter, at):
@@ -232,8 +288,11 @@ def again(event: Event, plan: Plan) -> Data | None:
 
 def entry_data(number: int, telling: Telling, it: Look) -> Data:
     """A line of the history."""
-    fact = again(telling.event, it.plan)
-    words: list[Part] = told(telling.event, {limit.id: limit for limit in all_limits(it)}, it.plan.words)
+    fact = again(telling.event, it)
+    limits = {limit.id: limit for limit in all_limits(it)}
+    is_forgiven = isinstance(telling.event, Forgive)
+    words: list[Part] = forgiven(forgiven_by(telling), limits, it.plan.words) if is_forgiven else \
+        told(telling.event, limits, it.plan.words)
     at = fact["at"] if fact and fact["kind"] in ("did", "saw") else None
     return {"n": number, "key": telling.event.key, "at": at, "parts": words, "event": fact,
             "standing": telling.standing.value, "why": shown(telling.why), "verdict": verdict_of(telling)}
@@ -251,23 +310,23 @@ def is_over(outlook: Outlook) -> bool:
 def brief(it: Look) -> Data:
     """What a list shows of a plan."""
     found = it.outlook.next if isinstance(it.outlook.next, Next) else it.meanwhile
-    return {"verdict": it.outlook.verdict.can.value, "next": next_data(found, it.plan), "late": lateness(it),
-            "over": is_over(it.outlook), "version": it.outlook.version}
+    return {"verdict": it.outlook.verdict.can.value, "next": next_data(found, it.plan, it.outlook),
+            "late": lateness(it), "over": is_over(it.outlook), "version": it.outlook.version}
 
 
 def outcome(plan: Plan, outlook: Outlook, blame: Sequence[int]) -> Data:
     """What stands in the dialog behind "what if"."""
     found = outlook.next if isinstance(outlook.next, Next) else None
     limits = [outlook.limits[number] for number in blame if number in outlook.limits]
-    return {"verdict": outlook.verdict.can.value, "over": is_over(outlook), "next": next_data(found, plan),
+    return {"verdict": outlook.verdict.can.value, "over": is_over(outlook), "next": next_data(found, plan, outlook),
             "blame": [limit_parts(limit, is_least(limit), limit.most, plan.words) for limit in limits]}
 
 
 def page(it: Look) -> Data:
     """What the page of a plan shows."""
     return brief(it) | {
-        "deadline": it.outlook.deadline,
-        "steps": [step_data(index, step, it) for index, step in enumerate(it.plan.steps)],
+        "deadline": it.outlook.deadline, "until": it.until if it.until != MOST else None,
+        "steps": [step_data(index, step, it) for index, step in enumerate(it.steps)],
         "results": [result_data(letter, it) for letter in it.plan.observers],
         "limits": [limit_data(limit, it) for limit in all_limits(it)],
         "blame": blame_data(it),

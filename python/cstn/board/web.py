@@ -103,6 +103,7 @@ class Routes:
             ("/", self.index, "GET"), ("/static/<name>", self.static, "GET"), ("/api/plans", self.plans, "GET"),
             ("/api/plans", self.begin, "POST"), ("/api/plans/<plan>", self.page, "GET"),
             ("/api/plans/<plan>/tell", self.tell, "POST"), ("/api/plans/<plan>/try", self.what_if, "POST"),
+            ("/api/plans/<plan>/attempt", self.attempt, "POST"),
             ("/api/plans/<plan>/correct", self.correct, "POST"), ("/api/plans/<plan>/journal", self.journal, "GET"),
             ("/api/events", self.events, "GET"),
         )
@@ -142,6 +143,9 @@ class Routes:
 
     def what_if(self, plan: str) -> Response:
         return jsonify(self.board.what_if(plan, body()))
+
+    def attempt(self, plan: str) -> Response:
+        return jsonify(self.board.attempt(plan, body()))
 
     def correct(self, plan: str) -> Response:
         return jsonify(self.board.correct(plan, body()))

@@ -2,10 +2,10 @@
 from __future__ import annotations
 
 import re
-from collections.abc import Mapping
+from collections.abc import Mapping, Sequence
 from typing import Any
 
-from cstn.events import Add, Change, Deadline, Did, Event, Expect, Now, Saw
+from cstn.events import Add, AddStep, Change, Deadline, Did, Event, Expect, Forgive, NotBefore, Now, Saw
 from cstn.names import Label
 from cstn.plan import Limit
 
@@ -76,7 +76,25 @@ def told(event: Event, limits: Mapping[int, Limit], words: Words = NO_WORDS) -> 
             return [{"text": "put in: "}, *limit_parts(limit, is_least(limit), most, words)]
         case Change(number, most):
             return changed(limits.get(number), number, most, words)
+        case NotBefore(step, 0):
+            return [{"name": shown(step)}, {"text": " can be done as soon as the rest allows"}]
+        case NotBefore(step, int(at)):
+            return [{"name": shown(step)}, {"text": " not before "}, {"moment": at}]
+        case AddStep(step):
+            return [{"text": "put in: step "}, {"name": shown(step)}]
+        case Forgive():
+            return [{"text": "what is broken is given up"}]
     return [{"text": shown(str(event))}]
+
+
+def forgiven(ids: Sequence[int], limits: Mapping[int, Limit], words: Words = NO_WORDS) -> list[Part]:
+    """What was given up since it was broken, as a sentence."""
+    parts: list[Part] = [{"text": "given up, since broken: "}] if ids else [{"text": "nothing was broken"}]
+    for place, number in enumerate(ids):
+        limit = limits.get(number)
+        said = limit_parts(limit, is_least(limit), limit.most, words) if limit else [{"text": f"limit {number}"}]
+        parts += [*([{"text": "; "}] if place else []), *said]
+    return parts
 
 
 def changed(limit: Limit | None, number: int, most: int | None, words: Words) -> list[Part]:

@@ -80,7 +80,8 @@ def rows_of(plan: Plan, case: Case) -> list[Row]:
     level: dict[str, int] = {}
     for first in {it.first for it in found}:
         level |= plan.net.levels(it.begin for it in found if it.first == first)
-    return sorted(found, key=lambda it: (it.first, level[it.begin], it.last, plan.net.places[it.begin]))
+    place = plan.net.places | {it.begin: len(plan.net.names) for it in found if it.begin not in plan.net.places}
+    return sorted(found, key=lambda it: (it.first, level[it.begin], it.last, place[it.begin]))
 
 
 def outcomes_in_words(case: Case) -> str:

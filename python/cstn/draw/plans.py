@@ -55,7 +55,7 @@ def read_network(asked: Asked) -> None:
     reader = Reader(asked.source)
     asked.saved, asked.net = saved, Network(saved)
     found = asked.said or reader
-    asked.net.rows, asked.net.lines, asked.net.waits = found.rows, found.lines, reader.waits
+    asked.net.rows, asked.net.lines = found.rows, found.lines
     asked.net.says = asked.said.says if asked.said else []
     asked.net.is_canonical = asked.is_canonical()
 

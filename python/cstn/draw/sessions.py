@@ -16,7 +16,7 @@ from .chains import Link, chain_of
 
 # After a no so many sets of limits are let go, one after another, to tell what is left without them.
 MOST_SETS = 12
-LINE = re.compile(r"(?:> )?((?:did|saw|now|await|add|remove|change|deadline) .*)")
+LINE = re.compile(r"(?:> )?((?:did|saw|now|await|expect|add|remove|change|deadline|step|cap) .*|forgive|mark|back)")
 
 
 @dataclass
@@ -79,12 +79,17 @@ def tell_again(asked: Asked, lines: list[str]) -> Session:
     answers = said.split("\n")
     if not said.startswith("follow ") or len(answers) < len(lines) + 4:
         raise Stopped(status or 1, f"the session cannot be told again: {answers[0]}")
-    heard, told, verdict = Heard(), {}, answers[1]
+    heard, told, verdict = Heard(), dict[str, int](), answers[1]
+    marked: list[dict[str, int]] = []
     for line, answer in zip(lines, answers[2:]):
         heard.take(line, answer)
         saw = re.fullmatch(r"saw (\d+) (.) (?:true|false)", line)
         if saw and not answer.startswith("refused"):
             told[saw[2]] = int(saw[1])
+        if answer.startswith("mark "):
+            marked.append(dict(told))
+        elif answer.startswith("back "):
+            told = marked.pop()
         verdict = answer if re.match(r"(yes|no|full) \d", answer) else verdict
     behind = answers[2 + len(lines) :]
     session = Session(heard, verdict_after(behind, verdict), behind[0], told)

@@ -6,7 +6,6 @@ tree or `follow` says.
     ./cstn explain --step NAME FILE [--deadline N] [--json]
     ./cstn explain --longest [--tree | --conflict | --tight | --float | --step NAME] FILE [--tasks TASKS] ..
     ./cstn explain --follow FILE [--deadline N]
-    ./cstn explain --plain FILE [--deadline N]
 
 With --start HH:MM moments are times too: tick 0 is then, and a tick is a minute, or the seconds of --tick SECONDS.
 PROOF is what a no wrote, of `check`, `run`, `closed`, `tree`, `conflict` or `tight`, or the tree of a yes, or what
@@ -15,7 +14,8 @@ network is listed before it, but what of FILE was passed over. docs/commands.md 
 form tells, and how it ends.
 
 FILE may be a plan in sentences, if its name ends in .plan: then constraints are named by its lines, and letters by its
-words. What is typed into a session, or to --follow, may have times as 22:14, those words, and names in quotes.
+words. What is typed into a session, or to --follow, may have times as 22:14, those words, names in quotes, and limits
+by their lines, as `change line 7 95`.
 
 A reading aid: it is not proved, reads the document and the text alone, and changes nothing. What the network is, it
 takes from what `./cstn save FILE` writes (or the program that CSTN names); what was passed over, it finds in FILE
@@ -31,11 +31,11 @@ import sys
 from .asking import Asked, kept, read_once, read_text, with_values
 from .conflicts import tell_sets
 from .documents import Reader, tell_passed_over
-from .following import is_answer, is_followed, is_typed
+from .following import as_session, is_followed, is_typed
 from .live import talk
 from .looks import looks
 from .names import harmless, harmless_data
-from .networks import Network, network_in_words, plain_copy, ticks
+from .networks import Network, network_in_words, ticks
 from .plans import Told, is_plan, take_plan
 from .proofs import tell_judged_tree, tell_refutation
 from .refusals import tell_refused
@@ -52,7 +52,7 @@ IDS_OF_REST = ("If `rest` wrote FILE, the ids and lines below are its own. Never
                "there.")
 LEAST = re.compile(r"least (\d{1,7})\n(?=.)")
 """How what `tight` wrote begins; `follow` answers with such a line alone."""
-ASKED = ("--plain", "--tree", "--conflict", "--tight", "--float", "--step", "--follow")
+ASKED = ("--tree", "--conflict", "--tight", "--float", "--step", "--follow")
 
 
 def tell_proof(asked: Asked, text: str) -> tuple[int, Data, list[str]]:
@@ -113,8 +113,7 @@ def tell_tree(asked: Asked) -> tuple[int, Data, list[str]]:
         if not status:
             letters = len(asked.net.observers)
             lines = [f"The plan can be carried out, and has up to {1 << letters} ways, by {letters} outcomes, which "
-                     "are too many for words: `./cstn tree` writes them, of the copy of `./cstn explain --plain FILE` "
-                     "if FILE has labels on time-points."]
+                     "are too many for words: `./cstn cases FILE` writes them."]
             return 10, {"answer": f"wide {letters}", "says": lines}, lines
     else:
         status, text = asked.answer_plain("tree")
@@ -212,7 +211,7 @@ def take_longest(asked: Asked, files: contextlib.ExitStack, path: str | None) ->
     found = lengths(net, tasks)
     asked.saved = with_values(asked.saved, {it.id: -it.most for it in found})
     asked.net, asked.path = Network(asked.saved), files.enter_context(kept(asked.saved))
-    asked.net.rows, asked.net.lines, asked.net.waits = net.rows, net.lines, net.waits
+    asked.net.rows, asked.net.lines = net.rows, net.lines
     asked.net.says, asked.net.is_canonical = net.says, net.is_canonical
     lines = [f"With each task at its longest: {', '.join(it.says() for it in found)}."]
     if not found:
@@ -242,7 +241,7 @@ def parsed(words: list[str]) -> tuple[str, list[str], list[str], bool, bool]:
         asked, words = f"step {''.join(words[:1])}", words[1:]
     if alone and (asked or len(words) == 1 and not words[0].startswith("-")):
         raise Stopped(2, "--only goes with PROOF, ANSWER or SESSION.")
-    is_form = 1 + alone <= len(words) <= (1 if asked else 2) and not (as_data and asked in ("plain", "follow"))
+    is_form = 1 + alone <= len(words) <= (1 if asked else 2) and not (as_data and asked == "follow")
     if not is_form or any(it.startswith("-") and it != "-" for it in words):
         raise Stopped(2, __doc__.strip())
     return asked, words, option, alone, as_data
@@ -252,8 +251,8 @@ def text_of(words: list[str]) -> str | None:
     """The text of PROOF, or none where none is named."""
     if len(words) < 2:
         return None
-    if words[1] != "-" and is_answer(words[1]) and not os.path.exists(words[1]):
-        return f"{words[1]}\n"
+    if words[1] != "-" and (session := as_session(words[1])) and not os.path.exists(words[1]):
+        return session
     return read_text(words[1], "PROOF")
 
 
@@ -271,14 +270,12 @@ def tell(asked: Asked, command: str, text: str | None, alone: bool) -> tuple[int
     status, saved = asked.answer("save", asked.path, *asked.option)
     if status not in (0, 3):
         return status, {"answer": saved.strip()}, saved.rstrip("\n").split("\n") if saved else []
-    if not status and command == "plain":
-        return 0, {}, plain_copy(Network(saved)).rstrip("\n").split("\n")
     reader = Reader(asked.source)
     if status:
         return tell_refusal(saved, status, reader)
     asked.saved, asked.net = saved, Network(saved)
     found = asked.said or reader
-    asked.net.rows, asked.net.lines, asked.net.waits = found.rows, found.lines, reader.waits
+    asked.net.rows, asked.net.lines = found.rows, found.lines
     asked.net.says = asked.said.says if asked.said else []
     asked.net.is_canonical = asked.is_canonical()
     if asked.longest is not None:
@@ -303,7 +300,7 @@ def main(words: list[str]) -> int:
     Spoken.words, Spoken.takes_words = {}, False
     longest, words = longest_of(words)
     command, words, option, alone, as_data = parsed(words)
-    if longest is not None and (command in ("plain", "follow") or len(words) > 1):
+    if longest is not None and (command == "follow" or len(words) > 1):
         raise Stopped(2, __doc__.strip())
     text = text_of(words)
     least = LEAST.match(text or "")
@@ -315,9 +312,7 @@ def main(words: list[str]) -> int:
         asked.source, asked.longest = source, longest
         refused: Told | None = take_plan(asked, files) if is_plan(words[0]) else None
         status, data, lines = refused or tell(asked, command, text, alone)
-    if command == "plain" and not status:
-        sys.stdout.buffer.write("".join(f"{line}\n" for line in lines).encode())
-    elif as_data:
+    if as_data:
         print(harmless_data(json.dumps(data, ensure_ascii=sys.stdout.encoding.lower() != "utf-8", indent=1)))
     else:
         print("".join(f"{harmless(line)}\n" for line in lines), end="")

@@ -6,7 +6,6 @@ import functools
 import re
 
 from .names import plain, shown
-from .networks import PLAIN
 from .shapes import Data
 
 USED = {"graph": ("Deadline",), "node": ("Obs", "Reaction", "Label"), "edge": ("Type", "LabeledValues")}
@@ -18,7 +17,7 @@ SPACE = rb"[ \t\r\n]"
 NAME = rb"[A-Za-z_\x80-\xff][A-Za-z0-9_.:\x80-\xff-]*+"
 VALUE = rb"""(?:"([^"<]*+)"|'([^'<]*+)')"""
 ATTRIBUTE = re.compile(SPACE + rb"++(" + NAME + rb")" + SPACE + rb"*+=" + SPACE + rb"*+" + VALUE)
-TOKEN = re.compile(rb"<!--(?P<comment>.*?)-->|</(?P<end>" + NAME + rb")" + SPACE + rb"*+>|(?P<text>[^<]++)|<(?P<start>"
+TOKEN = re.compile(rb"<!--.*?-->|</(?P<end>" + NAME + rb")" + SPACE + rb"*+>|(?P<text>[^<]++)|<(?P<start>"
                    + NAME + rb")(?P<more>(?:" + ATTRIBUTE.pattern + rb")*+)" + SPACE + rb"*+(?P<closed>/?)>", re.S)
 
 
@@ -67,13 +66,12 @@ class Reader:
         self.text, self.breaks = text, [it.start() for it in re.finditer(b"\n", text)]
         self.rows: list[int] = []
         self.notes: list[tuple[int, str]] = []
-        self.waits: set[int] = set()
         self.lines: dict[tuple[str | None, str], int] = {}
         self.nodes: dict[str | None, int] = {}
         self.observers: list[tuple[str, int]] = []
         self.keys: list[tuple[int, int, str | None]] = []
         self.open: list[Element] = []
-        self.is_copy, self.unclosed = False, ""
+        self.unclosed = ""
         self.stopped: int | None = None
         self.walk()
 
@@ -109,8 +107,6 @@ class Reader:
         """Takes a token; whether an end tag is that of what has begun last."""
         if token["text"] is not None and self.open and self.open[-1].key:
             self.open[-1].texts.append(token["text"])
-        elif token["comment"] is not None:
-            self.comment(token[0])
         elif token["start"] is not None:
             self.start(token["start"].decode(errors="replace"), attributes(token["more"]), at)
         if token["end"] is not None and (not self.open or self.open[-1].name != token["end"].decode(errors="replace")):
@@ -121,12 +117,6 @@ class Reader:
 
     def note(self, what: str, place: int) -> None:
         self.notes.append((self.line(place), what))
-
-    def comment(self, text: bytes) -> None:
-        """Notes an edge of a plain copy that stands there for a label of a time-point, as its comment says."""
-        self.is_copy = self.is_copy or text == PLAIN.encode()
-        if self.is_copy and re.match(rb"<!-- \d+: for the label of ", text):
-            self.waits.add(len(self.rows) - 1)
 
     def start(self, name: str, more: dict[str, str], place: int) -> None:
         above = self.open[-1].kind if self.open else ""

@@ -7,11 +7,13 @@ import re
 from collections.abc import Callable, Iterator
 from typing import Any
 
+from .briefs import EDITS, VERDICT, is_asked, is_brief, tell_brief
 from .names import printed, shown
 from .networks import Network, constraint, counts_where, ticks
 from .reasons import why_refused
 from .shapes import Data, Marks
 from .spoken import Spoken
+from .trees import branch_of, tree_in_words
 
 # The answers that are put into words.
 ANSWER = re.compile(r"next (?P<next>[0-9]{1,10})(?: do (?P<do>[^ ]+(?: [^ ]+)*?))?(?: wait (?P<wait>[A-Za-z]+))?|"
@@ -22,12 +24,12 @@ ANSWER = re.compile(r"next (?P<next>[0-9]{1,10})(?: do (?P<do>[^ ]+(?: [^ ]+)*?)
 
 # Lines that are typed, alone or behind `> `, those that an answer may be too, and answers of one line.
 TYPED = re.compile(r"> .*|(did|saw|now|await|expect|add|remove|change|try|cap) .*|by (?!\d+ [^ ]).*|late [^ ]+|"
-                   r"raise \d+|by|next|check|rest|until|verdict|least|forgive|mark|back|cases|digest")
+                   r"raise (?:line )?\d+|by|next|check|rest|until|verdict|least|forgive|mark|back|cases|digest")
 EITHER = re.compile(r"blame|deadline \d+|step [^ ]+")
-ANSWERED = re.compile(r"(yes|no|full|added|removed|changed|deadline|until|mark|back) [0-9]{1,10}|refused .*|"
+ANSWERED = re.compile(r"(yes|no|full|added|removed|changed|deadline|until|mark|back|unfinished) [0-9]{1,10}|refused .*|"
                       r"(next|by) [0-9]{1,10} .*|blame( [0-9]{1,10})*|late ([0-9]{1,10}|none) [A-Za-z]|done|"
                       r"raise \d{1,10} (-?\d{1,10}|none)|least (\d{1,10}|none)|forgiven( \d{1,10})*|step [^ ]+|"
-                      r"digest [0-9a-f]{64}")
+                      r"digest [0-9a-f]{64}|wide \d{1,2}")
 RECORDED = re.compile("(did|saw|now|await|expect|add|remove|change|deadline|step|cap) |forgive$")
 """Lines that tell or change something, if they are not refused."""
 FACT = re.compile(r"(?P<kind>did|saw|now|await) (?P<moment>[0-9]{1,10})(?: (?P<rest>[^ ]+(?: [^ ]+)*))?")
@@ -40,12 +42,26 @@ UNPAIRED = "The typed lines do not stand each before its answer, and are not use
 
 # What `check` writes after a no, and how what `rest` writes begins and ends.
 STEPS = re.compile(r"^no [0-9]{1,10}\n(?:\d+ (?:base|chain|wait) .*\n)+", re.M)
+TREE = re.compile(r"^yes [0-9]{1,10}\n((?:(?:at [0-9]|ask [A-Za-z]).*\n|done\n)+)end$", re.M)
+"""What `cases` writes after a yes."""
 REST, LAST = re.compile(r"^<\?xml ", re.M), "\n</graphml>\n"
 
 
 def is_answer(text: str) -> bool:
-    """Whether a word is an answer that is put into words."""
+    """Whether a word is an answer that names something of the document."""
     return bool(ANSWER.fullmatch(text))
+
+
+def as_session(word: str) -> str:
+    """A session of which a word is the answer to be told, if it is one; else nothing."""
+    if word.startswith("step "):
+        return f"follow 1\n> {word}\n{word}\n" if is_answer(word) else ""
+    if is_answer(word):
+        return f"{word}\n"
+    if VERDICT.fullmatch(word):
+        return f"follow 1\n> verdict\n{word}\n"
+    is_refused = word.startswith("refused ") and ANSWERED.fullmatch(word)
+    return f"follow 1\n{word}\n" if is_refused or word == "done" or is_brief(word) else ""
 
 
 def is_followed(text: str) -> bool:
@@ -58,7 +74,7 @@ def is_typed(text: str) -> bool:
     """Whether a text begins with a line that is typed into a session, or with the call behind `$ `."""
     line = text.split("\n")[0]
     return bool(re.match(r"\$ |(?:> )?(?:(?:did|saw|now|await|expect) \d+\b|late [^ ]+$|"
-                         r"(?:add|remove|change|deadline|by|try) [^ ]|(?:raise|cap) \d+$|"
+                         r"(?:add|remove|change|deadline|by|try) [^ ]|raise (?:line )?\d+$|cap \d+$|"
                          r"(?:by|next|check|rest|until|verdict|forgive|mark|cases)$)", line))
 
 
@@ -278,21 +294,6 @@ def blamed(net: Network, number: int, heard: Heard) -> str:
     return f"{net.called(number)}: {constraint(*net.constraints[number])}{counts_where(net, number)}{edited}"
 
 
-def edited(net: Network, answer: str, heard: Heard) -> list[str]:
-    """The answer to a limit that was put in or changed, with what the limit is now."""
-    number = int(answer.split(" ")[1])
-    limit = heard.limit(net, number)
-    if not limit:
-        return [answer]
-    is_of_file = number < len(net.constraints)
-    says = [f"{answer.split(' ')[0]} {net.called(number) if is_of_file else number}: {constraint(*limit)}"]
-    own = net.constraints[number] if is_of_file else heard.added[number]
-    if own[2] < 0 < limit[2]:
-        says.append(f"It was: {constraint(*own)}. To change only its number, type it with a -: "
-                    f"`change {number} -{limit[2]}`.")
-    return says
-
-
 def untold(net: Network, numbers: list[int], heard: Heard) -> list[str]:
     """The steps of constraints of which nothing was told, and whose labels hold by what was told, in words; where it
     is known what was done."""
@@ -381,7 +382,8 @@ def answers_alone(text: str) -> list[str]:
         parts += [text[at:first], "\n" * text.count("\n", first, last)]
         at = last
     bare = "".join([*parts, text[at:]])
-    bare = STEPS.sub(lambda it: it[0].split("\n")[0] + "\n" * it[0].count("\n"), bare)
+    for several in (STEPS, TREE):
+        bare = several.sub(lambda it: it[0].split("\n")[0] + "\n" * it[0].count("\n"), bare)
     return [line.rstrip(" \t\r") for line in bare.split("\n")]
 
 
@@ -399,10 +401,10 @@ def turns_of(text: str) -> tuple[list[tuple[int, str, str]], bool]:
             paired, asked = paired and asked is None, line.removeprefix("> ")
         elif ANSWERED.fullmatch(line):
             more = more and line.startswith("by ")
-            paired = paired and (asked is not None or more or at < begun or line == "done")
+            paired = paired and bool(asked is not None or more or at < begun or re.match("done$|unfinished ", line))
             turns.append((at, asked or "", line))
-            more, asked = more or asked == "by", None
-        elif asked == "rest" and line == "" and has_rest:
+            more, asked = more or asked in ("by", "try by"), None
+        elif asked in ("rest", "try rest") and line == "" and has_rest:
             asked = None
     return turns if paired else [(at, "", line) for at, _, line in turns if line != "blame"], paired
 
@@ -410,7 +412,9 @@ def turns_of(text: str) -> tuple[list[tuple[int, str, str]], bool]:
 def tell_followed(net: Network, text: str,
                   tried: Callable[[int, Heard, list[int]], tuple[Data, list[str]]]) -> tuple[int, Data, list[str]]:
     """The answers of a text that `follow` wrote: the status, data and lines."""
-    told, says, lacks, heard = [], [], [], Heard()
+    told: list[Data] = []
+    says, lacks, heard, before = list[str](), list[str](), Heard(), ""
+    trees = {text.count("\n", 0, it.start()): it[1].split("\n")[:-1] for it in TREE.finditer(text)}
     turns, paired = turns_of(text)
     for at, typed, line in turns:
         answer = ANSWER.fullmatch(line)
@@ -426,6 +430,17 @@ def tell_followed(net: Network, text: str,
             told.append(tell_answer(net, answer, heard, functools.partial(tried, at)))
             says += [f"{line}: {told[-1]['says'][0]}", *told[-1]["says"][1:]]
         heard.take(typed, line)
+        word, is_first = line.split(" ")[0], at == 1 and text.startswith("follow ") and not typed
+        is_new = not VERDICT.fullmatch(line) or not is_first and (is_asked(typed) or before not in ("", word))
+        if is_new and (brief := tell_brief(net, typed, line, heard)):
+            told.append({**brief, "line": typed} if typed else brief)
+            head = f"{typed}: " if typed else ""
+            says += [f"{head}{'' if word in EDITS else f'{line}: '}{brief['says'][0]}", *brief["says"][1:]]
+        if at in trees:
+            tree = branch_of(net, iter(trees[at]), heard.known)
+            told.append({"answer": "cases", "tree": tree})
+            says += tree_in_words(tree)
+        before = word if VERDICT.fullmatch(line) and not typed.startswith("try ") else "" if word == "back" else before
     if lacks:
         says = [f"These answers are of another document: FILE has {' and '.join(sorted(set(lacks)))}."]
         return 1, {"answer": "rejected", "says": says}, says

@@ -30,11 +30,6 @@ def quoted(name: str) -> str:
     return '"' + re.sub(f'[&<>"{OBEYED}]', escape, name) + '"'
 
 
-def commented(name: str) -> str:
-    """A name as it may stand in a comment."""
-    return re.sub(f"[{OBEYED}]|-(?=-)", "_", name)
-
-
 def printed(name: str) -> str:
     """The name that a line has in this form."""
     text = re.sub(rb"%([0-9A-F]{2})", lambda found: bytes([int(found[1], 16)]), encoded(name))

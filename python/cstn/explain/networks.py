@@ -4,15 +4,9 @@ import re
 from collections.abc import Iterable, Iterator, Mapping
 
 from ..order import levels
-from .names import commented, plain, quoted, shown
+from .names import plain, quoted, shown
 from .shapes import Data, Marks
 from .spoken import Spoken
-
-PLAIN = """<!-- A copy without labels on time-points, to be checked and edited. \
-Carry out the document itself, by `run`: the copy
-names time-points also where their labels do not hold. \
-An edge for a label is no constraint of the document: do not remove or
-change it. Only the label, or the reaction of the observer, can change what it says. -->"""
 
 
 class Network:
@@ -31,7 +25,6 @@ class Network:
         self.rows: list[int] = []
         self.says: list[str] = []
         self.lines: dict[tuple[str | None, str], int] = {}
-        self.waits: set[int] = set()
         self.awaited: dict[str, int] | None = None
         self.is_canonical = False
         self.read(text)
@@ -110,6 +103,10 @@ class Network:
         if self.says and self.rows[one] == self.rows[other]:
             return f"{one} and {self.called(other)}"
         return f"{self.called(one)} and {self.called(other)}"
+
+    def limit_rows(self) -> list[int]:
+        """The line of each limit, by ids, if they are known."""
+        return self.rows if self.has_rows() else []
 
     def has_rows(self) -> bool:
         return len(self.rows) == len(self.constraints)
@@ -203,8 +200,7 @@ class Network:
                    "label": self.labels.get(name, "")} for name in self.names]
         constraints = [{"id": number, "line": rows[number], "from": source, "to": target, "at_most": most,
                         "label": label, "says": constraint(source, target, most, label),
-                        "counts": None if number in self.never else written(self.forces[number]),
-                        "for_a_label": number in self.waits}
+                        "counts": None if number in self.never else written(self.forces[number])}
                        for number, (source, target, most, label) in enumerate(self.constraints)]
         return {"deadline": self.deadline, "time_points": points, "constraints": constraints}
 
@@ -256,10 +252,6 @@ def constraint(source: str, target: str, most: int, label: str) -> str:
     return says + where(label)
 
 
-FOR_A_LABEL = (" (for a label of the document that was copied, as its comment says, so no constraint of it: "
-               "do not remove or change it)")
-
-
 def network_in_words(net: Network) -> list[str]:
     """The deadline, the time-points, what is observed, the labels and the constraints, a line for each."""
     names = ", ".join(shown(name) for name in net.names)
@@ -268,7 +260,7 @@ def network_in_words(net: Network) -> list[str]:
               for name, letter in net.observed.items()]
     lines += [f"{shown(name)} is executed only{where(label)[1:]}." for name, label in net.labels.items()]
     for number, parts in enumerate(net.constraints):
-        beside = counts_where(net, number) + (FOR_A_LABEL if number in net.waits else "")
+        beside = counts_where(net, number)
         lines.append(f"{net.called(number)}: {constraint(*parts)}{beside}")
     return lines
 
@@ -314,15 +306,12 @@ def counts_where(net: Network, number: int) -> str:
 def plain_copy(net: Network) -> str:
     """The network as a document without labels on its time-points: each waits for its label, and its constraints count
     where the label holds."""
-    lines = [f'<graphml><graph>\n{PLAIN}\n<data key="Deadline">{net.deadline}</data>']
+    lines = [f'<graphml><graph>\n<data key="Deadline">{net.deadline}</data>']
     for name in net.names:
         letter = net.observed.get(name)
         data = f'<data key="Obs">{letter}</data><data key="Reaction">{net.reaction(name)}</data>' if letter else ""
         lines.append(f"<node id={quoted(name)}>{data}</node>")
-    for place, (number, source, target, most, label) in enumerate(net.lowered):
-        why = f"{place}: {number} of the document"
-        if number is None:
-            why = f"{place}: for the label of {commented(source)}; do not remove or change it"
+    for _, source, target, most, label in net.lowered:
         values = f'<data key="LabeledValues">{{({most}, {label or "⊡"})}}</data>'
-        lines.append(f"<edge source={quoted(source)} target={quoted(target)}>{values}</edge> <!-- {why} -->")
+        lines.append(f"<edge source={quoted(source)} target={quoted(target)}>{values}</edge>")
     return "\n".join(lines) + "\n</graph></graphml>\n"

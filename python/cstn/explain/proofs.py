@@ -52,7 +52,11 @@ def tell_refutation(asked: Asked, text: str, of_tight: bool) -> tuple[int, Data,
 
 
 def tell_judged_tree(asked: Asked, text: str) -> tuple[int, Data, list[str]]:
-    """A tree in words, where `treecheck` accepts it of the document; else what it says, and the line."""
+    """A tree in words, where `treecheck` accepts it of the document, or `cases` writes the same; else what `treecheck`
+    says, and the line."""
+    if asked.net.labels and asked.answer_at("cases")[1] == text:
+        tree = tree_of(asked.net, text.split("\n")[1:-1])
+        return 0, {"answer": "cases", "deadline": asked.net.deadline, "tree": tree}, tree_in_words(tree)
     with kept(text) as proof:
         said = asked.answer_plain("treecheck", proof)[1].strip()
     if said == "accepted":

@@ -18,7 +18,7 @@ FORMS = {
     "expect": "expect T NAME", "add": "add FROM TO W LABEL, where LABEL is - if there is none", "remove": "remove ID",
     "change": "change ID W", "deadline": "deadline N", "by": "by, or by NAME", "late": "late LETTER",
     "raise": "raise ID", "step": "step NAME", "cap": "cap N, from 1 to 4194304", "try": "try LINE"}
-NEWER = re.compile(r"(?:cap|raise) \d+|step [^ ]+|expect \d+ [^ ]+|late [A-Za-z]|mark|back|forgive|least|cases|"
+NEWER = re.compile(r"(?:cap|raise) \d+|step [^ ]+|expect \d+ [^ ]+|late [A-Za-z]|mark|back|forgive|least|"
                    r"digest|until|verdict")
 """Lines that not every program has."""
 LETTERS = {"saw": (1, 3), "await": (1, 2), "late": (0, 1)}
@@ -28,12 +28,14 @@ REASONS = {
     "S3": "a value is from -1000000000 to 1000000000", "S4": "the label has a mark that is none",
     "S6": "1000000 edits were made, and no more are taken", "S9": "a plan has at most 1024 steps, with Z",
     "M1": "8 marks are set already", "M2": "no mark is set"}
+NOT_TRIED = re.compile("^try (?!try |mark$|back$)")
+"""What stands before a line that may be tried."""
 REFUSED = re.compile(r"refused (F[1-8]|S[1-9]|M[12]|line)(?: (.+))?")
 
 
 def why_refused(net: Network, line: str, answer: str, heard: Heard) -> str:
     """Why a line was refused; `line` is empty where it is not known. Nothing of an answer that refuses nothing."""
-    found = REFUSED.fullmatch(answer)
+    found, line = REFUSED.fullmatch(answer), NOT_TRIED.sub("", line)
     says = reason(net, line, found[1], (found[2] or "").split(" "), heard) if found else ""
     return says + ("" if not says or says.endswith("?") else ".")
 
@@ -97,8 +99,12 @@ def unknown(net: Network, word: str) -> str:
 def no_line(net: Network, line: str) -> str:
     """Why a line is of no form, as far as its verb tells."""
     verb, *words = line.split(" ")
+    if verb == "try" and words:
+        return f"`try` takes no line `{words[0]}`"
     if words and re.fullmatch(r"\d{1,3}:[0-5]\d", words[0]):
         return f"{words[0]} is before the start" if Spoken.clock.start is not None else f"{words[0]} is no moment"
+    if verb in ("change", "remove", "raise") and words[:1] == ["line"] and "".join(words[1:2]).isdecimal():
+        return on_line(net, int(words[1]))
     place, count = LETTERS.get(verb, (0, 0))
     if words and len(words) == count and words[0].isdecimal() == (place > 0) and len(words[place]) > 1:
         return unknown(net, words[place])
@@ -111,6 +117,12 @@ def no_line(net: Network, line: str) -> str:
     if form is None:
         return "no line begins so" if line else "a line is of no form"
     return f"this line is of the form `{form}`" + (", with ticks or H:MM for T" if " T" in form else "")
+
+
+def on_line(net: Network, line: int) -> str:
+    """Why a line does not name a limit."""
+    found = [str(number) for number, row in enumerate(net.limit_rows()) if row == line]
+    return f"on line {line} stand {' and '.join(found)}: say which" if found else f"no limit stands on line {line}"
 
 
 def no_moment(net: Network, line: str, moment: int, heard: Heard) -> str:

@@ -26,7 +26,7 @@ MEANS = {
     "X12 L4": "its label asks for what it observes itself, or for what is known only after it",
     "X12 L5": "its label, with those of the observers that it asks for, never holds",
     "X12 L6": "more than 16384 constraints, with those by which time-points wait for their labels",
-    "labels": "this command takes no labels on time-points; ./cstn explain --plain FILE writes a copy without them",
+    "labels": "this command takes no labels on time-points; docs/guide.md says under `Labels on time-points` which do",
     "long": "a document has at most 8388608 bytes",
 }
 FORMS = {

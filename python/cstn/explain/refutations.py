@@ -3,7 +3,7 @@ import functools
 import re
 
 from .names import printed, shown
-from .networks import FOR_A_LABEL, Network, constraint, literals, ticks, where
+from .networks import Network, constraint, literals, ticks, where
 from .shapes import Data
 from .spoken import Spoken
 
@@ -94,7 +94,7 @@ class Refutation:
         be done."""
         net, (own, source, target, *_) = self.net, self.constraints[number]
         if own is not None:
-            return FOR_A_LABEL if number in net.waits else ""
+            return ""
         letter, name = Spoken.letter(net.observed[target]), shown(target)
         if target in self.done:
             return (f": the outcome of {letter} is awaited until {self.until(target)} ({name} was done). "

@@ -22,6 +22,8 @@ ANOTHER = ("This session is not of FILE with the deadline {}: it begins with `{}
            "moments are of the document that was followed: name that one, not what `rest` wrote, and the "
            "`--deadline N` that it had.")
 NO_ANSWER = "There is no answer that is put into words, as that to `next`, `by` or `blame`, and no step of `check`."
+SEVERAL = ("by", "check", "rest", "cases")
+"""Questions that are answered in several lines."""
 MAY_BE_REST = ("FILE may be what `rest` wrote. Then these are other constraints: ids of `blame` are of the document "
                "that was followed, so name that one.")
 
@@ -126,7 +128,7 @@ def answered(asked: Asked, text: str) -> str:
     what is to blame; or nothing where they are not such lines. Those with answers of several lines are left out."""
     if not_typed(text) or text.startswith("> "):
         return ""
-    lines = [line for line in text.split("\n") if line.strip() and line not in ("by", "check", "rest", "cases")]
+    lines = [line for line in text.split("\n") if line.strip() and line.removeprefix("try ") not in SEVERAL]
     lines += [] if any(re.match("(next|by|blame|until|late)", line) for line in lines) else ["next", "blame"]
     with Live([asked.program, "follow", asked.path, "--deadline", str(asked.net.deadline)], [], 0) as live:
         told = all_in_lines(asked.net, lines, Spoken.clock, live.say)

@@ -34,8 +34,9 @@ def branch_of(net: Network, lines: Iterator[str], known: Marks) -> Tree:
             items += asked if net.is_told(parts[1], known) else behind[False]
             break
         told = [printed(name) for name in parts[2:]]
-        names = net.in_order({name: 0 for name in told if net.is_executed(name, known)})
-        before = {name: net.unknown(name, known) for name in names}
+        own = net.in_order({name: 0 for name in told if name in net.places and net.is_executed(name, known)})
+        before = {name: net.unknown(name, known) for name in own}
+        names = [*own, *(name for name in told if name not in net.places)]
         items.append({"at": int(parts[1]), "names": names, "left_out": [it for it in told if it not in set(names)],
                       "before": {name: letters for name, letters in before.items() if letters}})
     return items

@@ -1,6 +1,7 @@
-"""Lines of `follow` as people type them: with times of the clock, words for letters, and names in quotes."""
+"""Lines of `follow` as people type them: with times of the clock, words for letters, names in quotes, and limits by
+their lines."""
 import re
-from collections.abc import Callable, Collection
+from collections.abc import Callable, Collection, Sequence
 
 from ..said import name_of
 from .following import Heard
@@ -12,18 +13,21 @@ WORD = re.compile(r'"[^"]*"|[^ ]+')
 CLOCK = re.compile(r"(\d{1,3}):([0-5]\d)")
 SPAN = re.compile(r"(-?)(\d{1,3}):([0-5]\d)")
 FACTS = ("did", "saw", "now", "await", "expect")
+OF_LIMITS = ("change", "remove", "raise")
 TO_COME = ("expect", "deadline")
 OF_LETTERS = {"saw": 1, "await": 1, "late": 0}
 """The place of the letter behind the verb."""
 
 
-def in_lines(line: str, now: int, clock: Clock, from_start: Collection[int] = ()) -> str:
+def in_lines(line: str, now: int, clock: Clock, from_start: Collection[int] = (), rows: Sequence[int] = ()) -> str:
     """A line as `follow` takes it. A time of the clock is the one next to now, and for what is to come, as a limit that
-    counts from the start, the next one; where there is no clock it counts from the start, in minutes. What can't be
-    read so stays as it is."""
+    counts from the start, the next one; where there is no clock it counts from the start, in minutes. `rows` are the
+    lines of the document on which limits stand. What can't be read so stays as it is."""
     verb, *words = WORD.findall(line) or [""]
     if verb == "try" and words:
-        return f"try {in_lines(line.split(' ', 1)[1], now, clock, from_start)}"
+        return f"try {in_lines(line.split(' ', 1)[1], now, clock, from_start, rows)}"
+    if verb in OF_LIMITS:
+        words = by_id(words, rows)
     if verb in (*FACTS, "deadline") and words:
         words[0] = moment_of(words[0], now, clock, verb in TO_COME)
     if verb == "change" and len(words) == 2:
@@ -42,7 +46,7 @@ def all_in_lines(net: Network, lines: list[str], clock: Clock, say: Callable[[st
     """The lines of a session as `follow` takes them, each with its answer, which `say` asks for."""
     heard, found = Heard(), []
     for line in lines:
-        taken = in_lines(line, heard.now, clock, heard.from_start(net))
+        taken = in_lines(line, heard.now, clock, heard.from_start(net), net.limit_rows())
         found.append((taken, say(taken)))
         heard.take(*found[-1])
     return found
@@ -51,6 +55,14 @@ def all_in_lines(net: Network, lines: list[str], clock: Clock, say: Callable[[st
 def has_moments(lines: list[str]) -> bool:
     """Whether what some lines mean hangs on the limits that others put in: a limit is changed to a time."""
     return any(re.fullmatch(r"(?:try )?change \d+ -?\d{1,3}:[0-5]\d", line) for line in lines)
+
+
+def by_id(words: list[str], rows: Sequence[int]) -> list[str]:
+    """The words behind a verb with an id in place of `line N`, if one limit alone stands on that line."""
+    if words[:1] != ["line"] or not words[1:2] or not words[1].isdecimal():
+        return words
+    ids = [number for number, row in enumerate(rows) if row == int(words[1])]
+    return [str(ids[0]), *words[2:]] if len(ids) == 1 else words
 
 
 def moment_of(word: str, now: int, clock: Clock, is_to_come: bool) -> str:

@@ -4,7 +4,7 @@ ghost use Rattle.std.specs.Option.{option_map};
 ghost use Rattle.cstn_label.specs.Read.{known_value};
 ghost use Rattle.cstn_net.specs.Limits.{most_deadline};
 ghost use Rattle.cstn_net.specs.Read.{the_network};
-ghost use Rattle.cstn_exec.specs.Runs.{observed_at, ready_at, is_ready, known, is_awaited, awaited};
+ghost use Rattle.cstn_exec.specs.Runs.{observed_at, ready_at, is_outcome_ready, known, is_awaited, awaited};
 
 use super::Executive;
 use cstn_label::{Known, Prop};
@@ -34,7 +34,7 @@ impl Executive {
     }
 
     fn is_ready(&self, t: u32, p: Prop) -> bool
-        ensures { result ≡ is_ready (the_network self.now.net) self.now.run (t + 1) p.index }
+        ensures { result ≡ is_outcome_ready (the_network self.now.net) self.now.run (t + 1) p.index }
     {
         match self.ready_at(p) {
             Some(m) => m <= t,

@@ -4,8 +4,8 @@ ghost use Rattle.cstn_net.specs.Networks.{Observes, IsWellFormed, count};
 ghost use Rattle.cstn_net.specs.Strategies.{Table};
 ghost use Rattle.cstn_net.specs.Read.{the_network};
 ghost use Rattle.cstn_plan.specs.Plans.{the_bounds, IsEarliest};
-ghost use Rattle.cstn_exec.specs.Runs.{next, is_done, executed_at, outcome_of};
-ghost use Rattle.cstn_exec.specs.Right.{IsRight};
+ghost use Rattle.cstn_exec.specs.Runs.{next, is_run_done, executed_at, outcome_of};
+ghost use Rattle.cstn_exec.specs.Right.{IsRightRun};
 
 use super::Executive;
 use cstn_label::{NodeId, Prop};
@@ -13,7 +13,7 @@ use cstn_label::{NodeId, Prop};
 impl Executive {
     // Does nothing: its contract says that the run is right, and that the plan has a strategy of least moments.
     pub(super) fn is_right(&self)
-        ensures right { IsRight (the_network self.now.net) self.now.run }
+        ensures right { IsRightRun (the_network self.now.net) self.now.run }
         ensures in_time { next self.now.run ≤ self.now.net.deadline + 1 }
         ensures well_formed { IsWellFormed (the_network self.now.net) }
         ensures earliest { (table : Table) × IsEarliest (the_network self.now.net) (the_bounds self.now.bounds) table }
@@ -49,7 +49,7 @@ impl Executive {
     }
 
     pub(super) fn is_done(&self) -> bool
-        ensures { result ≡ is_done self.now.run }
+        ensures { result ≡ is_run_done self.now.run }
     {
         self.moments.iter().all(|m| m.is_some())
     }

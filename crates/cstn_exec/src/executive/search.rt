@@ -5,7 +5,7 @@ ghost use Rattle.cstn_net.specs.Limits.{most_time_points, most_deadline};
 ghost use Rattle.cstn_net.specs.Networks.{count};
 ghost use Rattle.cstn_net.specs.Read.{the_network};
 ghost use Rattle.cstn_plan.specs.Plans.{the_bounds};
-ghost use Rattle.cstn_exec.specs.Runs.{is_done, is_before, is_ready, earliest, AreAskedAt, AreAskedUnlessAwaited, due};
+ghost use Rattle.cstn_exec.specs.Runs.{is_run_done, is_before, is_outcome_ready, earliest_moment, AreAskedAt, AreAskedUnlessAwaited, due};
 
 use super::Executive;
 use super::asked::{Moments, asked};
@@ -32,8 +32,8 @@ impl Executive {
     fn next_ready(&self, t: u32) -> u32
         requires { t ≤ most_deadline }
         ensures later { t < result }
-        ensures same { (w p : ℕ) → t ≤ w → w < result → is_ready (the_network self.now.net) self.now.run (w + 1) p ≡ true
-            → is_ready (the_network self.now.net) self.now.run (t + 1) p ≡ true }
+        ensures same { (w p : ℕ) → t ≤ w → w < result → is_outcome_ready (the_network self.now.net) self.now.run (w + 1) p ≡ true
+            → is_outcome_ready (the_network self.now.net) self.now.run (t + 1) p ≡ true }
     {
         self.is_right();
         let mut next = u32::MAX;
@@ -45,13 +45,13 @@ impl Executive {
 
     // The first moment from t on at which a time-point that isn't executed is free, by what is known at t.
     fn first_free(&self, t: u32, asked: &Moments) -> u32
-        requires waits { is_done self.now.run ≡ false }
+        requires waits { is_run_done self.now.run ≡ false }
         requires asked { AreAskedAt (the_network self.now.net) (the_bounds self.now.bounds) self.now.run t asked.now }
         ensures from { t ≤ result }
         ensures held { (x u : ℕ) → x < count (the_network self.now.net) → slice_index_or self.now.run.moments x None ≡ None → t ≤ u → u < result
-            → u < earliest (the_network self.now.net) (the_bounds self.now.bounds) self.now.run (t + 1) x }
+            → u < earliest_moment (the_network self.now.net) (the_bounds self.now.bounds) self.now.run (t + 1) x }
         ensures free { (x : ℕ) × (x < count (the_network self.now.net)) × (slice_index_or self.now.run.moments x None ≡ None)
-            × (earliest (the_network self.now.net) (the_bounds self.now.bounds) self.now.run (t + 1) x ≤ result) }
+            × (earliest_moment (the_network self.now.net) (the_bounds self.now.bounds) self.now.run (t + 1) x ≤ result) }
     {
         self.is_right();
         least_from(&self.moments, asked, t)
@@ -59,7 +59,7 @@ impl Executive {
 
     // The due moment, where some time-point isn't executed.
     pub(super) fn first_due(&self) -> Due
-        requires { is_done self.now.run ≡ false }
+        requires { is_run_done self.now.run ≡ false }
         ensures due { due (the_network self.now.net) (the_bounds self.now.bounds) self.now.run ≡ Some result.moment }
         ensures asked { AreAskedUnlessAwaited (the_network self.now.net) (the_bounds self.now.bounds) self.now.run result.moment result.asked }
     {

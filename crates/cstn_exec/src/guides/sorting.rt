@@ -6,7 +6,7 @@ ghost use Rattle.cstn_net.specs.Read.{the_network};
 ghost use Rattle.cstn_lift.specs.Read.{the_labelled};
 ghost use Rattle.cstn_exec.specs.Moves.{outcome_refusal};
 ghost use Rattle.cstn_exec.specs.Guides.{fits_surely, holds_by, holding, others, denied, all_denied, with_left};
-ghost use Rattle.cstn_exec.specs.GuideRead.{AreFresh};
+ghost use Rattle.cstn_exec.specs.GuideRead.{AreWithoutOutcomes};
 
 use crate::Executive;
 use crate::executive::Names;
@@ -26,7 +26,7 @@ pub fn sort_out(
     requires size { length left.old.items ≡ count (the_network executive.old.net) }
     requires room { count (the_network executive.old.net) ≤ named.old.capacity }
     requires well_formed { IsWellFormed (the_network executive.old.net) }
-    requires fresh { AreFresh (the_network executive.old.net) executive.old.run executive.old.named }
+    requires fresh { AreWithoutOutcomes (the_network executive.old.net) executive.old.run executive.old.named }
     ensures executive { executive.new ≡ record executive.old {
       run = all_denied (the_network executive.old.net)
           (others (the_labelled labels.now) (known_value known.now) executive.old.named) executive.old.run;

@@ -3,9 +3,9 @@ ghost use Rattle.std.specs.Prelude.{◌≡◌, ◌≤◌, Ok, IfOk, OnErr};
 ghost use Rattle.cstn_label.specs.Read.{marks};
 ghost use Rattle.cstn_net.specs.Limits.{most_deadline};
 ghost use Rattle.cstn_lift.specs.Read.{the_labelled};
-ghost use Rattle.cstn_change.specs.Changes.{IsBetween, UnknownEnd};
-ghost use Rattle.cstn_change.specs.ChangeLines.{accepted_text, refused_text};
-ghost use Rattle.cstn_change.specs.Read.{the_change, the_refusal};
+ghost use Rattle.cstn_change.specs.Changes.{HasTimePointEnds, UnknownEnd};
+ghost use Rattle.cstn_change.specs.ChangeLines.{accepted_text, refused_change_text};
+ghost use Rattle.cstn_change.specs.Read.{the_change, the_change_refusal};
 ghost use Rattle.cstn_reply.specs.Texts.{line};
 ghost use Rattle.cstn_follow.specs.Following.{says};
 ghost use Rattle.cstn_follow.specs.PlanLines.{on_edit, on_add, on_remove, on_change, on_deadline};
@@ -88,7 +88,7 @@ impl Following {
 
     // Makes a change. Its line is made before, so nothing can fail after it.
     fn edit(&mut self, change: Change) -> Result<Vec<u8>, AllocError>
-        requires between { IsBetween (the_labelled self.old.network).base (the_change change) }
+        requires between { HasTimePointEnds (the_labelled self.old.network).base (the_change change) }
         ensures says { IfOk result (λ text. on_edit (the_following self.old) (Ok (the_change change)) ≡ says text.items (the_following self.new)) }
         ensures names { self.new.names ≡ self.old.names }
         ensures same { OnErr result (self.new ≡ self.old) }
@@ -143,7 +143,7 @@ fn accepted(alloc: Global, fresh: u32, change: Change) -> Result<Vec<u8>, AllocE
 
 /// The line that refuses a change.
 pub(super) fn refused(alloc: Global, error: EditError) -> Result<Vec<u8>, AllocError>
-    ensures line { IfOk result (λ text. text.items ≡ line (refused_text (the_refusal error))) }
+    ensures line { IfOk result (λ text. text.items ≡ line (refused_change_text (the_change_refusal error))) }
 {
     let mut text = AnswerText::new(alloc)?;
     put_refusal(&mut text, error);
@@ -152,7 +152,7 @@ pub(super) fn refused(alloc: Global, error: EditError) -> Result<Vec<u8>, AllocE
 
 // The line that no time-point has the name, which an end of a constraint is to have.
 fn unknown_end(alloc: Global, name: &str) -> Result<Vec<u8>, AllocError>
-    ensures line { IfOk result (λ text. text.items ≡ line (refused_text (UnknownEnd name.now))) }
+    ensures line { IfOk result (λ text. text.items ≡ line (refused_change_text (UnknownEnd name.now))) }
 {
     let mut text = AnswerText::new(alloc)?;
     put_unknown_end(alloc, &mut text, name)?;

@@ -4,9 +4,10 @@ ghost use Rattle.std.specs.List.{cons_option};
 ghost use Rattle.std.specs.Option.{option_map};
 ghost use Rattle.cstn_net.specs.Limits.{most_time_points};
 ghost use Rattle.cstn_lift.specs.Read.{the_labelled};
+ghost use Rattle.cstn_history.specs.Facts.{ready_refusal, with_ready};
 ghost use Rattle.cstn_history.specs.Read.{the_history};
 ghost use Rattle.cstn_follow.specs.Following.{says};
-ghost use Rattle.cstn_follow.specs.FactLines.{all_done, unknown_of, node_named, nodes_of, on_result, on_did, on_saw, on_now, on_await};
+ghost use Rattle.cstn_follow.specs.FactLines.{all_done, unknown_of, node_named, nodes_of, on_result, on_did, on_saw, on_now, on_await, on_fact, on_expect};
 ghost use Rattle.cstn_follow.specs.Read.{the_following};
 ghost use Rattle.cstn_follow.specs.Told.{IsSaidOfFacts, IsUnmade};
 
@@ -84,6 +85,35 @@ impl Following {
     {
         let room = room(self.alloc)?;
         let told = self.session.expect(moment, p);
+        self.answer_told(room, told)
+    }
+
+    /// Records that the time-point of this name can't be done before this moment, in ticks, whatever was recorded of this before; 0 takes
+    /// it back. Answers as `did`, and refuses with the first that applies of F2, F3, F4, F5 and F8.
+    pub fn expect(&mut self, moment: u32, name: &str) -> Result<Vec<u8>, AllocError>
+        ensures says { IfOk result (λ text. on_expect (the_following self.old) moment name.now ≡ says text.items (the_following self.new)) }
+        ensures same { OnErr result (self.new ≡ self.old) }
+    {
+        if moment > MAX_DEADLINE {
+            return refused_fact(self.alloc, &self.names, FactError::OutOfRange { moment });
+        }
+        self.session.network().base().count();
+        match node_named(&self.names, name) {
+            Some(x) => self.make_ready(moment, x),
+            None => unknown_name(self.alloc, name),
+        }
+    }
+
+    // Records that this time-point can't be done before this moment.
+    fn make_ready(&mut self, moment: u32, x: NodeId) -> Result<Vec<u8>, AllocError>
+        ensures says { IfOk result (λ text.
+            on_fact (the_following self.old) (ready_refusal (the_labelled self.old.network) (the_history self.old.history) moment x.0)
+            (with_ready (the_history self.old.history) moment x.0)
+            ≡ says text.items (the_following self.new)) }
+        ensures same { OnErr result (self.new ≡ self.old) }
+    {
+        let room = room(self.alloc)?;
+        let told = self.session.make_ready(moment, x);
         self.answer_told(room, told)
     }
 

@@ -19,11 +19,11 @@ impl Following {
     pub fn amend(&mut self, amendment: Amendment) -> Result<Vec<u8>, AllocError>
         ensures says { IfOk result (λ text. on_amendment (the_following self.old) (the_amendment amendment)
             ≡ says text.items (the_following self.new)) }
-        ensures names { self.new.names ≡ self.old.names }
         ensures same { OnErr result (self.new ≡ self.old) }
     {
         match amendment {
             Amendment::Forgive => self.forgive(),
+            Amendment::Step { name } => self.step(&name),
         }
     }
 

@@ -1,5 +1,5 @@
 // Lines that a session hears.
-ghost use Rattle.std.specs.Prelude.{◌≡◌, Some, IfOk, OnErr};
+ghost use Rattle.std.specs.Prelude.{◌≡◌, Some, slice_get, IfOk, OnErr};
 ghost use Rattle.std.specs.Option.{option_map};
 ghost use Rattle.cstn_lines.specs.FollowLines.{the_follow};
 ghost use Rattle.cstn_lines.specs.EditLines.{the_edit};
@@ -24,7 +24,7 @@ impl Following {
     pub fn hear(&mut self, line: Option<Spoken>) -> Result<Heard, AllocError>
         ensures heard { IfOk result (λ heard. hear (the_following self.old) (option_map the_spoken line) ≡ the_heard self.new heard) }
         ensures same { OnErr result (self.new ≡ record self.old { lines = (counted (the_following self.old)).lines }) }
-        ensures names { self.new.names ≡ self.old.names }
+        ensures first { slice_get self.new.names 0 ≡ slice_get self.old.names 0 }
         ensures said { IfOk result (IsSaidFor self.old.names) }
     {
         self.is_in_order();
@@ -51,6 +51,7 @@ impl Following {
             Spoken::Line(line) => self.answer_line(line),
             Spoken::Ask(question) => Ok(Heard::Text(self.ask(question)?)),
             Spoken::Amend(amendment) => Ok(Heard::Text(self.amend(amendment)?)),
+            Spoken::Digest => self.digest(),
         }
     }
 
@@ -64,6 +65,7 @@ impl Following {
             FollowLine::Saw { t, prop, value } => Ok(Heard::Text(self.saw(t, prop, value)?)),
             FollowLine::Now { t } => Ok(Heard::Text(self.now(t)?)),
             FollowLine::Await { t, prop } => Ok(Heard::Text(self.await_outcome(t, prop)?)),
+            FollowLine::Expect { t, name } => Ok(Heard::Text(self.expect(t, name.as_str())?)),
             FollowLine::Edit(line) => Ok(Heard::Text(self.answer_edit(line)?)),
             FollowLine::Deadline { ticks } => Ok(Heard::Text(self.end_by(ticks)?)),
             FollowLine::Next => Ok(Heard::Text(self.next()?)),

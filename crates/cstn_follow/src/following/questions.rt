@@ -7,13 +7,14 @@ ghost use Rattle.cstn_lift.specs.Read.{the_labelled};
 ghost use Rattle.cstn_history.specs.Read.{the_history};
 ghost use Rattle.cstn_history.specs.Rest.{is_left};
 ghost use Rattle.cstn_refute.specs.Refutations.{the_steps};
-ghost use Rattle.cstn_refute.specs.Texts.{shown};
+ghost use Rattle.cstn_refute.specs.Texts.{refutation_shown};
 ghost use Rattle.cstn_reply.specs.Texts.{line, full_line};
 ghost use Rattle.cstn_follow.specs.Following.{says, names_left};
-ghost use Rattle.cstn_follow.specs.Questions.{on_next, on_check, on_rest};
+ghost use Rattle.cstn_follow.specs.Questions.{on_next, on_check, on_rest, on_digest};
 ghost use Rattle.cstn_follow.specs.Read.{the_following, the_heard};
 ghost use Rattle.cstn_follow.specs.Searches.{on_by, on_blame};
 
+use super::trials::copy_of_names;
 use super::{Following, Heard};
 use crate::answers::{Latest, Outlook, ToBlame};
 use crate::lists::{blame_line, by_line, next_line};
@@ -58,6 +59,17 @@ impl Following {
         let network = self.session.rest()?;
         let names = self.names_left()?;
         Ok(Heard::Rest { network, names })
+    }
+
+    /// The plan as edited, as a labelled network and the names of its time-points, whose digest is asked for. Fails for want of memory
+    /// alone.
+    pub fn digest(&self) -> Result<Heard, AllocError>
+        ensures heard { IfOk result (λ heard. on_digest (the_following self.now) ≡ the_heard self.now heard) }
+    {
+        self.is_in_order();
+        let network = self.session.plan()?;
+        let names = copy_of_names(self.alloc, &self.names)?;
+        Ok(Heard::Digest { network, names })
     }
 
     /// The line of the moment, in ticks, until which the time-point of a name can wait; or the line that refuses to tell it, by the first
@@ -140,7 +152,7 @@ pub(super) fn push_name(names: &mut Names, name: &str, is_kept: bool) -> Result<
 // The text of a refutation and the line that ends it.
 fn refuted(alloc: Global, refutation: &Refutation, names: &Names) -> Result<Vec<u8>, AllocError>
     requires named { All (λ e. e.bound.node.0 < length names.now) refutation.now.steps }
-    ensures { IfOk result (λ text. text.items ≡ shown names.now refutation.now.load (the_steps refutation.now) ++ line (codes "end")) }
+    ensures { IfOk result (λ text. text.items ≡ refutation_shown names.now refutation.now.load (the_steps refutation.now) ++ line (codes "end")) }
 {
     let text = format!(in alloc; "{}end\n", refutation.print(alloc, names)?)?;
     Ok(text.into_bytes())

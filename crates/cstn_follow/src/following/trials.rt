@@ -97,6 +97,7 @@ impl Following {
             Spoken::Amend(amendment) => {
                 self.try_on_copy(Triable::Line(Spoken::Amend(amendment)))
             }
+            Spoken::Digest => self.digest(),
         }
     }
 
@@ -150,12 +151,13 @@ impl Following {
                 Ok(Heard::Text(self.line_now()?))
             }
             Heard::Rest { network, names } => Ok(Heard::Rest { network, names }),
+            Heard::Digest { network, names } => Ok(Heard::Digest { network, names }),
         }
     }
 }
 
-// An equal list of names.
-fn copy_of_names(alloc: Global, names: &Names) -> Result<Names, AllocError>
+/// An equal list of names.
+pub(super) fn copy_of_names(alloc: Global, names: &Names) -> Result<Names, AllocError>
     requires few { length names.now ≤ most_time_points }
     ensures { IfOk result (λ copy. copy ≡ names.now) }
 {

@@ -5,8 +5,8 @@ ghost use Rattle.std.specs.Option.{option_map};
 ghost use Rattle.cstn_net.specs.Limits.{most_constraints, most_deadline, most_edits};
 ghost use Rattle.cstn_lift.specs.Read.{the_labelled};
 ghost use Rattle.cstn_history.specs.Read.{IsKeptFor};
-ghost use Rattle.cstn_change.specs.Changes.{IsBetween, CanChange, after, edited_base};
-ghost use Rattle.cstn_change.specs.Read.{the_change, the_refusal};
+ghost use Rattle.cstn_change.specs.Changes.{HasTimePointEnds, CanChange, edited_by, edited_base};
+ghost use Rattle.cstn_change.specs.Read.{the_change, the_change_refusal};
 ghost use Rattle.cstn_follow.specs.Sessions.{IsRightNow};
 ghost use Rattle.cstn_follow.specs.Replans.{MakesChange, Replans, edited_now, with_due, change_refused, unreplanned};
 
@@ -23,7 +23,7 @@ impl Session {
     /// is left then, or refuses, and then nothing has changed: with `Refused` for the first that applies of `EditLimit` (S6), `NoRoom`
     /// (S1) and `NoSuch` (S2), `ValueRange` (S3), `NotPlain` (S4) and `NotObserved` (S5), and else with `TooManyConstraints` (F8).
     pub fn edit(&mut self, change: Change) -> Result<Verdict, ReplanError>
-        requires between { IsBetween (the_labelled self.old.network).base (the_change change) }
+        requires between { HasTimePointEnds (the_labelled self.old.network).base (the_change change) }
         ensures edited { MakesChange (the_change change) self.old self.new result }
         ensures right { IfOk result (IsRightNow self.new) }
     {
@@ -56,7 +56,7 @@ impl Session {
 
     // Why a change is refused.
     fn change_refused(&self, change: Change) -> Option<EditError>
-        ensures refusal { option_map the_refusal result ≡ change_refused self.now (the_change change) }
+        ensures refusal { option_map the_change_refusal result ≡ change_refused self.now (the_change change) }
         ensures below { IfNone result (self.now.edits < most_edits) }
         ensures possible { IfNone result (CanChange most_constraints (the_labelled self.now.network).base (the_change change)) }
     {
@@ -70,10 +70,10 @@ impl Session {
 
     // Makes a change that isn't refused.
     fn apply(&mut self, change: Change) -> Result<Verdict, RestError>
-        requires between { IsBetween (the_labelled self.old.network).base (the_change change) }
+        requires between { HasTimePointEnds (the_labelled self.old.network).base (the_change change) }
         requires possible { CanChange most_constraints (the_labelled self.old.network).base (the_change change) }
         requires few { self.old.edits < most_edits }
-        ensures edited { Replans (after (edited_now self.old) (the_change change)) self.old self.new result }
+        ensures edited { Replans (edited_by (edited_now self.old) (the_change change)) self.old self.new result }
         ensures right { IfOk result (IsRightNow self.new) }
     {
         ids_stay_below();

@@ -1,7 +1,7 @@
 // Facts that a session is told.
 ghost use Rattle.std.specs.Prelude.{◌≡◌, Ok, Err, IfOk, IfErr};
 ghost use Rattle.cstn_lift.specs.Read.{the_labelled};
-ghost use Rattle.cstn_history.specs.Facts.{told_refusal, expected_refusal, now_refusal, at_now, with_told, with_expected};
+ghost use Rattle.cstn_history.specs.Facts.{told_refusal, expected_refusal, ready_refusal, now_refusal, at_now, with_told, with_expected, with_ready};
 ghost use Rattle.cstn_history.specs.Read.{the_history, IsKeptFor, the_fact_refusal};
 ghost use Rattle.cstn_follow.specs.FactLines.{all_done, unless_fact_refused};
 ghost use Rattle.cstn_follow.specs.Sessions.{IsRightNow, Records, unrecorded};
@@ -66,6 +66,21 @@ impl Session {
     {
         let mut later = self.history().copy(self.alloc)?;
         if let Err(error) = later.expect(self.execution.network(), moment, p) {
+            return Err(FollowError::Refused(error));
+        }
+        self.record(later)
+    }
+
+    /// Records that a time-point can't be done before this moment, in ticks, whatever was recorded of this before; 0 takes it back. Else
+    /// as `did`, but for the refusals: the first that applies of `OutOfRange`, `NoSuch`, `Done`, `Undecided` where it is ruled out, and
+    /// `TooManyConstraints`.
+    pub fn make_ready(&mut self, moment: u32, x: NodeId) -> Result<Verdict, FollowError>
+        ensures recorded { Records (unless_fact_refused (ready_refusal (the_labelled self.old.network) (the_history self.old.history) moment x.0)
+            (Ok (with_ready (the_history self.old.history) moment x.0))) self.old self.new result }
+        ensures right { IfOk result (IsRightNow self.new) }
+    {
+        let mut later = self.history().copy(self.alloc)?;
+        if let Err(error) = later.make_ready(self.execution.network(), moment, x) {
             return Err(FollowError::Refused(error));
         }
         self.record(later)

@@ -52,7 +52,8 @@ impl Session {
     fn least_by(&self, network: &Labelled, finding: &Finding) -> Result<LeastDeadline, AllocError>
         requires kept { IsKeptFor (the_labelled network.now) self.now.history }
         requires found { IsFindingOn self.now.cap (lowered (rest (the_labelled network.now) (the_history self.now.history) self.now.fresh)) finding.now }
-        ensures told { IfOk result (λ l. l ≡ least_by (the_labelled network.now) (the_history self.now.history) self.now.fresh (Some (verdict_of finding.now))) }
+        ensures told { IfOk result (λ l. l ≡ least_by (the_labelled network.now) (the_history self.now.history) self.now.fresh
+            (Some (verdict_of finding.now))) }
     {
         match finding {
             Finding::Planned { plan, .. } => {

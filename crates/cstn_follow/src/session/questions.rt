@@ -7,9 +7,10 @@ ghost use Rattle.cstn_lift.specs.Lowered.{lowered};
 ghost use Rattle.cstn_lift.specs.Read.{the_labelled};
 ghost use Rattle.cstn_plan.specs.Plans.{the_bounds};
 ghost use Rattle.cstn_check.specs.Growth.{log_of, live_bounds};
+ghost use Rattle.cstn_history.specs.Facts.{wait_refusal};
 ghost use Rattle.cstn_history.specs.Read.{the_history, the_fact_refusal};
 ghost use Rattle.cstn_follow.specs.Answers.{IsRightOutlook, TellsOutlook, IsLeftRefuted, IsRightLatest, TellsLatest, IsRightBlame, TellsBlame};
-ghost use Rattle.cstn_follow.specs.Answers.{SaidNo, SaidYes, wait_refusal, HasRoomLeftToWait, CanAskWaits, wait_found};
+ghost use Rattle.cstn_follow.specs.Answers.{SaidNo, SaidYes, HasRoomLeftToWait, CanAskWaits, wait_found};
 ghost use Rattle.cstn_follow.specs.Executions.{execution_left};
 ghost use Rattle.cstn_follow.specs.Pauses.{is_undone};
 ghost use Rattle.cstn_follow.specs.Sessions.{execution_of};
@@ -97,17 +98,7 @@ impl Session {
     fn wait_refusal(&self, x: NodeId) -> Option<FactError>
         ensures { option_map the_fact_refusal result ≡ wait_refusal (the_labelled self.now.network) (the_history self.now.history) x.0 }
     {
-        if x.0 >= self.network().base().count() {
-            return Some(FactError::NoSuch { node: x });
-        }
-        if let Some(moment) = self.history().done(x) {
-            return Some(FactError::Done { node: x, moment });
-        }
-        if self.is_possible(x) {
-            None
-        } else {
-            Some(FactError::Undecided { node: x })
-        }
+        self.history().wait_refusal(self.network(), x)
     }
 
     // Until when a time-point that is left can wait, for which there is room.

@@ -1,6 +1,7 @@
 // Copies of a session, and another cap.
 ghost use Rattle.std.specs.Prelude.{◌≡◌, IfOk, OnErr};
 ghost use Rattle.cstn_lift.specs.Lowered.{lowered};
+ghost use Rattle.cstn_lift.specs.Read.{the_labelled};
 ghost use Rattle.cstn_check.specs.Decisions.{verdict};
 ghost use Rattle.cstn_follow.specs.Copied.{IsSameSession};
 ghost use Rattle.cstn_follow.specs.Executions.{execution_left};
@@ -9,6 +10,7 @@ ghost use Rattle.cstn_follow.specs.Sessions.{IsRightNow, execution_of};
 use super::Session;
 use cstn_check::Verdict;
 use cstn_history::RestError;
+use cstn_lift::Labelled;
 use cstn_log::Cap;
 use std::alloc::AllocError;
 
@@ -26,6 +28,14 @@ impl Session {
             edits: self.edits,
             finding,
         })
+    }
+
+    /// The labelled network as edited, as a value of its own. Fails for want of memory alone.
+    pub fn plan(&self) -> Result<Labelled, AllocError>
+        ensures plan { IfOk result (λ plan. the_labelled plan ≡ the_labelled self.now.network) }
+    {
+        let execution = self.execution.copy(self.alloc)?;
+        Ok(execution.into_network())
     }
 
     /// Sets how many entries a log may have, as if the session had been started with it. Gives the verdict on what is left with this cap.

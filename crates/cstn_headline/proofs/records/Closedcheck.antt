@@ -10,7 +10,7 @@ use Rattle.cstn_text.specs.Limits.{most_text}
 use Rattle.cstn_lift.specs.Strategies.{IsLabelledConsistent}
 use Rattle.cstn_plan.specs.Asked.{asked as table_of}
 use Rattle.cstn_plan.proofs.Strategies.{asked_strategy}
-use Rattle.cstn_closed.specs.Texts.{Told as ToldBounds, tells as tells_bounds, wrong as wrong_bound, told as told_bounds}
+use Rattle.cstn_closed.specs.Texts.{ClosedTold as ToldBounds, tells as tells_bounds, wrong as wrong_bound, closed_told as told_bounds}
 use Rattle.cstn_reply.specs.declared.output.Outcome.TheVariants.{Good, Bad, Script}
 use Rattle.cstn_top.proofs.Labels.{IsOfLabelled}
 use Rattle.cstn_headline.specs.Telling.{OutcomeTells}

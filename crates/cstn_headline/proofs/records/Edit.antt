@@ -25,8 +25,8 @@ use Rattle.cstn_headline.specs.commands.Edit.{AtLastCheck, WroteEdits, edit_tell
 use Rattle.cstn_headline.proofs.Edited.{LinesTell, edits_tell}
 use Rattle.cstn_headline.proofs.Sessions.{wrote}
 
-pub edit_tells : (cap : ℕ) (told : Option (List ℕ)) (live : List ℕ) (said : Said) → IsAllOf told live → (names : List (List ℕ)) (net : Network) → IsOfDocument names net → (edit_answer cap names net).output live said → OutcomeTells (edit_telling cap told said.text names net) said.outcome
-edit_tells cap told live said all names net of output = by_played (played edit_turn edit_ending (λ text. edit_read text ≡ None) (λ outcome. ⊥) edit_answers start 0 lines)
+pub edit_tells : (cap : ℕ) (source : Option (List ℕ)) (live : List ℕ) (said : Said) → IsAllOf source live → (names : List (List ℕ)) (net : Network) → IsOfDocument names net → (edit_answer cap names net).output live said → OutcomeTells (edit_telling cap source said.text names net) said.outcome
+edit_tells cap source live said all names net of output = by_played (played edit_turn edit_ending (λ text. edit_read text ≡ None) (λ outcome. ⊥) edit_answers start 0 lines)
   where
     start : Editing
     start = begun_editing cap names net
@@ -41,13 +41,13 @@ edit_tells cap told live said all names net of output = by_played (played edit_t
     outcome_is = ap (λ (s : Said). s.outcome) output
 
     telling : Telling
-    telling = edit_telling cap told said.text names net
+    telling = edit_telling cap source said.text names net
 
     as_outcome : (o : Outcome) → said.outcome ≡ o → OutcomeTells telling o → OutcomeTells telling said.outcome
     as_outcome o is tells = subst (OutcomeTells telling) (sym is) tells
 
-    wrote_edits : (OfLines : List (List ℕ) → Type 0) → OfLines lines → WroteEdits cap told said.text names net OfLines
-    wrote_edits OfLines has = wrote _ edit_turn edit_ending [] start told live said OfLines all output has
+    wrote_edits : (OfLines : List (List ℕ) → Type 0) → OfLines lines → WroteEdits cap source said.text names net OfLines
+    wrote_edits OfLines has = wrote _ edit_turn edit_ending [] start source live said OfLines all output has
 
     at_end : (reached : Editing) → state_after edit_turn start 0 lines ≡ Some reached → (v : Option Verdict) → said.outcome ≡ ending_by v → LinesTell cap (last_checked start None lines) said.outcome → OutcomeTells telling said.outcome
     at_end reached leads None is tells = as_outcome Good is (wrote_edits (AtLastCheck cap names net (λ last. IfSome last IsConsistent)) ((reached, leads), subst (LinesTell cap (last_checked start None lines)) is tells))

@@ -30,8 +30,8 @@ use Rattle.cstn_headline.specs.Sessions.{EndsIn}
 use Rattle.cstn_headline.specs.commands.Follow.{IsFollowingOver, WroteFollowing, follow_telling}
 use Rattle.cstn_headline.proofs.Sessions.{wrote}
 
-pub follow_tells : (cap : ℕ) (told : Option (List ℕ)) (live : List ℕ) (said : Said) → IsAllOf told live → (names : List (List ℕ)) (m : Labelled) → IsOfLabelled names m → (follow_answer cap names m).output live said → OutcomeTells (follow_telling cap told said.text names m) said.outcome
-follow_tells cap told live said all names m of output = by_played (played marked_turn marked_ending (λ text. ⊥) (λ outcome. ⊥) follow_answers start 0 lines)
+pub follow_tells : (cap : ℕ) (source : Option (List ℕ)) (live : List ℕ) (said : Said) → IsAllOf source live → (names : List (List ℕ)) (m : Labelled) → IsOfLabelled names m → (follow_answer cap names m).output live said → OutcomeTells (follow_telling cap source said.text names m) said.outcome
+follow_tells cap source live said all names m of output = by_played (played marked_turn marked_ending (λ text. ⊥) (λ outcome. ⊥) follow_answers start 0 lines)
   where
     start : Marked
     start = begun_marked cap names m
@@ -46,13 +46,13 @@ follow_tells cap told live said all names m of output = by_played (played marked
     outcome_is = ap (λ (s : Said). s.outcome) output
 
     telling : Telling
-    telling = follow_telling cap told said.text names m
+    telling = follow_telling cap source said.text names m
 
     as_outcome : (o : Outcome) → said.outcome ≡ o → OutcomeTells telling o → OutcomeTells telling said.outcome
     as_outcome o is tells = subst (OutcomeTells telling) (sym is) tells
 
-    wrote_lines : (OfLines : List (List ℕ) → Type 0) → OfLines lines → WroteFollowing cap told said.text names m OfLines
-    wrote_lines OfLines has = wrote true marked_turn marked_ending (follow_opening start.now) start told live said OfLines all output has
+    wrote_lines : (OfLines : List (List ℕ) → Type 0) → OfLines lines → WroteFollowing cap source said.text names m OfLines
+    wrote_lines OfLines has = wrote true marked_turn marked_ending (follow_opening start.now) start source live said OfLines all output has
 
     at_verdict : (reached : Marked) → state_after marked_turn start 0 lines ≡ Some reached → is_any_open reached.now ≡ false → (v : Verdict) → said.outcome ≡ outcome_by v → IsTrueOfSession reached.now v → OutcomeTells telling said.outcome
     at_verdict reached leads over (Yes load) is true_of = as_outcome Good is (wrote_lines (IsFollowingOver cap names m (λ s. Can s.network s.history)) (reached, leads, (over, true_of)))

@@ -6,7 +6,7 @@ use Rattle.cstn_net.specs.Limits.{most_load}
 use Rattle.cstn_net.specs.Networks.{Network}
 use Rattle.cstn_check.specs.Growth.{load_of}
 use Rattle.cstn_reply.specs.Texts.{Said, after_text}
-use Rattle.cstn_run.specs.hosted.Sessions.{host_turn, host_ending, HostSession, begun, ended, unfinished}
+use Rattle.cstn_run.specs.hosted.Sessions.{host_turn, host_ending, HostSession, host_begun, host_ended, unfinished}
 use Rattle.cstn_reply.specs.Sessions.{play, answers}
 use Rattle.cstn_lines.specs.Pieces.{lines_of}
 use Rattle.cstn_top.specs.commands.Host.{hosted_plan, attended, EachHas, FirstHas, FirstRefused}
@@ -34,12 +34,12 @@ are_networks [] deadline (named ∷ all) are = are
 are_networks (bytes ∷ rest) deadline [] are = are
 are_networks (bytes ∷ rest) deadline (named ∷ all) are = (are.0, are_networks rest deadline all are.2)
 
-module _ (no_text : NoAccepted) (cap : ℕ) (capped : cap ≤ most_load) (deadline : Option ℕ) (contents : List (List ℕ)) (told : Option (List ℕ)) (live : List ℕ) (said : Said) (all : IsAllOf told live) where
+module _ (no_text : NoAccepted) (cap : ℕ) (capped : cap ≤ most_load) (deadline : Option ℕ) (contents : List (List ℕ)) (source : Option (List ℕ)) (live : List ℕ) (said : Said) (all : IsAllOf source live) where
   abbrev pub lines : List (List ℕ)
   lines = lines_of live
 
   abbrev pub telling : Telling
-  telling = host_telling cap deadline contents told said.text
+  telling = host_telling cap deadline contents source said.text
 
   as_outcome : (o : Outcome) → said.outcome ≡ o → OutcomeTells telling o → OutcomeTells telling said.outcome
   as_outcome o is tells = subst (OutcomeTells telling) (sym is) tells
@@ -47,7 +47,7 @@ module _ (no_text : NoAccepted) (cap : ℕ) (capped : cap ≤ most_load) (deadli
   -- the session after each yes
   module _ (nets : List Named) (are : AreTaken contents deadline nets) (each : EachHas contents deadline (IsYes cap)) (output : (session_of cap nets).output live said) where
     abbrev start : HostSession
-    start = begun (map the_file nets)
+    start = host_begun (map the_file nets)
 
     abbrev end : Said
     end = play host_turn host_ending start 0 lines
@@ -55,10 +55,10 @@ module _ (no_text : NoAccepted) (cap : ℕ) (capped : cap ≤ most_load) (deadli
     outcome_is : said.outcome ≡ end.outcome
     outcome_is = ap (λ (s : Said). s.outcome) output
 
-    wrote_host : (OfLines : HostSession → List (List ℕ) → Type 0) → OfLines start lines → WroteHost cap deadline contents told said.text OfLines
-    wrote_host OfLines has = record { all = nets; are = are_networks contents deadline nets are; consistent = each; wrote = wrote false host_turn host_ending (yes_lines nets) start told live said (OfLines start) all output has }
+    wrote_host : (OfLines : HostSession → List (List ℕ) → Type 0) → OfLines start lines → WroteHost cap deadline contents source said.text OfLines
+    wrote_host OfLines has = record { all = nets; are = are_networks contents deadline nets are; consistent = each; wrote = wrote false host_turn host_ending (yes_lines nets) start source live said (OfLines start) all output has }
 
-    at_end : (reached : HostSession) → state_after host_turn start 0 lines ≡ Some reached → (o : Option (ℕ × ℕ)) → unfinished reached ≡ o → end ≡ after_text (answers host_turn start 0 lines) (ended o) → OutcomeTells telling said.outcome
+    at_end : (reached : HostSession) → state_after host_turn start 0 lines ≡ Some reached → (o : Option (ℕ × ℕ)) → unfinished reached ≡ o → end ≡ after_text (answers host_turn start 0 lines) (host_ended o) → OutcomeTells telling said.outcome
     at_end reached leads None none is =
         as_outcome Good (outcome_is ∙ ap (λ (s : Said). s.outcome) is) (wrote_host (λ first. EndsIn host_turn first ArePlansDone) (reached, leads, all_done reached none))
     at_end reached leads (Some found) some is =
@@ -85,9 +85,9 @@ module _ (no_text : NoAccepted) (cap : ℕ) (capped : cap ≤ most_load) (deadli
   by_verdicts nets are (inr (inl is)) = as_outcome Bad is.0 (first_then contents deadline cap (IsToldNo cap said) (λ names net. IsNo cap net × IsNoText names net said.text) told_no is.1)
   by_verdicts nets are (inr (inr is)) = as_outcome Full is.0 is.1
 
-  pub host_told : (hosted_plan cap deadline contents).output live said → HostTells cap deadline said.outcome told said.text contents
+  pub host_told : (hosted_plan cap deadline contents).output live said → HostTells cap deadline said.outcome source said.text contents
   host_told output = by_documents (documents_say (attended cap) deadline live said [] contents output)
     where
-      by_documents : ((said.outcome ≡ Document) × FirstRefused contents deadline) ⊎ Read contents deadline (λ nets. (attended cap nets).output live said) → HostTells cap deadline said.outcome told said.text contents
+      by_documents : ((said.outcome ≡ Document) × FirstRefused contents deadline) ⊎ Read contents deadline (λ nets. (attended cap nets).output live said) → HostTells cap deadline said.outcome source said.text contents
       by_documents (inl is) = inl is
       by_documents (inr read) = inr (by_verdicts read.all read.are (verdicts_say cap (session_of cap read.all) deadline live said contents read.all read.are read.held))

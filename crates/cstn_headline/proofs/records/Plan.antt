@@ -9,7 +9,7 @@ use Rattle.cstn_top.specs.commands.Plan.{planned_of}
 use Rattle.cstn_headline.specs.commands.Plan.{OfPlanned}
 use Rattle.cstn_headline.proofs.Telling.{only_told}
 
-pub plan_tells : (told : Result Parts PlanRefusal) (live : List ℕ) (said : Said) → (planned_of told).output live said → OfPlanned told said.outcome said.text
+pub plan_tells : (parsed : Result Parts PlanRefusal) (live : List ℕ) (said : Said) → (planned_of parsed).output live said → OfPlanned parsed said.outcome said.text
 plan_tells (Err refusal) live said is = inl (ap (λ (s : Said). s.outcome) is, λ has. has)
 plan_tells (Ok parts) live said (inl fit) = inr (fit.0, only_told _ said.outcome (ap (λ (s : Said). s.outcome) fit.1) (ap (λ (s : Said). s.text) fit.1))
 plan_tells (Ok parts) live said (inr (inl unfit)) = inl (ap (λ (s : Said). s.outcome) unfit.2, λ has. fits parts unfit.0 has.0.labelled.base unfit.1)

@@ -10,7 +10,7 @@ use Rattle.cstn_text.specs.Limits.{most_text}
 use Rattle.cstn_lift.specs.Strategies.{IsLabelledConsistent}
 use Rattle.cstn_headline.proofs.LogTexts.{no_refutation}
 use Rattle.cstn_rules.proofs.Derived.{refuted_inconsistent}
-use Rattle.cstn_refute.specs.Texts.{Told as ToldText, tells as tells_steps, wrong as wrong_text, told as told_by}
+use Rattle.cstn_refute.specs.Texts.{RefutationTold as ToldText, tells as tells_steps, wrong as wrong_text, refutation_told as told_by}
 use Rattle.cstn_reply.specs.declared.output.Outcome.TheVariants.{Good, Bad, Script}
 use Rattle.cstn_top.proofs.Labels.{IsOfLabelled}
 use Rattle.cstn_headline.specs.Telling.{OutcomeTells}

@@ -22,7 +22,7 @@ use Rattle.cstn_label.specs.Bounds.{Bound}
 use Rattle.cstn_run.proofs.Planned.{planned}
 use Rattle.cstn_check.specs.declared.verdicts.Verdict.TheVariants.{Yes, No, Full as IsFullVerdict}
 use Rattle.cstn_check.proofs.Deciding.{Tells as VerdictTells, verdict_tells}
-use Rattle.cstn_exec.specs.Guides.{Guided, begun}
+use Rattle.cstn_exec.specs.Guides.{Guided, guide_begun}
 use Rattle.cstn_reply.specs.Reached.{state_after}
 use Rattle.cstn_reply.specs.declared.output.Outcome.{Outcome}
 use Rattle.cstn_reply.specs.declared.output.Outcome.TheVariants.{Good, Bad, Full, Unfinished, Script}
@@ -62,7 +62,7 @@ answers_least names m bounds plan = record {
   due = tells_due names m bounds plan;
 }
 
-module _ (cap : ℕ) (told : Option (List ℕ)) (live : List ℕ) (said : Said) (all : IsAllOf told live) (names : List (List ℕ)) (m : Labelled) (of : IsOfLabelled names m) where
+module _ (cap : ℕ) (source : Option (List ℕ)) (live : List ℕ) (said : Said) (all : IsAllOf source live) (names : List (List ℕ)) (m : Labelled) (of : IsOfLabelled names m) where
   abbrev pub printed : List (List ℕ)
   printed = map printed_name names
 
@@ -70,13 +70,13 @@ module _ (cap : ℕ) (told : Option (List ℕ)) (live : List ℕ) (said : Said) 
   lines = lines_of live
 
   abbrev pub telling : Telling
-  telling = run_telling cap told said.text names m
+  telling = run_telling cap source said.text names m
 
   as_outcome : (o : Outcome) → said.outcome ≡ o → OutcomeTells telling o → OutcomeTells telling said.outcome
   as_outcome o is tells = subst (OutcomeTells telling) (sym is) tells
 
   -- the session after yes
-  module _ (yes' : IsLabelledYes cap m) (output : (session (guide_turn printed m (run_bounds m)) (guide_ending m (run_bounds m)) (yes_line (load_of (lowered m))) (begun (count m.base))).output live said) where
+  module _ (yes' : IsLabelledYes cap m) (output : (session (guide_turn printed m (run_bounds m)) (guide_ending m (run_bounds m)) (yes_line (load_of (lowered m))) (guide_begun (count m.base))).output live said) where
     plan : IsPlanned m (run_bounds m)
     plan = yes_planned cap names m of yes'
 
@@ -86,36 +86,36 @@ module _ (cap : ℕ) (told : Option (List ℕ)) (live : List ℕ) (said : Said) 
     outcome_is : said.outcome ≡ end.outcome
     outcome_is = ap (λ (s : Said). s.outcome) output
 
-    wrote_run : (OfLines : List (List ℕ) → Type 0) → OfLines lines → WroteRun told said.text printed m OfLines
-    wrote_run OfLines has = wrote false (guide_turn printed m (run_bounds m)) (guide_ending m (run_bounds m)) (yes_line (load_of (lowered m))) (begun (count m.base)) told live said OfLines all output has
+    wrote_run : (OfLines : List (List ℕ) → Type 0) → OfLines lines → WroteRun source said.text printed m OfLines
+    wrote_run OfLines has = wrote false (guide_turn printed m (run_bounds m)) (guide_ending m (run_bounds m)) (yes_line (load_of (lowered m))) (guide_begun (count m.base)) source live said OfLines all output has
 
     ends_well : end.outcome ≡ Good → OutcomeTells telling said.outcome
     ends_well good = as_outcome Good (outcome_is ∙ good) (yes', wrote_run (IsCarriedThrough printed m (run_bounds m)) (carried_through printed m (run_bounds m) plan lines good))
 
-    by_due : (reached : Guided) → state_after (guide_turn printed m (run_bounds m)) (begun (count m.base)) 0 lines ≡ Some reached → (o : Option ℕ) → end.outcome ≡ (unfinished o).outcome → OutcomeTells telling said.outcome
+    by_due : (reached : Guided) → state_after (guide_turn printed m (run_bounds m)) (guide_begun (count m.base)) 0 lines ≡ Some reached → (o : Option ℕ) → end.outcome ≡ (unfinished o).outcome → OutcomeTells telling said.outcome
     by_due reached leads None is = ends_well is
     by_due reached leads (Some t) is =
         as_outcome Unfinished (outcome_is ∙ is)
-        (yes', wrote_run (λ ls. AreAnswered (guide_turn printed m (run_bounds m)) (begun (count m.base)) ls × EndsUnfinished printed m (run_bounds m) ls) ((reached, leads), ends_unfinished printed m (run_bounds m) plan lines is))
+        (yes', wrote_run (λ ls. AreAnswered (guide_turn printed m (run_bounds m)) (guide_begun (count m.base)) ls × EndsUnfinished printed m (run_bounds m) ls) ((reached, leads), ends_unfinished printed m (run_bounds m) plan lines is))
 
-    by_played : Played (guide_turn printed m (run_bounds m)) (guide_ending m (run_bounds m)) (λ text. live_read text ≡ None) (λ outcome. outcome ≡ Good) (begun (count m.base)) 0 lines end → OutcomeTells telling said.outcome
+    by_played : Played (guide_turn printed m (run_bounds m)) (guide_ending m (run_bounds m)) (λ text. live_read text ≡ None) (λ outcome. outcome ≡ Good) (guide_begun (count m.base)) 0 lines end → OutcomeTells telling said.outcome
     by_played (all_answered reached leads same) = by_due reached leads (due (lowered m) (run_bounds m) reached.run) (ap (λ (s : Said). s.outcome) same)
     by_played (one_last good) = ends_well good
     by_played (one_stops at stops) =
         as_outcome Script (outcome_is ∙ at) (
           yes',
-          wrote_run (λ ls. StopsUnread (guide_turn printed m (run_bounds m)) (begun (count m.base)) (λ line. live_read line ≡ None) ls (said_to printed m (run_bounds m) ls).text)
-              (stops_at (guide_turn printed m (run_bounds m)) (begun (count m.base)) (λ line. live_read line ≡ None) lines end.text stops),
+          wrote_run (λ ls. StopsUnread (guide_turn printed m (run_bounds m)) (guide_begun (count m.base)) (λ line. live_read line ≡ None) ls (said_to printed m (run_bounds m) ls).text)
+              (stops_at (guide_turn printed m (run_bounds m)) (guide_begun (count m.base)) (λ line. live_read line ≡ None) lines end.text stops),
         )
 
     after_yes : OutcomeTells telling said.outcome
-    after_yes = by_played (played (guide_turn printed m (run_bounds m)) (guide_ending m (run_bounds m)) (λ text. live_read text ≡ None) (λ outcome. outcome ≡ Good) (guide_answers printed m (run_bounds m)) (begun (count m.base)) 0 lines)
+    after_yes = by_played (played (guide_turn printed m (run_bounds m)) (guide_ending m (run_bounds m)) (λ text. live_read text ≡ None) (λ outcome. outcome ≡ Good) (guide_answers printed m (run_bounds m)) (guide_begun (count m.base)) 0 lines)
 
-  by_judged : LabelledJudged cap names m ((session (guide_turn printed m (run_bounds m)) (guide_ending m (run_bounds m)) (yes_line (load_of (lowered m))) (begun (count m.base))).output live said) said → OutcomeTells telling said.outcome
+  by_judged : LabelledJudged cap names m ((session (guide_turn printed m (run_bounds m)) (guide_ending m (run_bounds m)) (yes_line (load_of (lowered m))) (guide_begun (count m.base))).output live said) said → OutcomeTells telling said.outcome
   by_judged (inl is) = after_yes is.0 is.1
   by_judged (inr (inl is)) = as_outcome Bad is.0 is.1
   by_judged (inr (inr is)) = as_outcome Full is.0 is.1
 
   pub run_tells : NoAccepted → cap ≤ most_load → (run_answer cap names m).output live said → OutcomeTells telling said.outcome
   run_tells no_text capped output =
-      by_judged (labelled_judged no_text cap names m (session (guide_turn printed m (run_bounds m)) (guide_ending m (run_bounds m)) (yes_line (load_of (lowered m))) (begun (count m.base))) live said of capped output)
+      by_judged (labelled_judged no_text cap names m (session (guide_turn printed m (run_bounds m)) (guide_ending m (run_bounds m)) (yes_line (load_of (lowered m))) (guide_begun (count m.base))) live said of capped output)

@@ -10,7 +10,7 @@ use Rattle.cstn_tree.specs.Good.{first_broken}
 use Rattle.cstn_outline.specs.Read.{the_tree}
 use Rattle.cstn_tree.specs.Checked.{told_of_line, checked_lines, tree_checked}
 use Rattle.cstn_tree.proofs.Strategies.{good_is_strategy}
-use Rattle.cstn_outline.specs.Texts.{Told as ToldTree, tells as tells_tree, wrong as wrong_tree, told as told_tree}
+use Rattle.cstn_outline.specs.Texts.{TreeTold as ToldTree, tells as tells_tree, wrong as wrong_tree, tree_told as told_tree}
 use Rattle.cstn_reply.specs.declared.output.Outcome.TheVariants.{Good, Bad, Script}
 use Rattle.cstn_headline.specs.Telling.{OutcomeTells}
 use Rattle.cstn_headline.specs.commands.Treecheck.{IsGoodTree, IsBrokenTree, IsNoTree, treecheck_telling}

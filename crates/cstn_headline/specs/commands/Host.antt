@@ -2,7 +2,7 @@
 use Rattle.std.specs.Prelude.{◌⊎◌, ◌<◌, ℕ, List, [], ◌∷◌, ◌++◌, map, Option, ◌≡◌, false, None, Some, codes, decimal}
 use Rattle.cstn_check.specs.Growth.{load_of}
 use Rattle.cstn_check.specs.Decisions.{IsYes, IsNo}
-use Rattle.cstn_run.specs.hosted.Sessions.{begun, host_turn, host_ending, HostSession, case_of, due_in}
+use Rattle.cstn_run.specs.hosted.Sessions.{host_begun, host_turn, host_ending, HostSession, case_of, due_in}
 use Rattle.cstn_run.specs.hosted.Files.{Named, the_file, yes_lines}
 use Rattle.cstn_request.specs.Documents.{HasNetwork}
 use Rattle.cstn_lines.specs.HostLines.{host_read}
@@ -46,7 +46,7 @@ pub record WroteHost (cap : ℕ) (deadline : Option ℕ) (contents : List (List 
   pub all : List Named
   pub are : AreNetworks contents deadline all
   pub consistent : EachHas contents deadline (IsYes cap)
-  pub wrote : Wrote false host_turn host_ending (yes_lines all) (begun (map the_file all)) live text (OfLines (begun (map the_file all)))
+  pub wrote : Wrote false host_turn host_ending (yes_lines all) (host_begun (map the_file all)) live text (OfLines (host_begun (map the_file all)))
 
 -- Each network has a strategy, and in the end nothing is due in any open plan; or something is due in one; or a line is of no grammar,
 -- too long or too late. Or the first network whose verdict isn't yes has no strategy, or its log has more than `cap` entries.

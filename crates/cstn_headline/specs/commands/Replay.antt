@@ -5,22 +5,22 @@ use Rattle.cstn_text.specs.Limits.{most_text}
 use Rattle.cstn_lift.specs.Lowered.{lowered}
 use Rattle.cstn_lift.specs.Strategies.{IsLabelledConsistent}
 use Rattle.cstn_rules.specs.Derivations.{IsRefutation}
-use Rattle.cstn_refute.specs.Texts.{Told, tells, wrong, told as told_by}
+use Rattle.cstn_refute.specs.Texts.{RefutationTold, tells, wrong, refutation_told as told_by}
 use Rattle.cstn_lift.specs.Labelled.{Labelled}
 use Rattle.cstn_headline.specs.Telling.{Telling, by_check}
 
 -- the text is one of steps, and they are a refutation of the network
-abbrev pub IsRefutedBy : Told → Network → Type 0
+abbrev pub IsRefutedBy : RefutationTold → Network → Type 0
 IsRefutedBy (tells load steps) net = IsRefutation net steps
 IsRefutedBy (wrong at) net = ⊥
 
 -- the text is one of steps, and they are no refutation of the network
-abbrev pub IsNoRefutation : Told → Network → Type 0
+abbrev pub IsNoRefutation : RefutationTold → Network → Type 0
 IsNoRefutation (tells load steps) net = IsRefutation net steps → ⊥
 IsNoRefutation (wrong at) net = ⊥
 
 -- the text has more than 1,476,395,008 bytes, or a line that is of no grammar
-abbrev pub IsOffGrammar : List ℕ → Told → Type 0
+abbrev pub IsOffGrammar : List ℕ → RefutationTold → Type 0
 IsOffGrammar text (tells load steps) = most_text < length text
 IsOffGrammar text (wrong at) = Unit {0}
 

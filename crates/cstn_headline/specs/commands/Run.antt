@@ -7,7 +7,7 @@ use Rattle.cstn_lift.specs.Labelled.{Labelled}
 use Rattle.cstn_lift.specs.Lowered.{lowered}
 use Rattle.cstn_check.specs.Growth.{load_of}
 use Rattle.cstn_exec.specs.Moves.{moment_refusal}
-use Rattle.cstn_exec.specs.Guides.{Guided, begun}
+use Rattle.cstn_exec.specs.Guides.{Guided, guide_begun}
 use Rattle.cstn_lines.specs.LiveLines.{moment_at, seen, due_now, live_read}
 use Rattle.cstn_reply.specs.Texts.{yes_line}
 use Rattle.cstn_run.specs.Sessions.{guide_turn, guide_ending}
@@ -34,7 +34,7 @@ pub record AnswersLeast (names : List (List ℕ)) (m : Labelled) (bounds : List 
 
 -- what is said to the lines of the live source after yes is the text, and this holds of the lines
 abbrev pub WroteRun : Option (List ℕ) → List ℕ → List (List ℕ) → Labelled → (List (List ℕ) → Type 0) → Type 0
-WroteRun live text names m OfLines = Wrote false (guide_turn names m (run_bounds m)) (guide_ending m (run_bounds m)) (yes_line (load_of (lowered m))) (begun (count m.base)) live text OfLines
+WroteRun live text names m OfLines = Wrote false (guide_turn names m (run_bounds m)) (guide_ending m (run_bounds m)) (yes_line (load_of (lowered m))) (guide_begun (count m.base)) live text OfLines
 
 -- After yes, the lines carry the run to its end, as one strategy does that meets each constraint in force; or they end while something
 -- is due, and the due moment is told; or one of them is of no grammar, too long or too late. Or the network has no strategy, or its log
@@ -45,8 +45,8 @@ run_telling cap live text names m = record {
   bad = IsLabelledNo cap m × IsNoText names (lowered m) text;
   full = cap < load_of (lowered m);
   unfinished = IsLabelledYes cap m
-      × WroteRun live text (map printed_name names) m (λ lines. AreAnswered (guide_turn (map printed_name names) m (run_bounds m)) (begun (count m.base)) lines × EndsUnfinished (map printed_name names) m (run_bounds m) lines);
+      × WroteRun live text (map printed_name names) m (λ lines. AreAnswered (guide_turn (map printed_name names) m (run_bounds m)) (guide_begun (count m.base)) lines × EndsUnfinished (map printed_name names) m (run_bounds m) lines);
   script = IsLabelledYes cap m
-      × WroteRun live text (map printed_name names) m (λ lines. StopsUnread (guide_turn (map printed_name names) m (run_bounds m)) (begun (count m.base)) (λ line. live_read line ≡ None) lines (said_to (map printed_name names) m (run_bounds m) lines).text);
+      × WroteRun live text (map printed_name names) m (λ lines. StopsUnread (guide_turn (map printed_name names) m (run_bounds m)) (guide_begun (count m.base)) (λ line. live_read line ≡ None) lines (said_to (map printed_name names) m (run_bounds m) lines).text);
   wide = ⊥;
 }

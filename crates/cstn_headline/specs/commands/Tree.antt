@@ -5,7 +5,7 @@ use Rattle.cstn_text.specs.Limits.{most_text}
 use Rattle.cstn_check.specs.Growth.{log_of, load_of, live_bounds}
 use Rattle.cstn_check.specs.Decisions.{IsYes, IsNo}
 use Rattle.cstn_tree.specs.Limits.{most_observed}
-use Rattle.cstn_tree.specs.Unfolded.{observed, IsTreeText}
+use Rattle.cstn_tree.specs.Unfolded.{how_many_observed, IsTreeText}
 use Rattle.cstn_reply.specs.declared.output.Outcome.TheVariants.{Good}
 use Rattle.cstn_top.specs.Answers.{IsByText}
 use Rattle.cstn_tree.specs.Checked.{tree_checked}
@@ -14,7 +14,7 @@ use Rattle.cstn_headline.specs.Telling.{Telling}
 
 -- no more propositions are observed than a tree is made for
 abbrev pub IsNarrow : Network → Type 0
-IsNarrow net = observed net ≤ most_observed
+IsNarrow net = how_many_observed net ≤ most_observed
 
 -- the text is that of the tree by the bounds of the live entries of the log, and `treecheck` accepts it, unless it has more bytes than that
 -- takes
@@ -31,5 +31,5 @@ tree_telling cap text names net = record {
   full = IsNarrow net × (cap < load_of net);
   unfinished = ⊥;
   script = ⊥;
-  wide = most_observed < observed net;
+  wide = most_observed < how_many_observed net;
 }

@@ -7,10 +7,10 @@ use Rattle.cstn_label.specs.declared.nodes.NodeId.{NodeId}
 use Rattle.cstn_net.specs.Limits.{most_time_points}
 use Rattle.cstn_net.specs.Networks.{count}
 use Rattle.cstn_exec.specs.Runs.{due}
-use Rattle.cstn_exec.specs.Moves.{Refusal}
+use Rattle.cstn_exec.specs.Moves.{EventRefusal}
 use Rattle.cstn_exec.specs.Answers.{Moment, Names, run_unless}
-use Rattle.cstn_run.specs.hosted.Hosts.{HostParts, Opened, plan_of_file, net_at, bounds_at, case_at, named_at}
-use Rattle.cstn_run.specs.hosted.Calls.{AskFile, AskNamed, Pass, FileIs, Told, answer_on, passed}
+use Rattle.cstn_run.specs.hosted.Hosts.{HostParts, Opened, plan_of_file, net_at, bounds_at, case_at, named_last}
+use Rattle.cstn_run.specs.hosted.Calls.{AskFile, AskNamed, Pass, FileIs, Told, answer_on, event_passed}
 use Rattle.cstn_exec.specs.Running.{AreShort, the_nodes, spaced, moment_line}
 use Rattle.cstn_exec.proofs.Names.{called_inside, called_few}
 use Rattle.cstn_run.specs.hosted.Sessions.{with_id}
@@ -19,11 +19,11 @@ use Rattle.cstn_run.proofs.hosts.Moments.{Moved, after_moment, moved_by, named_t
 use Rattle.cstn_run.proofs.hosts.PutLines.{first_line}
 
 -- the time-points that the answer to a moment names, as the host after the moment has them
-told_after : (host new : HostParts) (id t : ℕ) → new ≡ after_moment host id t → Told (Names (named_at new id)) ≡ answer_on host id (Pass (Moment t)) → Told (Names (named_at (after_moment host id t) id)) ≡ answer_on host id (Pass (Moment t))
-told_after host new id t is told = ap (λ (h : HostParts). Told (Names (named_at h id))) (sym is) ∙ told
+told_after : (host new : HostParts) (id t : ℕ) → new ≡ after_moment host id t → Told (Names (named_last new id)) ≡ answer_on host id (Pass (Moment t)) → Told (Names (named_last (after_moment host id t) id)) ≡ answer_on host id (Pass (Moment t))
+told_after host new id t is told = ap (λ (h : HostParts). Told (Names (named_last h id))) (sym is) ∙ told
 
-moved_now : (host new : HostParts) (id t : ℕ) → new ≡ after_moment host id t → Told (Names (named_at new id)) ≡ answer_on host id (Pass (Moment t)) → Moved host id t
-moved_now host new id t is told = moved_by host id t (named_at new id) told
+moved_now : (host new : HostParts) (id t : ℕ) → new ≡ after_moment host id t → Told (Names (named_last new id)) ≡ answer_on host id (Pass (Moment t)) → Moved host id t
+moved_now host new id t is told = moved_by host id t (named_last new id) told
 
 module _ (host new : HostParts) (id t : ℕ) (m : Moved host id t) (is : new ≡ after_moment host id t) where
   file_now : (file : ℕ) → FileIs file ≡ answer_on new id AskFile → file ≡ m.before.file
@@ -50,14 +50,14 @@ file_within host new names file many same inside =
 pub done_then : (host new : HostParts) (id t : ℕ) (m : Moved host id t) (b : Bool) → new ≡ after_moment host id t → ((c : Opened) → nat_lt id 64 ≡ true → case_at new id ≡ Some c → b ≡ is_none (due (net_at new.plans c.file) (bounds_at new.plans c.file) c.run)) → b ≡ is_none (due (net_at host.plans m.before.file) (bounds_at host.plans m.before.file) (run_then host id t m))
 done_then host new id t m b after each =
     let file : ℕ = m.before.file in
-    each (passed host.plans m.before (Moment t)) m.below (ap (λ (h : HostParts). case_at h id) after ∙ m.now)
-    ∙ ap (λ (h : HostParts). is_none (due (net_at h.plans file) (bounds_at h.plans file) (passed host.plans m.before (Moment t)).run)) after
-    ∙ ap (λ (r : Option Refusal). is_none (due (net_at host.plans file) (bounds_at host.plans file) (run_unless m.before.run (run_then host id t m) r))) m.accepted
+    each (event_passed host.plans m.before (Moment t)) m.below (ap (λ (h : HostParts). case_at h id) after ∙ m.now)
+    ∙ ap (λ (h : HostParts). is_none (due (net_at h.plans file) (bounds_at h.plans file) (event_passed host.plans m.before (Moment t)).run)) after
+    ∙ ap (λ (r : Option EventRefusal). is_none (due (net_at host.plans file) (bounds_at host.plans file) (run_unless m.before.run (run_then host id t m) r))) m.accepted
 
 -- A moment of the id was accepted, and the host has told the file and the time-points that it named. They have printed names.
 pub record Taken (host : HostParts) (id t : ℕ) (names : List (Vec (String Global) Global)) (file : ℕ) (texts : List (String Global)) (xs : List NodeId) : Type 0 where
   pub moved : Moved host id t
-  pub told : Told (Names (named_at (after_moment host id t) id)) ≡ answer_on host id (Pass (Moment t))
+  pub told : Told (Names (named_last (after_moment host id t) id)) ≡ answer_on host id (Pass (Moment t))
   pub same : file ≡ moved.before.file
   pub inside : file < length names
   pub texts_are : map string_bytes texts ≡ slice_index_or (the_names names) file []
@@ -65,7 +65,7 @@ pub record Taken (host : HostParts) (id t : ℕ) (names : List (Vec (String Glob
 
 -- what the calls of the host have told
 pub taken : (host new : HostParts) (id t : ℕ) (names : List (Vec (String Global) Global)) (file : ℕ) (one : Vec (String Global) Global) (texts : List (String Global)) (xs : List NodeId) →
-    length (the_names names) ≡ length host.plans → new ≡ after_moment host id t → new.plans ≡ host.plans → Told (Names (named_at new id)) ≡ answer_on host id (Pass (Moment t)) →
+    length (the_names names) ≡ length host.plans → new ≡ after_moment host id t → new.plans ≡ host.plans → Told (Names (named_last new id)) ≡ answer_on host id (Pass (Moment t)) →
     FileIs file ≡ answer_on new id AskFile → file < length new.plans → Told (Names (the_nodes xs)) ≡ answer_on new id AskNamed →
     one ≡ slice_index_or names file one → texts ≡ one.items → Taken host id t names file texts xs
 taken host new id t names file one texts xs many after plans accepted file_told file_inside named_told one_is texts_are =

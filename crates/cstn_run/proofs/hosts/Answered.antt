@@ -5,11 +5,11 @@ use Rattle.cstn_lines.specs.LiveLines.{moment_at, seen, due_now}
 use Rattle.cstn_lines.specs.HostLines.{Hosted, opened, put_on}
 use Rattle.cstn_exec.specs.Answers.{Moment, See, AskDue, Names, Kept, DueAt}
 use Rattle.cstn_run.specs.declared.hosted.errors.HostError.{HostError}
-use Rattle.cstn_run.specs.hosted.Hosts.{HostParts, named_at}
+use Rattle.cstn_run.specs.hosted.Hosts.{HostParts, named_last}
 use Rattle.cstn_run.specs.hosted.Calls.{Open, Pass, Agreed, Told, answer_on, host_after}
 use Rattle.cstn_run.specs.hosted.Read.{the_denial, is_memory}
 use Rattle.cstn_exec.specs.Running.{spaced, seen_text, due_text}
-use Rattle.cstn_run.specs.hosted.Sessions.{id_of, with_id, agreed_text, said, session_after}
+use Rattle.cstn_run.specs.hosted.Sessions.{id_of, with_id, agreed_text, host_said, session_after}
 use Rattle.cstn_run.specs.hosted.SessionRead.{HostSessionParts, the_host_session, error_text}
 use Rattle.cstn_run.proofs.hosts.Same.{the_call, after_same, said_error, said_agreed}
 use Rattle.cstn_run.proofs.hosts.Moments.{Moved, after_moment, named_then, due_then, goes_on, ends, kept_said, due_said}
@@ -40,12 +40,12 @@ seen_with host names = record { host = host; names = names }
 
 module _ (old : HostSessionParts) (host : HostParts) (names : List (List (List ℕ))) (view : seen_with host names ≡ old) (as_many : length names ≡ length host.plans) where
   -- an id was opened or closed
-  pub agreed_said : (h : Hosted) (text : List ℕ) → Agreed ≡ answer_on host (id_of h) (the_call h) → text ≡ agreed_text h → said (the_host_session old) h ≡ text
-  agreed_said h text is text_is = subst (λ (w : HostSessionParts). said (the_host_session w) h ≡ text) view (said_agreed (seen_with host names) as_many h is ∙ sym text_is)
+  pub agreed_said : (h : Hosted) (text : List ℕ) → Agreed ≡ answer_on host (id_of h) (the_call h) → text ≡ agreed_text h → host_said (the_host_session old) h ≡ text
+  agreed_said h text is text_is = subst (λ (w : HostSessionParts). host_said (the_host_session w) h ≡ text) view (said_agreed (seen_with host names) as_many h is ∙ sym text_is)
 
   -- a line was refused
-  pub error_said : (h : Hosted) (e : HostError) (text : List ℕ) → the_denial e ≡ answer_on host (id_of h) (the_call h) → text ≡ error_text (id_of h) (the_denial e) → said (the_host_session old) h ≡ text
-  error_said h e text is text_is = subst (λ (w : HostSessionParts). said (the_host_session w) h ≡ text) view (said_error (seen_with host names) as_many h e is ∙ sym text_is)
+  pub error_said : (h : Hosted) (e : HostError) (text : List ℕ) → the_denial e ≡ answer_on host (id_of h) (the_call h) → text ≡ error_text (id_of h) (the_denial e) → host_said (the_host_session old) h ≡ text
+  error_said h e text is text_is = subst (λ (w : HostSessionParts). host_said (the_host_session w) h ≡ text) view (said_error (seen_with host names) as_many h e is ∙ sym text_is)
 
   -- the session after a host line is that of the host after the call
   pub after_is : (h : Hosted) (new : HostParts) → new ≡ host_after host (id_of h) (the_call h) → session_after (the_host_session old) h ≡ the_host_session (seen_with new names)
@@ -54,9 +54,9 @@ module _ (old : HostSessionParts) (host : HostParts) (names : List (List (List �
       (sym (after_same (seen_with host names) as_many h) ∙ ap (λ (x : HostParts). the_host_session (seen_with x names)) (sym is))
 
   -- an `open` that was refused
-  pub open_said : {X E : Type 0} (r : Result X E) (id file : ℕ) (e : HostError) (text : List ℕ) → the_denial e ≡ answer_on host id (Open file (is_memory e)) → OnOk r (text ≡ error_text id (the_denial e)) → OnOk r (is_memory e ≡ false) → OnOk r (said (the_host_session old) (opened id file) ≡ text)
+  pub open_said : {X E : Type 0} (r : Result X E) (id file : ℕ) (e : HostError) (text : List ℕ) → the_denial e ≡ answer_on host id (Open file (is_memory e)) → OnOk r (text ≡ error_text id (the_denial e)) → OnOk r (is_memory e ≡ false) → OnOk r (host_said (the_host_session old) (opened id file) ≡ text)
   open_said r id file e text is text_is wanted =
-      on_both r (text ≡ error_text id (the_denial e)) (is_memory e ≡ false) (said (the_host_session old) (opened id file) ≡ text)
+      on_both r (text ≡ error_text id (the_denial e)) (is_memory e ≡ false) (host_said (the_host_session old) (opened id file) ≡ text)
       (λ same none. error_said (opened id file) e text (is ∙ ap (λ (b : Bool). answer_on host id (Open file b)) none) same) text_is wanted
 
   pub open_after : {X E : Type 0} (r : Result X E) (id file : ℕ) (e : HostError) (new : HostParts) → new ≡ host_after host id (Open file (is_memory e)) → OnOk r (is_memory e ≡ false) → OnOk r (session_after (the_host_session old) (opened id file) ≡ the_host_session (seen_with new names))
@@ -65,25 +65,25 @@ module _ (old : HostSessionParts) (host : HostParts) (names : List (List (List �
       (λ none. after_is (opened id file) new (is ∙ ap (λ (b : Bool). host_after host id (Open file b)) none)) wanted
 
   -- another line that was refused
-  pub refused_said : {X E : Type 0} (r : Result X E) (h : Hosted) (e : HostError) (text : List ℕ) → the_denial e ≡ answer_on host (id_of h) (the_call h) → OnOk r (text ≡ error_text (id_of h) (the_denial e)) → OnOk r (said (the_host_session old) h ≡ text)
-  refused_said r h e text is text_is = on_ok r (text ≡ error_text (id_of h) (the_denial e)) (said (the_host_session old) h ≡ text) (λ same. error_said h e text is same) text_is
+  pub refused_said : {X E : Type 0} (r : Result X E) (h : Hosted) (e : HostError) (text : List ℕ) → the_denial e ≡ answer_on host (id_of h) (the_call h) → OnOk r (text ≡ error_text (id_of h) (the_denial e)) → OnOk r (host_said (the_host_session old) h ≡ text)
+  refused_said r h e text is text_is = on_ok r (text ≡ error_text (id_of h) (the_denial e)) (host_said (the_host_session old) h ≡ text) (λ same. error_said h e text is same) text_is
 
   pub refused_after : {X E : Type 0} (r : Result X E) (h : Hosted) (new : HostParts) → new ≡ host_after host (id_of h) (the_call h) → OnOk r (session_after (the_host_session old) h ≡ the_host_session (seen_with new names))
   refused_after (Ok x) h new is = after_is h new is
   refused_after (Err e) h new is = tt
 
   -- an outcome was kept
-  pub seen_said : (id p : ℕ) (v : Bool) (text : List ℕ) → Told Kept ≡ answer_on host id (Pass (See p v)) → text ≡ with_id id (seen_text p v) → said (the_host_session old) (put_on id (seen p v)) ≡ text
-  seen_said id p v text is text_is = subst (λ (w : HostSessionParts). said (the_host_session w) (put_on id (seen p v)) ≡ text) view (kept_said (seen_with host names) as_many id p v is ∙ sym text_is)
+  pub seen_said : (id p : ℕ) (v : Bool) (text : List ℕ) → Told Kept ≡ answer_on host id (Pass (See p v)) → text ≡ with_id id (seen_text p v) → host_said (the_host_session old) (put_on id (seen p v)) ≡ text
+  seen_said id p v text is text_is = subst (λ (w : HostSessionParts). host_said (the_host_session w) (put_on id (seen p v)) ≡ text) view (kept_said (seen_with host names) as_many id p v is ∙ sym text_is)
 
   -- what is due was told
-  pub asked_said : (id : ℕ) (t : Option ℕ) (text : List ℕ) → Told (DueAt t) ≡ answer_on host id (Pass AskDue) → text ≡ with_id id (due_text t) → said (the_host_session old) (put_on id due_now) ≡ text
-  asked_said id t text is text_is = subst (λ (w : HostSessionParts). said (the_host_session w) (put_on id due_now) ≡ text) view (due_said (seen_with host names) as_many id t is ∙ sym text_is)
+  pub asked_said : (id : ℕ) (t : Option ℕ) (text : List ℕ) → Told (DueAt t) ≡ answer_on host id (Pass AskDue) → text ≡ with_id id (due_text t) → host_said (the_host_session old) (put_on id due_now) ≡ text
+  asked_said id t text is text_is = subst (λ (w : HostSessionParts). host_said (the_host_session w) (put_on id due_now) ≡ text) view (due_said (seen_with host names) as_many id t is ∙ sym text_is)
 
   -- a moment was accepted
-  module _ (id t : ℕ) (m : Moved host id t) (told : Told (Names (named_at (after_moment host id t) id)) ≡ answer_on host id (Pass (Moment t))) where
-    pub moment_said : (text : List ℕ) → false ≡ is_none (due_then (seen_with host names) as_many id t m) → text ≡ with_id id (codes "at " ++ decimal t ++ spaced (slice_index_or names m.before.file []) (named_then host id t m)) → said (the_host_session old) (put_on id (moment_at t)) ≡ text
-    moment_said text more text_is = subst (λ (w : HostSessionParts). said (the_host_session w) (put_on id (moment_at t)) ≡ text) view (goes_on (seen_with host names) as_many id t m told more ∙ sym text_is)
+  module _ (id t : ℕ) (m : Moved host id t) (told : Told (Names (named_last (after_moment host id t) id)) ≡ answer_on host id (Pass (Moment t))) where
+    pub moment_said : (text : List ℕ) → false ≡ is_none (due_then (seen_with host names) as_many id t m) → text ≡ with_id id (codes "at " ++ decimal t ++ spaced (slice_index_or names m.before.file []) (named_then host id t m)) → host_said (the_host_session old) (put_on id (moment_at t)) ≡ text
+    moment_said text more text_is = subst (λ (w : HostSessionParts). host_said (the_host_session w) (put_on id (moment_at t)) ≡ text) view (goes_on (seen_with host names) as_many id t m told more ∙ sym text_is)
 
-    pub last_said : (text : List ℕ) → true ≡ is_none (due_then (seen_with host names) as_many id t m) → text ≡ with_id id (codes "at " ++ decimal t ++ spaced (slice_index_or names m.before.file []) (named_then host id t m)) ++ with_id id (codes "done") → said (the_host_session old) (put_on id (moment_at t)) ≡ text
-    last_said text all text_is = subst (λ (w : HostSessionParts). said (the_host_session w) (put_on id (moment_at t)) ≡ text) view (ends (seen_with host names) as_many id t m told all ∙ sym text_is)
+    pub last_said : (text : List ℕ) → true ≡ is_none (due_then (seen_with host names) as_many id t m) → text ≡ with_id id (codes "at " ++ decimal t ++ spaced (slice_index_or names m.before.file []) (named_then host id t m)) ++ with_id id (codes "done") → host_said (the_host_session old) (put_on id (moment_at t)) ≡ text
+    last_said text all text_is = subst (λ (w : HostSessionParts). host_said (the_host_session w) (put_on id (moment_at t)) ≡ text) view (ends (seen_with host names) as_many id t m told all ∙ sym text_is)

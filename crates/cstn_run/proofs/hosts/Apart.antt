@@ -3,15 +3,15 @@ use Rattle.std.proofs.Common.{◌≡◌, ◌≢◌, ℕ, ◌<◌, List, [], ◌�
 use Rattle.std.specs.Prelude.{Option, Some, None, nat_lt, ◌==◌, if◌then◌else◌, slice_index_or, slice_set, flat_map, codes}
 use Rattle.std.proofs.lemmas.List.{get_or-set_same, get_or-set_other, length-set, length-replicate}
 use Rattle.cstn_exec.specs.Runs.{Run, due, called}
-use Rattle.cstn_exec.specs.Moves.{Refusal, moment_refusal, moved, outcome_refusal, handed}
+use Rattle.cstn_exec.specs.Moves.{EventRefusal, moment_refusal, run_moved, outcome_refusal, handed}
 use Rattle.cstn_exec.specs.Answers.{moment_answer, see_answer, run_unless}
 use Rattle.cstn_run.specs.hosted.Calls.{OutOfRange}
 use Rattle.cstn_lines.specs.LiveLines.{Live, moment_at, seen, due_now, live_read}
 use Rattle.cstn_lines.specs.HostLines.{Hosted, put_on}
 use Rattle.cstn_reply.specs.Texts.{line}
 use Rattle.cstn_exec.specs.Running.{moment_line, refused_text, seen_text, due_text, executing, moment_turn, seen_turn, live_turn, run_turn}
-use Rattle.cstn_run.specs.hosted.Sessions.{File, Case, HostSession, begun, file_at, case_of, id_of, passed_on, case_next, with_id, answer_lines, denied_text, said_in, said, session_after}
-use Rattle.cstn_run.specs.hosted.Alone.{lines_on, put_if, said_to, alone_after, alone_lines, alone_said, turn_text, LeadsTo}
+use Rattle.cstn_run.specs.hosted.Sessions.{File, Case, HostSession, host_begun, hosted_file, case_of, id_of, passed_on, case_next, with_id, answer_lines, denied_text, said_in, host_said, session_after}
+use Rattle.cstn_run.specs.hosted.Alone.{lines_on, put_if, said_to, alone_after, alone_lines, alone_said, turn_text, LeadsToRun}
 use Rattle.cstn_run.proofs.hosts.PutLines.{nothing_after}
 use Rattle.cstn_run.proofs.hosts.Ids.{is_below, same_is, is_same, other_is}
 
@@ -48,7 +48,7 @@ pub record Agree (w v : HostSession) (id : ℕ) : Type 0 where
   pub size : length w.cases ≡ 64
   pub also : length v.cases ≡ 64
 
-pub same_said : (w v : HostSession) (h : Hosted) → Agree w v (id_of h) → said w h ≡ said v h
+pub same_said : (w v : HostSession) (h : Hosted) → Agree w v (id_of h) → host_said w h ≡ host_said v h
 same_said w v h agree =
     ap (λ (files : List File). if nat_lt (id_of h) 64 then said_in files (case_of w (id_of h)) h else line (denied_text (OutOfRange (id_of h)))) agree.same_files
     ∙ ap (λ (o : Option Case). if nat_lt (id_of h) 64 then said_in v.files o h else line (denied_text (OutOfRange (id_of h)))) agree.same_case
@@ -91,39 +91,39 @@ to_its_lines w v (h ∷ hs) id agree = at (id_of h == id) refl (λ x y same. to_
         let same = same_is (id_of h) id is in
         let agreed = subst (λ (k : ℕ). Agree w v k) (sym same) agree in
         let after = subst (λ (k : ℕ). Agree (session_after w h) (session_after v h) k) same (same_after w v h agreed) in
-        ap (λ (b : Bool). put_if b (said w h) (said_to id (session_after w h) hs)) is
+        ap (λ (b : Bool). put_if b (host_said w h) (said_to id (session_after w h) hs)) is
         ∙ ap (λ (text : List ℕ). text ∷ said_to id (session_after w h) hs) (same_said w v h agreed)
-        ∙ ap (λ (later : List (List ℕ)). said v h ∷ later) (rest (session_after w h) (session_after v h) after)
-        ∙ ap (λ (b : Bool). put_if b (said v h) (said_to id (session_after v h) (lines_on id hs))) (sym is)
+        ∙ ap (λ (later : List (List ℕ)). host_said v h ∷ later) (rest (session_after w h) (session_after v h) after)
+        ∙ ap (λ (b : Bool). put_if b (host_said v h) (said_to id (session_after v h) (lines_on id hs))) (sym is)
         ∙ ap (λ (b : Bool). said_to id v (if b then h ∷ lines_on id hs else lines_on id hs)) (sym is)
     at false is rest =
-        ap (λ (b : Bool). put_if b (said w h) (said_to id (session_after w h) hs)) is
+        ap (λ (b : Bool). put_if b (host_said w h) (said_to id (session_after w h) hs)) is
         ∙ rest (session_after w h) v (same_still w v h id (other_is (id_of h) id is) agree)
         ∙ ap (λ (b : Bool). said_to id v (if b then h ∷ lines_on id hs else lines_on id hs)) (sym is)
 
-begun_agree : (files : List File) (id : ℕ) → Agree (begun files) (begun files) id
+begun_agree : (files : List File) (id : ℕ) → Agree (host_begun files) (host_begun files) id
 begun_agree files id = record { same_files = refl; same_case = refl; size = length-replicate {A = Option Case} 64 None; also = length-replicate {A = Option Case} 64 None }
 
 -- the same lines on an id have the same answers
-pub each_apart : (files : List File) (lines others : List Hosted) (id : ℕ) → lines_on id lines ≡ lines_on id others → said_to id (begun files) lines ≡ said_to id (begun files) others
+pub each_apart : (files : List File) (lines others : List Hosted) (id : ℕ) → lines_on id lines ≡ lines_on id others → said_to id (host_begun files) lines ≡ said_to id (host_begun files) others
 each_apart files lines others id same =
-    to_its_lines (begun files) (begun files) lines id (begun_agree files id)
-    ∙ ap (said_to id (begun files)) same
-    ∙ sym (to_its_lines (begun files) (begun files) others id (begun_agree files id))
+    to_its_lines (host_begun files) (host_begun files) lines id (begun_agree files id)
+    ∙ ap (said_to id (host_begun files)) same
+    ∙ sym (to_its_lines (host_begun files) (host_begun files) others id (begun_agree files id))
 
 -- ---- an id that is open
 
 -- the live lines on an open id are answered as by a run alone
-pub passes_on : (w : HostSession) (id : ℕ) (c : Case) (lives : List Live) → id < 64 → length w.cases ≡ 64 → case_of w id ≡ Some c → said_to id w (map (put_on id) lives) ≡ alone_said id (file_at w.files c.file) c.run lives
+pub passes_on : (w : HostSession) (id : ℕ) (c : Case) (lives : List Live) → id < 64 → length w.cases ≡ 64 → case_of w id ≡ Some c → said_to id w (map (put_on id) lives) ≡ alone_said id (hosted_file w.files c.file) c.run lives
 passes_on w id c [] below size is = refl
 passes_on w id c (live ∷ lives) below size is =
-    ap (λ (b : Bool). put_if b (said w (put_on id live)) (said_to id (session_after w (put_on id live)) (map (put_on id) lives))) (is_same id)
+    ap (λ (b : Bool). put_if b (host_said w (put_on id live)) (said_to id (session_after w (put_on id live)) (map (put_on id) lives))) (is_same id)
     ∙ ap (λ (text : List ℕ). text ∷ said_to id (session_after w (put_on id live)) (map (put_on id) lives)) now
-    ∙ ap (λ (later : List (List ℕ)). flat_map (with_id id) (alone_lines (file_at w.files c.file) c.run live) ∷ later)
+    ∙ ap (λ (later : List (List ℕ)). flat_map (with_id id) (alone_lines (hosted_file w.files c.file) c.run live) ∷ later)
     (passes_on (session_after w (put_on id live)) id (passed_on w.files c live) lives below (as_many w (put_on id live) ∙ size)
     (changes w (put_on id live) size below ∙ ap (λ (o : Option Case). case_next w.files o (put_on id live)) is))
   where
-    now : said w (put_on id live) ≡ flat_map (with_id id) (alone_lines (file_at w.files c.file) c.run live)
+    now : host_said w (put_on id live) ≡ flat_map (with_id id) (alone_lines (hosted_file w.files c.file) c.run live)
     now =
         ap (λ (b : Bool). if b then said_in w.files (case_of w id) (put_on id live) else line (denied_text (OutOfRange id))) (is_below id 64 below)
         ∙ ap (λ (o : Option Case). said_in w.files o (put_on id live)) is
@@ -134,15 +134,15 @@ passes_on w id c (live ∷ lives) below size is =
 pub alone_text : (file : File) (run : Run) (live : Live) (bytes : List ℕ) → live_read bytes ≡ Some live → turn_text (run_turn file.names file.net file.bounds run bytes) ≡ flat_map line (alone_lines file run live)
 alone_text file run live bytes is = ap (λ (o : Option Live). turn_text (live_turn file.names file.net file.bounds run o)) is ∙ by_live live
   where
-    by_due : (t : ℕ) (o : Option ℕ) → turn_text (executing (moment_line file.names t (called file.net file.bounds run t)) (moved file.net file.bounds run t) o) ≡ flat_map line (answer_lines file.names o (moment_at t) (moment_answer file.net file.bounds run t None))
+    by_due : (t : ℕ) (o : Option ℕ) → turn_text (executing (moment_line file.names t (called file.net file.bounds run t)) (run_moved file.net file.bounds run t) o) ≡ flat_map line (answer_lines file.names o (moment_at t) (moment_answer file.net file.bounds run t None))
     by_due t None = ap (λ (xs : List ℕ). moment_line file.names t (called file.net file.bounds run t) ++ xs) (sym (nothing_after (line (codes "done"))))
     by_due t (Some u) = sym (nothing_after (moment_line file.names t (called file.net file.bounds run t)))
 
-    by_refusal : (t : ℕ) (r : Option Refusal) → turn_text (moment_turn file.names file.net file.bounds run t r) ≡ flat_map line (answer_lines file.names (due file.net file.bounds (run_unless run (moved file.net file.bounds run t) r)) (moment_at t) (moment_answer file.net file.bounds run t r))
-    by_refusal t None = by_due t (due file.net file.bounds (moved file.net file.bounds run t))
+    by_refusal : (t : ℕ) (r : Option EventRefusal) → turn_text (moment_turn file.names file.net file.bounds run t r) ≡ flat_map line (answer_lines file.names (due file.net file.bounds (run_unless run (run_moved file.net file.bounds run t) r)) (moment_at t) (moment_answer file.net file.bounds run t r))
+    by_refusal t None = by_due t (due file.net file.bounds (run_moved file.net file.bounds run t))
     by_refusal t (Some why) = sym (nothing_after (line (refused_text why)))
 
-    by_outcome : (p : ℕ) (v : Bool) (due : Option ℕ) (r : Option Refusal) → turn_text (seen_turn run p v r) ≡ flat_map line (answer_lines file.names due (seen p v) (see_answer r))
+    by_outcome : (p : ℕ) (v : Bool) (due : Option ℕ) (r : Option EventRefusal) → turn_text (seen_turn run p v r) ≡ flat_map line (answer_lines file.names due (seen p v) (see_answer r))
     by_outcome p v due None = sym (nothing_after (line (seen_text p v)))
     by_outcome p v due (Some why) = sym (nothing_after (line (refused_text why)))
 
@@ -152,23 +152,23 @@ alone_text file run live bytes is = ap (λ (o : Option Live). turn_text (live_tu
     by_live due_now = sym (nothing_after (line (due_text (due file.net file.bounds run))))
 
 -- it goes on as `run` does
-pub alone_leads : (file : File) (run : Run) (live : Live) (bytes : List ℕ) → live_read bytes ≡ Some live → LeadsTo file (alone_after file run live) (run_turn file.names file.net file.bounds run bytes)
+pub alone_leads : (file : File) (run : Run) (live : Live) (bytes : List ℕ) → live_read bytes ≡ Some live → LeadsToRun file (alone_after file run live) (run_turn file.names file.net file.bounds run bytes)
 alone_leads file run live bytes is =
-    subst (λ (o : Option Live). LeadsTo file (alone_after file run live) (live_turn file.names file.net file.bounds run o)) (sym is) (by_live live)
+    subst (λ (o : Option Live). LeadsToRun file (alone_after file run live) (live_turn file.names file.net file.bounds run o)) (sym is) (by_live live)
   where
-    by_due : (t : ℕ) (o : Option ℕ) → due file.net file.bounds (moved file.net file.bounds run t) ≡ o → LeadsTo file (moved file.net file.bounds run t) (executing (moment_line file.names t (called file.net file.bounds run t)) (moved file.net file.bounds run t) o)
+    by_due : (t : ℕ) (o : Option ℕ) → due file.net file.bounds (run_moved file.net file.bounds run t) ≡ o → LeadsToRun file (run_moved file.net file.bounds run t) (executing (moment_line file.names t (called file.net file.bounds run t)) (run_moved file.net file.bounds run t) o)
     by_due t None none = none
     by_due t (Some u) some = refl
 
-    by_refusal : (t : ℕ) (r : Option Refusal) → LeadsTo file (run_unless run (moved file.net file.bounds run t) r) (moment_turn file.names file.net file.bounds run t r)
-    by_refusal t None = by_due t (due file.net file.bounds (moved file.net file.bounds run t)) refl
+    by_refusal : (t : ℕ) (r : Option EventRefusal) → LeadsToRun file (run_unless run (run_moved file.net file.bounds run t) r) (moment_turn file.names file.net file.bounds run t r)
+    by_refusal t None = by_due t (due file.net file.bounds (run_moved file.net file.bounds run t)) refl
     by_refusal t (Some why) = refl
 
-    by_outcome : (p : ℕ) (v : Bool) (r : Option Refusal) → LeadsTo file (run_unless run (handed run p v) r) (seen_turn run p v r)
+    by_outcome : (p : ℕ) (v : Bool) (r : Option EventRefusal) → LeadsToRun file (run_unless run (handed run p v) r) (seen_turn run p v r)
     by_outcome p v None = refl
     by_outcome p v (Some why) = refl
 
-    by_live : (l : Live) → LeadsTo file (alone_after file run l) (live_turn file.names file.net file.bounds run (Some l))
+    by_live : (l : Live) → LeadsToRun file (alone_after file run l) (live_turn file.names file.net file.bounds run (Some l))
     by_live (moment_at t) = by_refusal t (moment_refusal file.net file.bounds run t)
     by_live (seen p v) = by_outcome p v (outcome_refusal file.net run p)
     by_live due_now = refl

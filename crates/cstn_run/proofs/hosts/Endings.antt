@@ -8,14 +8,14 @@ use Rattle.cstn_run.specs.declared.hosted.errors.HostError.{HostError}
 use Rattle.cstn_run.specs.hosted.Hosts.{Opened, net_at, bounds_at, case_at}
 use Rattle.cstn_run.specs.hosted.Calls.{Pass, Told, Denied, OutOfRange, answer_at, answer_on}
 use Rattle.cstn_run.specs.hosted.Read.{the_denial}
-use Rattle.cstn_run.specs.hosted.Sessions.{File, Case, HostSession, case_of, due_in, or_later, due_from, unfinished}
+use Rattle.cstn_run.specs.hosted.Sessions.{File, Case, HostSession, case_of, due_in, or_second, due_from, unfinished}
 use Rattle.cstn_run.specs.hosted.SessionRead.{HostSessionParts, the_files, the_case, the_host_session}
 use Rattle.cstn_run.proofs.hosts.Same.{case_same, file_same}
 use Rattle.cstn_run.proofs.hosts.Moments.{never_due}
 use Rattle.cstn_run.proofs.hosts.Ids.{is_below}
 
 -- the least id from `id` on is `id`, where something is due there, or the least from the next id on
-step : (session : HostSession) (id : ℕ) → id < 64 → due_from session id (64 - id) ≡ or_later (option_map (λ t. (id, t)) (due_in session.files (case_of session id))) (due_from session (id + 1) (64 - (id + 1)))
+step : (session : HostSession) (id : ℕ) → id < 64 → due_from session id (64 - id) ≡ or_second (option_map (λ t. (id, t)) (due_in session.files (case_of session id))) (due_from session (id + 1) (64 - (id + 1)))
 step session id below = ap (due_from session id) count
   where
     count : 64 - id ≡ suc (64 - (id + 1))
@@ -27,11 +27,11 @@ begins session = refl
 
 -- where nothing is due at an id, the search goes on with the next id
 pub passes : (session : HostSession) (id : ℕ) → id < 64 → unfinished session ≡ due_from session id (64 - id) → due_in session.files (case_of session id) ≡ None → unfinished session ≡ due_from session (id + 1) (64 - (id + 1))
-passes session id below so_far none = so_far ∙ step session id below ∙ ap (λ (o : Option ℕ). or_later (option_map (λ t. (id, t)) o) (due_from session (id + 1) (64 - (id + 1)))) none
+passes session id below so_far none = so_far ∙ step session id below ∙ ap (λ (o : Option ℕ). or_second (option_map (λ t. (id, t)) o) (due_from session (id + 1) (64 - (id + 1)))) none
 
 -- where something is due at an id, the search ends with it
 pub stops : (session : HostSession) (id t : ℕ) → id < 64 → unfinished session ≡ due_from session id (64 - id) → due_in session.files (case_of session id) ≡ Some t → Some (id, t) ≡ unfinished session
-stops session id t below so_far found = sym (so_far ∙ step session id below ∙ ap (λ (o : Option ℕ). or_later (option_map (λ u. (id, u)) o) (due_from session (id + 1) (64 - (id + 1)))) found)
+stops session id t below so_far found = sym (so_far ∙ step session id below ∙ ap (λ (o : Option ℕ). or_second (option_map (λ u. (id, u)) o) (due_from session (id + 1) (64 - (id + 1)))) found)
 
 -- after the last id, the search ends with none
 pub none_left : (session : HostSession) (id : ℕ) → 64 ≤ id → unfinished session ≡ due_from session id (64 - id) → None ≡ unfinished session

@@ -11,9 +11,9 @@ use Rattle.cstn_plan.proofs.PlanLemmas.{asked_earliest}
 use Rattle.cstn_check.specs.Growth.{is_refuted, log_of, live_bounds}
 use Rattle.cstn_check.proofs.Decides.{log_closed, log_sound}
 use Rattle.cstn_exec.specs.Runs.{Run, due, called, observed_at, outcome_of}
-use Rattle.cstn_exec.specs.Moves.{Refusal, moment_refusal, moved, outcome_refusal, handed, unless_unseen, unless_known}
+use Rattle.cstn_exec.specs.Moves.{EventRefusal, moment_refusal, run_moved, outcome_refusal, handed, unless_unseen, unless_known}
 use Rattle.cstn_exec.specs.Answers.{moment_answer, run_unless}
-use Rattle.cstn_exec.specs.Right.{IsPlan, IsRight, IsCalled, IsDue, IsDone}
+use Rattle.cstn_exec.specs.Right.{IsPlanBounds, IsRightRun, IsCalled, IsDue, IsDone}
 use Rattle.cstn_exec.proofs.Knowing.{observed_from}
 use Rattle.cstn_run.specs.hosted.Calls.{OutOfRange}
 use Rattle.cstn_lines.specs.LiveLines.{Live, moment_at, seen, due_now}
@@ -24,12 +24,12 @@ use Rattle.cstn_run.specs.hosted.Sessions.{File, with_id, answer_lines, denied_t
 use Rattle.cstn_run.specs.hosted.Alone.{alone_lines, alone_after, alone_after_all, said_after, Own, own_lines, own_from, own_file, own_run, said_by_own}
 use Rattle.cstn_run.specs.hosted.Files.{Named, the_file}
 use Rattle.cstn_run.specs.Least.{IsDueMoment}
-use Rattle.cstn_run.specs.hosted.Least.{HasStrategy, HasPlan, HostNamesLeast, HostTellsDue}
+use Rattle.cstn_run.specs.hosted.Least.{HasStrategy, HasPlanBounds, HostNamesLeast, HostTellsDue}
 use Rattle.cstn_run.proofs.hosts.PutLines.{nothing_after}
 use Rattle.cstn_run.proofs.hosts.Own.{answered}
 
 -- the live bounds of the log of a network that no entry refutes are those of a plan
-planned : (named : Named) → IsWellFormed named.net → is_refuted named.net (log_of named.net) ≡ false → HasPlan (the_file named)
+planned : (named : Named) → IsWellFormed named.net → is_refuted named.net (log_of named.net) ≡ false → HasPlanBounds (the_file named)
 planned named wf stands = record {
   well_formed = wf;
   table = asked named.net (live_bounds (log_of named.net));
@@ -37,13 +37,13 @@ planned named wf stands = record {
 }
 
 -- where each network has a strategy, each of their files has a plan
-pub all_planned : (all : List Named) → ((named : Named) → IsWellFormed named.net → IsConsistent named.net → is_refuted named.net (log_of named.net) ≡ false) → All HasStrategy all → All HasPlan (map the_file all)
+pub all_planned : (all : List Named) → ((named : Named) → IsWellFormed named.net → IsConsistent named.net → is_refuted named.net (log_of named.net) ≡ false) → All HasStrategy all → All HasPlanBounds (map the_file all)
 all_planned all stands each =
-    All-map HasPlan the_file all (All-weaker HasStrategy (λ named. HasPlan (the_file named)) (λ named good. planned named good.0 (stands named good.0 good.1)) all each)
+    All-map HasPlanBounds the_file all (All-weaker HasStrategy (λ named. HasPlanBounds (the_file named)) (λ named good. planned named good.0 (stands named good.0 good.1)) all each)
 
 -- ---- a run alone stays right
 
-module _ (file : File) (plan : IsPlan file.net file.bounds) (moves : (run : Run) (t : ℕ) → IsRight file.net run → moment_refusal file.net file.bounds run t ≡ None → IsRight file.net (moved file.net file.bounds run t)) (hands : (run : Run) (p : ℕ) → IsRight file.net run → outcome_refusal file.net run p ≡ None → p < 52 → IsRight file.net (handed run p true) × IsRight file.net (handed run p false)) where
+module _ (file : File) (plan : IsPlanBounds file.net file.bounds) (moves : (run : Run) (t : ℕ) → IsRightRun file.net run → moment_refusal file.net file.bounds run t ≡ None → IsRightRun file.net (run_moved file.net file.bounds run t)) (hands : (run : Run) (p : ℕ) → IsRightRun file.net run → outcome_refusal file.net run p ≡ None → p < 52 → IsRightRun file.net (handed run p true) × IsRightRun file.net (handed run p false)) where
   -- an outcome that is accepted is of one of the 52 propositions
   is_letter : (run : Run) (p : ℕ) → outcome_refusal file.net run p ≡ None → p < 52
   is_letter run p ok = by_moment (observed_at file.net run p) refl ok
@@ -52,21 +52,21 @@ module _ (file : File) (plan : IsPlan file.net file.bounds) (moves : (run : Run)
       by_moment None at refused = let f : ⊥ = cc in absurd f
       by_moment (Some m) at accepted = let x = observed_from file.net plan.well_formed.network run p m at in plan.well_formed.letters x.0 p x.1
 
-  right_after : (run : Run) (live : Live) → IsRight file.net run → IsRight file.net (alone_after file run live)
+  right_after : (run : Run) (live : Live) → IsRightRun file.net run → IsRightRun file.net (alone_after file run live)
   right_after run (moment_at t) right = by_refusal (moment_refusal file.net file.bounds run t) refl
     where
-      by_refusal : (r : Option Refusal) → moment_refusal file.net file.bounds run t ≡ r → IsRight file.net (run_unless run (moved file.net file.bounds run t) r)
+      by_refusal : (r : Option EventRefusal) → moment_refusal file.net file.bounds run t ≡ r → IsRightRun file.net (run_unless run (run_moved file.net file.bounds run t) r)
       by_refusal None is = moves run t right is
       by_refusal (Some why) is = right
   right_after run (seen p v) right = by_refusal v (outcome_refusal file.net run p) refl
     where
-      by_refusal : (v : Bool) (r : Option Refusal) → outcome_refusal file.net run p ≡ r → IsRight file.net (run_unless run (handed run p v) r)
+      by_refusal : (v : Bool) (r : Option EventRefusal) → outcome_refusal file.net run p ≡ r → IsRightRun file.net (run_unless run (handed run p v) r)
       by_refusal true None is = (hands run p right is (is_letter run p is)).0
       by_refusal false None is = (hands run p right is (is_letter run p is)).1
       by_refusal v (Some why) is = right
   right_after run due_now right = right
 
-  pub right_after_all : (run : Run) (lives : List Live) → IsRight file.net run → IsRight file.net (alone_after_all file run lives)
+  pub right_after_all : (run : Run) (lives : List Live) → IsRightRun file.net run → IsRightRun file.net (alone_after_all file run lives)
   right_after_all run [] right = right
   right_after_all run (live ∷ lives) right = right_after_all (alone_after file run live) lives (right_after run live right)
 
@@ -88,7 +88,7 @@ module _ (files : List File) (lines : List Hosted) (id : ℕ) (own : Own) (open'
     named = called (own_file files own).net (own_file files own).bounds (own_run files own) t;
     says =
         said_open (moment_at t)
-        ∙ ap (λ (r : Option Refusal). flat_map (with_id id) (answer_lines (own_file files own).names (due (own_file files own).net (own_file files own).bounds (run_unless (own_run files own) (moved (own_file files own).net (own_file files own).bounds (own_run files own) t) r)) (moment_at t) (moment_answer (own_file files own).net (own_file files own).bounds (own_run files own) t r))) accepted;
+        ∙ ap (λ (r : Option EventRefusal). flat_map (with_id id) (answer_lines (own_file files own).names (due (own_file files own).net (own_file files own).bounds (run_unless (own_run files own) (run_moved (own_file files own).net (own_file files own).bounds (own_run files own) t) r)) (moment_at t) (moment_answer (own_file files own).net (own_file files own).bounds (own_run files own) t r))) accepted;
     ascending = ascending;
     exactly = exactly;
     least = λ s x agrees there. ((exactly x).0 there).least s agrees;

@@ -6,15 +6,15 @@ use Rattle.std.proofs.lemmas.List.{get_or-set_same, set-get_or}
 use Rattle.cstn_lines.specs.LiveLines.{moment_at, seen, due_now}
 use Rattle.cstn_lines.specs.HostLines.{put_on}
 use Rattle.cstn_exec.specs.Runs.{Run, called, due}
-use Rattle.cstn_exec.specs.Moves.{Refusal, moment_refusal, moved}
+use Rattle.cstn_exec.specs.Moves.{EventRefusal, moment_refusal, run_moved}
 use Rattle.cstn_exec.specs.Answers.{Moment, See, AskDue, Names, Kept, DueAt, moment_answer, run_unless}
 use Rattle.cstn_run.specs.declared.hosted.errors.HostError.{HostError}
 use Rattle.cstn_run.specs.declared.hosted.errors.HostError.TheVariants.{IdInUse, NoSuchPlan, IdRange, NoFile, Exec, Memory}
-use Rattle.cstn_run.specs.hosted.Hosts.{HostParts, Opened, net_at, bounds_at, case_at, named_in, named_at}
-use Rattle.cstn_run.specs.hosted.Calls.{AskFile, AskNamed, Pass, FileIs, Told, Denied, OutOfRange, answer_at, unless_refused, passed, case_after, answer_on, host_after}
+use Rattle.cstn_run.specs.hosted.Hosts.{HostParts, Opened, net_at, bounds_at, case_at, named_in, named_last}
+use Rattle.cstn_run.specs.hosted.Calls.{AskFile, AskNamed, Pass, FileIs, Told, Denied, OutOfRange, answer_at, unless_event_refused, event_passed, case_after, answer_on, host_after}
 use Rattle.cstn_run.specs.hosted.Read.{the_denial}
 use Rattle.cstn_exec.specs.Running.{spaced, seen_text, due_text}
-use Rattle.cstn_run.specs.hosted.Sessions.{File, Case, HostSession, case_of, case_next, with_id, done_lines, told_text, names_in, due_in, said, session_after}
+use Rattle.cstn_run.specs.hosted.Sessions.{File, Case, HostSession, case_of, case_next, with_id, done_lines, told_text, names_in, due_in, host_said, session_after}
 use Rattle.cstn_run.specs.hosted.SessionRead.{HostSessionParts, the_files, the_case, the_host_session}
 use Rattle.cstn_run.proofs.hosts.PutLines.{nothing_after}
 use Rattle.cstn_run.proofs.hosts.Same.{case_same, file_same, said_told}
@@ -59,13 +59,13 @@ pub record Moved (host : HostParts) (id t : ℕ) : Type 0 where
   pub before : Opened
   pub was : case_at host id ≡ Some before
   pub accepted : moment_refusal (net_at host.plans before.file) (bounds_at host.plans before.file) before.run t ≡ None
-  pub now : case_at (after_moment host id t) id ≡ Some (passed host.plans before (Moment t))
+  pub now : case_at (after_moment host id t) id ≡ Some (event_passed host.plans before (Moment t))
 
 -- where the answer to a moment names time-points, the moment was accepted
 pub moved_by : (host : HostParts) (id t : ℕ) (xs : List ℕ) → Told (Names xs) ≡ answer_on host id (Pass (Moment t)) → Moved host id t
 moved_by host id t xs is = at (nat_lt id 64) refl (case_at host id) refl is
   where
-    by_refusal : nat_lt id 64 ≡ true → (c : Opened) → case_at host id ≡ Some c → (r : Option Refusal) → moment_refusal (net_at host.plans c.file) (bounds_at host.plans c.file) c.run t ≡ r → Told (Names xs) ≡ Told (moment_answer (net_at host.plans c.file) (bounds_at host.plans c.file) c.run t r) → Moved host id t
+    by_refusal : nat_lt id 64 ≡ true → (c : Opened) → case_at host id ≡ Some c → (r : Option EventRefusal) → moment_refusal (net_at host.plans c.file) (bounds_at host.plans c.file) c.run t ≡ r → Told (Names xs) ≡ Told (moment_answer (net_at host.plans c.file) (bounds_at host.plans c.file) c.run t r) → Moved host id t
     by_refusal below c was None accepted told = record {
       below = below;
       before = c;
@@ -86,7 +86,7 @@ moved_by host id t xs is = at (nat_lt id 64) refl (case_at host id) refl is
 module _ (host : HostParts) (id t : ℕ) (m : Moved host id t) where
   -- the run after the moment
   abbrev pub run_then : Run
-  run_then = moved (net_at host.plans m.before.file) (bounds_at host.plans m.before.file) m.before.run t
+  run_then = run_moved (net_at host.plans m.before.file) (bounds_at host.plans m.before.file) m.before.run t
 
   abbrev pub named_then : List ℕ
   named_then = called (net_at host.plans m.before.file) (bounds_at host.plans m.before.file) m.before.run t
@@ -100,7 +100,7 @@ module _ (host : HostParts) (id t : ℕ) (m : Moved host id t) where
   named_asked =
       ap (λ (x : Bool). if x then answer_at host.plans id (case_at (after_moment host id t) id) AskNamed else Denied (OutOfRange id)) m.below
       ∙ ap (λ (x : Option Opened). answer_at host.plans id x AskNamed) m.now
-      ∙ ap (λ (r : Option Refusal). Told (Names (unless_refused m.before.named named_then r))) m.accepted
+      ∙ ap (λ (r : Option EventRefusal). Told (Names (unless_event_refused m.before.named named_then r))) m.accepted
 
   pub file_is : (file : ℕ) → FileIs file ≡ answer_on (after_moment host id t) id AskFile → file ≡ m.before.file
   file_is file is = let same : FileIs file ≡ FileIs m.before.file = is ∙ file_asked in cc
@@ -114,10 +114,10 @@ module _ (host : HostParts) (id t : ℕ) (m : Moved host id t) where
   pub named_there : (e : HostError) → the_denial e ≡ answer_on (after_moment host id t) id AskNamed → ⊥
   named_there e is = never_named e named_then (is ∙ named_asked)
 
-  pub named_now : named_at (after_moment host id t) id ≡ named_then
+  pub named_now : named_last (after_moment host id t) id ≡ named_then
   named_now =
       ap named_in m.now
-      ∙ ap (λ (r : Option Refusal). unless_refused m.before.named named_then r) m.accepted
+      ∙ ap (λ (r : Option EventRefusal). unless_event_refused m.before.named named_then r) m.accepted
 
 module _ (w : HostSessionParts) (as_many : length w.names ≡ length w.host.plans) where
   abbrev files : List File
@@ -139,19 +139,19 @@ module _ (w : HostSessionParts) (as_many : length w.names ≡ length w.host.plan
     due_is : due_in files (case_next files (case_of (the_host_session w) id) (put_on id (moment_at t))) ≡ due_then
     due_is =
         ap (λ (o : Option Case). due_in files (case_next files o (put_on id (moment_at t)))) case_is
-        ∙ ap (λ (f : File). due f.net f.bounds (run_unless m.before.run (moved f.net f.bounds m.before.run t) (moment_refusal f.net f.bounds m.before.run t))) (file_same w.host.plans w.names m.before.file as_many)
-        ∙ ap (λ (r : Option Refusal). due (net_at w.host.plans m.before.file) (bounds_at w.host.plans m.before.file) (run_unless m.before.run (run_then w.host id t m) r)) m.accepted
+        ∙ ap (λ (f : File). due f.net f.bounds (run_unless m.before.run (run_moved f.net f.bounds m.before.run t) (moment_refusal f.net f.bounds m.before.run t))) (file_same w.host.plans w.names m.before.file as_many)
+        ∙ ap (λ (r : Option EventRefusal). due (net_at w.host.plans m.before.file) (bounds_at w.host.plans m.before.file) (run_unless m.before.run (run_then w.host id t m) r)) m.accepted
 
     -- what is said of the moment, by what is due after it
-    moment_said : Told (Names (named_at (after_moment w.host id t) id)) ≡ answer_on w.host id (Pass (Moment t)) → said (the_host_session w) (put_on id (moment_at t)) ≡ with_id id (codes "at " ++ decimal t ++ spaced names_then (named_then w.host id t m)) ++ flat_map (with_id id) (done_lines due_then)
+    moment_said : Told (Names (named_last (after_moment w.host id t) id)) ≡ answer_on w.host id (Pass (Moment t)) → host_said (the_host_session w) (put_on id (moment_at t)) ≡ with_id id (codes "at " ++ decimal t ++ spaced names_then (named_then w.host id t m)) ++ flat_map (with_id id) (done_lines due_then)
     moment_said is =
-        said_told w as_many (put_on id (moment_at t)) (Names (named_at (after_moment w.host id t) id)) is
-        ∙ ap (λ (names : List (List ℕ)). told_text names (due_in files (case_next files (case_of (the_host_session w) id) (put_on id (moment_at t)))) (put_on id (moment_at t)) (Names (named_at (after_moment w.host id t) id))) names_are
-        ∙ ap (λ (due : Option ℕ). told_text names_then due (put_on id (moment_at t)) (Names (named_at (after_moment w.host id t) id))) due_is
+        said_told w as_many (put_on id (moment_at t)) (Names (named_last (after_moment w.host id t) id)) is
+        ∙ ap (λ (names : List (List ℕ)). told_text names (due_in files (case_next files (case_of (the_host_session w) id) (put_on id (moment_at t)))) (put_on id (moment_at t)) (Names (named_last (after_moment w.host id t) id))) names_are
+        ∙ ap (λ (due : Option ℕ). told_text names_then due (put_on id (moment_at t)) (Names (named_last (after_moment w.host id t) id))) due_is
         ∙ ap (λ (xs : List ℕ). told_text names_then due_then (put_on id (moment_at t)) (Names xs)) (named_now w.host id t m)
 
     -- what is said of the moment where something is due after it
-    pub goes_on : Told (Names (named_at (after_moment w.host id t) id)) ≡ answer_on w.host id (Pass (Moment t)) → false ≡ is_none due_then → said (the_host_session w) (put_on id (moment_at t)) ≡ with_id id (codes "at " ++ decimal t ++ spaced names_then (named_then w.host id t m))
+    pub goes_on : Told (Names (named_last (after_moment w.host id t) id)) ≡ answer_on w.host id (Pass (Moment t)) → false ≡ is_none due_then → host_said (the_host_session w) (put_on id (moment_at t)) ≡ with_id id (codes "at " ++ decimal t ++ spaced names_then (named_then w.host id t m))
     goes_on is more = moment_said is ∙ by_due due_then more
       where
         by_due : (o : Option ℕ) → false ≡ is_none o → with_id id (codes "at " ++ decimal t ++ spaced names_then (named_then w.host id t m)) ++ flat_map (with_id id) (done_lines o) ≡ with_id id (codes "at " ++ decimal t ++ spaced names_then (named_then w.host id t m))
@@ -159,7 +159,7 @@ module _ (w : HostSessionParts) (as_many : length w.names ≡ length w.host.plan
         by_due (Some u) is' = nothing_after (with_id id (codes "at " ++ decimal t ++ spaced names_then (named_then w.host id t m)))
 
     -- what is said of the moment where all is executed after it
-    pub ends : Told (Names (named_at (after_moment w.host id t) id)) ≡ answer_on w.host id (Pass (Moment t)) → true ≡ is_none due_then → said (the_host_session w) (put_on id (moment_at t)) ≡ with_id id (codes "at " ++ decimal t ++ spaced names_then (named_then w.host id t m)) ++ with_id id (codes "done")
+    pub ends : Told (Names (named_last (after_moment w.host id t) id)) ≡ answer_on w.host id (Pass (Moment t)) → true ≡ is_none due_then → host_said (the_host_session w) (put_on id (moment_at t)) ≡ with_id id (codes "at " ++ decimal t ++ spaced names_then (named_then w.host id t m)) ++ with_id id (codes "done")
     ends is all = moment_said is ∙ by_due due_then all
       where
         by_due : (o : Option ℕ) → true ≡ is_none o → with_id id (codes "at " ++ decimal t ++ spaced names_then (named_then w.host id t m)) ++ flat_map (with_id id) (done_lines o) ≡ with_id id (codes "at " ++ decimal t ++ spaced names_then (named_then w.host id t m)) ++ with_id id (codes "done")
@@ -167,11 +167,11 @@ module _ (w : HostSessionParts) (as_many : length w.names ≡ length w.host.plan
         by_due (Some u) is' = absurd (cc)
 
   -- an outcome was kept
-  pub kept_said : (id p : ℕ) (v : Bool) → Told Kept ≡ answer_on w.host id (Pass (See p v)) → said (the_host_session w) (put_on id (seen p v)) ≡ with_id id (seen_text p v)
+  pub kept_said : (id p : ℕ) (v : Bool) → Told Kept ≡ answer_on w.host id (Pass (See p v)) → host_said (the_host_session w) (put_on id (seen p v)) ≡ with_id id (seen_text p v)
   kept_said id p v is = said_told w as_many (put_on id (seen p v)) Kept is ∙ nothing_after (with_id id (seen_text p v))
 
   -- what is due was asked
-  pub due_said : (id : ℕ) (t : Option ℕ) → Told (DueAt t) ≡ answer_on w.host id (Pass AskDue) → said (the_host_session w) (put_on id due_now) ≡ with_id id (due_text t)
+  pub due_said : (id : ℕ) (t : Option ℕ) → Told (DueAt t) ≡ answer_on w.host id (Pass AskDue) → host_said (the_host_session w) (put_on id due_now) ≡ with_id id (due_text t)
   due_said id t is = said_told w as_many (put_on id due_now) (DueAt t) is ∙ nothing_after (with_id id (due_text t))
 
 -- the question what is due changes nothing

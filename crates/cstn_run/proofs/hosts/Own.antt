@@ -12,7 +12,7 @@ use Rattle.cstn_reply.specs.Texts.{line}
 use Rattle.cstn_reply.specs.Sessions.{more}
 use Rattle.cstn_reply.specs.Reached.{state_after, LeadsTo, Says}
 use Rattle.cstn_reply.proofs.Sessions.{first_leads, Begins, says_next}
-use Rattle.cstn_run.specs.hosted.Sessions.{File, Case, HostSession, begun, file_at, fresh, case_of, id_of, case_next, agreed_text, denied_text, answer_text, due_in, said_in, said, session_after, hosted_turn, host_turn, host_ending}
+use Rattle.cstn_run.specs.hosted.Sessions.{File, Case, HostSession, host_begun, hosted_file, fresh, case_of, id_of, case_next, agreed_text, denied_text, answer_text, due_in, said_in, host_said, session_after, hosted_turn, host_turn, host_ending}
 use Rattle.cstn_run.specs.hosted.Alone.{is_on, lines_on, said_to, after_all, said_after, alone_after, alone_after_all, alone_said, Own, own_with, own_from, own_lines, own_file, own_run, said_by_own, said_by}
 use Rattle.cstn_run.proofs.hosts.Ids.{is_below, same_is, is_same, other_is}
 use Rattle.cstn_run.proofs.hosts.Apart.{leaves, as_many, changes, Agree, to_its_lines, passes_on}
@@ -65,7 +65,7 @@ follows w own id (h ∷ hs) size small is =
         ∙ steps w.files own h
     stepped false apart = leaves w h id (other_is (id_of h) id apart) ∙ is
 
-begun_many : (files : List File) → length (begun files).cases ≡ 64
+begun_many : (files : List File) → length (host_begun files).cases ≡ 64
 begun_many files = length-replicate {A = Option Case} 64 None
 
 -- ---- what is said
@@ -87,16 +87,16 @@ pub answered : (files : List File) (lines : List Hosted) (hosted : Hosted) → s
 answered files lines hosted = at (nat_lt (id_of hosted) 64) refl
   where
     reached : HostSession
-    reached = after_all (begun files) lines
+    reached = after_all (host_begun files) lines
 
     at : (b : Bool) → nat_lt (id_of hosted) 64 ≡ b
         → (if b then said_in reached.files (case_of reached (id_of hosted)) hosted else line (denied_text (OutOfRange (id_of hosted))))
         ≡ (if b then said_by_own files (if b then own_from files None (id_of hosted) lines else None) hosted else line (denied_text (OutOfRange (id_of hosted))))
     at true is =
         let small : id_of hosted < 64 = grind arith in
-        ap (λ (fs : List File). said_in fs (case_of reached (id_of hosted)) hosted) (files_stay (begun files) lines)
+        ap (λ (fs : List File). said_in fs (case_of reached (id_of hosted)) hosted) (files_stay (host_begun files) lines)
         ∙ ap (λ (o : Option Case). said_in files o hosted)
-        (follows (begun files) None (id_of hosted) lines (begun_many files) small (get_or-replicate {A = Option Case} 64 (id_of hosted) None None small))
+        (follows (host_begun files) None (id_of hosted) lines (begun_many files) small (get_or-replicate {A = Option Case} 64 (id_of hosted) None None small))
         ∙ says_own files (own_from files None (id_of hosted) lines) hosted
     at false is = refl
 
@@ -110,7 +110,7 @@ other_byte : ◌≡◌ {A = ℕ} 114 111 → ⊥
 other_byte is = grind arith
 
 -- where `open` is answered by `opened`, the id is open over that file from the start
-opens_fresh : (w : HostSession) (id file : ℕ) → length w.cases ≡ 64 → said w (opened id file) ≡ agreed_text (opened id file) → case_of (session_after w (opened id file)) id ≡ Some (fresh w.files file)
+opens_fresh : (w : HostSession) (id file : ℕ) → length w.cases ≡ 64 → host_said w (opened id file) ≡ agreed_text (opened id file) → case_of (session_after w (opened id file)) id ≡ Some (fresh w.files file)
 opens_fresh w id file size is = by_id (nat_lt id 64) refl is
   where
     by_file : (b : Bool) → answer_text [] (due_in w.files (if b then Some (fresh w.files file) else None)) (opened id file) (if b then Agreed else Denied (NotAFile file)) ≡ agreed_text (opened id file) → (if b then Some (fresh w.files file) else None) ≡ Some (fresh w.files file)
@@ -127,36 +127,36 @@ opens_fresh w id file size is = by_id (nat_lt id 64) refl is
         changes w (opened id file) size small ∙ by_case (case_of w id) says
     by_id false at says = absurd (other_byte (ap first_byte says))
 
-pub opened_alone : (files : List File) (before lines : List Hosted) (id file : ℕ) (lives : List Live) → said_after files before (opened id file) ≡ agreed_text (opened id file) → lines_on id lines ≡ map (put_on id) lives → said_to id (session_after (after_all (begun files) before) (opened id file)) lines ≡ alone_said id (file_at files file) (fresh files file).run lives
+pub opened_alone : (files : List File) (before lines : List Hosted) (id file : ℕ) (lives : List Live) → said_after files before (opened id file) ≡ agreed_text (opened id file) → lines_on id lines ≡ map (put_on id) lives → said_to id (session_after (after_all (host_begun files) before) (opened id file)) lines ≡ alone_said id (hosted_file files file) (fresh files file).run lives
 opened_alone files before lines id file lives says is = by_id (nat_lt id 64) refl
   where
     reached : HostSession
-    reached = after_all (begun files) before
+    reached = after_all (host_begun files) before
 
     now : HostSession
     now = session_after reached (opened id file)
 
     size : length now.cases ≡ 64
-    size = as_many reached (opened id file) ∙ many_stay (begun files) before ∙ begun_many files
+    size = as_many reached (opened id file) ∙ many_stay (host_begun files) before ∙ begun_many files
 
     same_files : now.files ≡ files
-    same_files = files_stay (begun files) before
+    same_files = files_stay (host_begun files) before
 
     over : case_of now id ≡ Some (fresh files file)
     over =
-        opens_fresh reached id file (many_stay (begun files) before ∙ begun_many files) says
+        opens_fresh reached id file (many_stay (host_begun files) before ∙ begun_many files) says
         ∙ ap (λ (fs : List File). Some (fresh fs file)) same_files
 
     agree : Agree now now id
     agree = record { same_files = refl; same_case = refl; size = size; also = size }
 
-    by_id : (b : Bool) → nat_lt id 64 ≡ b → said_to id now lines ≡ alone_said id (file_at files file) (fresh files file).run lives
+    by_id : (b : Bool) → nat_lt id 64 ≡ b → said_to id now lines ≡ alone_said id (hosted_file files file) (fresh files file).run lives
     by_id true at =
         let small : id < 64 = grind arith in
         to_its_lines now now lines id agree
         ∙ ap (said_to id now) is
         ∙ passes_on now id (fresh files file) lives small size over
-        ∙ ap (λ (fs : List File). alone_said id (file_at fs file) (fresh files file).run lives) same_files
+        ∙ ap (λ (fs : List File). alone_said id (hosted_file fs file) (fresh files file).run lives) same_files
     by_id false at =
         absurd (other_byte (ap first_byte (sym (ap (λ (b : Bool). if b then said_in reached.files (case_of reached id) (opened id file) else line (denied_text (OutOfRange id))) at) ∙ says)))
 
@@ -247,13 +247,13 @@ reaches w g n [] (h ∷ hs) reads is = absurd (no_lines (Some h) (map Some hs) r
 reaches w g n (text ∷ texts) [] reads is = absurd (some_lines (host_read text) (map host_read texts) reads)
 reaches w g n (text ∷ texts) (h ∷ hs) reads is =
     let l = first_leads host_turn w g n text texts is in
-    let turn : more (said w h) (session_after w h) ≡ more l.text l.next =
+    let turn : more (host_said w h) (session_after w h) ≡ more l.text l.next =
     ap (hosted_turn w) (sym (same_first (host_read text) (Some h) (map host_read texts) (map Some hs) reads)) ∙ l.answer in
     reaches l.next g (n + 1) texts hs (same_rest (host_read text) (Some h) (map host_read texts) (map Some hs) reads) l.rest
-    ∙ ap (λ (v : HostSession). after_all v hs) (sym (same_next (said w h) l.text (session_after w h) l.next turn))
+    ∙ ap (λ (v : HostSession). after_all v hs) (sym (same_next (host_said w h) l.text (session_after w h) l.next turn))
 
-pub session_answered : (files : List File) (before : List (List ℕ)) (next : List ℕ) (lines : List Hosted) (hosted : Hosted) (session : HostSession) → map host_read before ≡ map Some lines → host_read next ≡ Some hosted → LeadsTo host_turn (begun files) before next session → Says host_turn host_ending (begun files) before next (said_by files lines hosted)
+pub session_answered : (files : List File) (before : List (List ℕ)) (next : List ℕ) (lines : List Hosted) (hosted : Hosted) (session : HostSession) → map host_read before ≡ map Some lines → host_read next ≡ Some hosted → LeadsTo host_turn (host_begun files) before next session → Says host_turn host_ending (host_begun files) before next (said_by files lines hosted)
 session_answered files before next lines hosted session reads is leads =
-    says_next host_turn host_ending (begun files) session before next (said_by files lines hosted) leads
+    says_next host_turn host_ending (host_begun files) session before next (said_by files lines hosted) leads
     (subst (λ (o : Option Hosted). Begins (hosted_turn session o) (said_by files lines hosted)) (sym is)
-    (ap (λ (w : HostSession). said w hosted) (reaches (begun files) session 0 before lines reads leads.state) ∙ answered files lines hosted))
+    (ap (λ (w : HostSession). host_said w hosted) (reaches (host_begun files) session 0 before lines reads leads.state) ∙ answered files lines hosted))

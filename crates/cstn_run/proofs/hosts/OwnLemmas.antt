@@ -6,12 +6,12 @@ use Rattle.std.proofs.lemmas.List.{get_or-set_same, get_or-set_other, get_or-rep
 use Rattle.cstn_label.specs.Bounds.{Bound}
 use Rattle.cstn_net.specs.Networks.{Network, count}
 use Rattle.cstn_plan.specs.Plans.{PlanParts}
-use Rattle.cstn_exec.specs.Runs.{Run, start, called}
-use Rattle.cstn_exec.specs.Moves.{Refusal, moment_refusal, outcome_refusal}
+use Rattle.cstn_exec.specs.Runs.{Run, start_of_run, called}
+use Rattle.cstn_exec.specs.Moves.{EventRefusal, moment_refusal, outcome_refusal}
 use Rattle.cstn_exec.specs.Answers.{Event, Moment, See, AskDue, Answer, Names, Kept, Refused, DueAt, answer_to, moment_answer, see_answer, run_after, answers_from}
 use Rattle.cstn_run.specs.hosted.Hosts.{HostParts, Opened, nothing_open, plan_of_file, net_at, bounds_at, case_at, opened_anew}
-use Rattle.cstn_run.specs.hosted.Calls.{Call, CallOn, Open, AskFile, AskNamed, Pass, Close, Told, Denied, OutOfRange, answer_at, unless_refused, named_after, passed, case_after, answer_on, host_after, host_after_all, put_if, answers_to}
-use Rattle.cstn_run.specs.hosted.Own.{Own, own_with, is_on, own_calls_from, own_calls, calls_on, alone, last_from, named_from, answer_by_own, answer_by}
+use Rattle.cstn_run.specs.hosted.Calls.{HostCall, CallOn, Open, AskFile, AskNamed, Pass, Close, Told, Denied, OutOfRange, answer_at, unless_event_refused, named_after, event_passed, case_after, answer_on, host_after, host_after_all, put_if, answers_to}
+use Rattle.cstn_run.specs.hosted.Own.{Own, own_with, is_on, own_calls_from, own_calls, calls_on, answers_alone, last_from, named_from, answer_by_own, answer_by}
 use Rattle.cstn_run.specs.hosted.Examples.{on}
 use Rattle.cstn_run.proofs.hosts.Ids.{is_below, below_is, same_is, is_same, other_is, is_other}
 
@@ -35,12 +35,12 @@ last_told net bounds (f ∷ es) e run a = last_told net bounds es e (run_after n
 named_told : (net : Network) (bounds : List Bound) (e : Event) (run : Run) (before : List ℕ) → named_from before (answer_to net bounds run e ∷ []) ≡ named_after net bounds run before e
 named_told net bounds (Moment t) run before = at (moment_refusal net bounds run t)
   where
-    at : (r : Option Refusal) → named_from before (moment_answer net bounds run t r ∷ []) ≡ unless_refused before (called net bounds run t) r
+    at : (r : Option EventRefusal) → named_from before (moment_answer net bounds run t r ∷ []) ≡ unless_event_refused before (called net bounds run t) r
     at None = refl
     at (Some why) = refl
 named_told net bounds (See p v) run before = at (outcome_refusal net run p)
   where
-    at : (r : Option Refusal) → named_from before (see_answer r ∷ []) ≡ before
+    at : (r : Option EventRefusal) → named_from before (see_answer r ∷ []) ≡ before
     at None = refl
     at (Some why) = refl
 named_told net bounds AskDue run before = refl
@@ -66,8 +66,8 @@ named_more net bounds (f ∷ es) e run before =
 abbrev case_by : List PlanParts → Own → Opened
 case_by plans own = record {
   file = own.file;
-  run = run_from (net_at plans own.file) (bounds_at plans own.file) own.events (start (count (net_at plans own.file)));
-  named = named_from [] (alone (plan_of_file plans own.file) own.events);
+  run = run_from (net_at plans own.file) (bounds_at plans own.file) own.events (start_of_run (count (net_at plans own.file)));
+  named = named_from [] (answers_alone (plan_of_file plans own.file) own.events);
 }
 
 opens : (plans : List PlanParts) (file : ℕ) (inside want : Bool) → (if inside then (if want then None else Some (opened_anew plans file)) else None) ≡ option_map (case_by plans) (if inside && not want then Some (record { file = file; events = [] }) else None)
@@ -76,16 +76,16 @@ opens plans file true false = refl
 opens plans file false true = refl
 opens plans file false false = refl
 
-passes : (plans : List PlanParts) (own : Own) (e : Event) → passed plans (case_by plans own) e ≡ case_by plans (record { file = own.file; events = own.events ++ e ∷ [] })
+passes : (plans : List PlanParts) (own : Own) (e : Event) → event_passed plans (case_by plans own) e ≡ case_by plans (record { file = own.file; events = own.events ++ e ∷ [] })
 passes plans own e =
     let net = net_at plans own.file in
     let bounds = bounds_at plans own.file in
-    let first = start (count net) in
+    let first = start_of_run (count net) in
     ap (λ r. record { file = own.file; run = r; named = named_after net bounds (run_from net bounds own.events first) (named_from [] (answers_from net bounds own.events first)) e }) (sym (run_more net bounds own.events e first))
     ∙ ap (λ xs. record { file = own.file; run = run_from net bounds (own.events ++ e ∷ []) first; named = xs }) (sym (named_more net bounds own.events e first []))
 
 -- a call changes what the id is open over as it changes the id's own calls
-steps : (plans : List PlanParts) (own : Option Own) (call : Call) → case_after plans (option_map (case_by plans) own) call ≡ option_map (case_by plans) (own_with (length plans) own call)
+steps : (plans : List PlanParts) (own : Option Own) (call : HostCall) → case_after plans (option_map (case_by plans) own) call ≡ option_map (case_by plans) (own_with (length plans) own call)
 steps plans None (Open file want) = opens plans file (nat_lt file (length plans)) want
 steps plans None AskFile = refl
 steps plans None AskNamed = refl
@@ -98,7 +98,7 @@ steps plans (Some own) (Pass e) = ap Some (passes plans own e)
 steps plans (Some own) Close = refl
 
 -- the answer is the one by the id's own calls
-answers_own : (plans : List PlanParts) (id : ℕ) (own : Option Own) (call : Call) → answer_at plans id (option_map (case_by plans) own) call ≡ answer_by_own plans id own call
+answers_own : (plans : List PlanParts) (id : ℕ) (own : Option Own) (call : HostCall) → answer_at plans id (option_map (case_by plans) own) call ≡ answer_by_own plans id own call
 answers_own plans id None (Open file want) = refl
 answers_own plans id None AskFile = refl
 answers_own plans id None AskNamed = refl
@@ -107,13 +107,13 @@ answers_own plans id None Close = refl
 answers_own plans id (Some own) (Open file want) = refl
 answers_own plans id (Some own) AskFile = refl
 answers_own plans id (Some own) AskNamed = refl
-answers_own plans id (Some own) (Pass e) = ap Told (sym (last_told (net_at plans own.file) (bounds_at plans own.file) own.events e (start (count (net_at plans own.file))) Kept))
+answers_own plans id (Some own) (Pass e) = ap Told (sym (last_told (net_at plans own.file) (bounds_at plans own.file) own.events e (start_of_run (count (net_at plans own.file))) Kept))
 answers_own plans id (Some own) Close = refl
 
 -- ---- all ids
 
 -- a call on an id leaves unchanged what another id is open over
-pub leaves_case : (host : HostParts) (id other : ℕ) (call : Call) → other ≢ id → case_at (host_after host id call) other ≡ case_at host other
+pub leaves_case : (host : HostParts) (id other : ℕ) (call : HostCall) → other ≢ id → case_at (host_after host id call) other ≡ case_at host other
 leaves_case host id other call apart = at (nat_lt id 64)
   where
     at : (b : Bool) → slice_index_or (if b then slice_set host.cases id (case_after host.plans (case_at host id) call) else host.cases) other None ≡ slice_index_or host.cases other None
@@ -121,11 +121,11 @@ leaves_case host id other call apart = at (nat_lt id 64)
     at false = refl
 
 -- a call on an id changes what that id is open over as `case_after` says
-changes_case : (host : HostParts) (id : ℕ) (call : Call) → length host.cases ≡ 64 → id < 64 → case_at (host_after host id call) id ≡ case_after host.plans (case_at host id) call
+changes_case : (host : HostParts) (id : ℕ) (call : HostCall) → length host.cases ≡ 64 → id < 64 → case_at (host_after host id call) id ≡ case_after host.plans (case_at host id) call
 changes_case host id call size small = rw (is_below id 64 small) (get_or-set_same host.cases id (case_after host.plans (case_at host id) call) None (omega arith))
 
 -- a call leaves the number of ids as it is
-as_many : (host : HostParts) (id : ℕ) (call : Call) → length (host_after host id call).cases ≡ length host.cases
+as_many : (host : HostParts) (id : ℕ) (call : HostCall) → length (host_after host id call).cases ≡ length host.cases
 as_many host id call = at (nat_lt id 64)
   where
     at : (b : Bool) → length (if b then slice_set host.cases id (case_after host.plans (case_at host id) call) else host.cases) ≡ length host.cases
@@ -150,7 +150,7 @@ follows host own (c ∷ cs) id size small is =
     stepped false apart = leaves_case host c.id id c.call (other_is c.id id apart) ∙ is
 
 -- the answer to a call on an id is the one by its own calls
-pub answered : (plans : List PlanParts) (calls : List CallOn) (id : ℕ) (call : Call) → answer_on (host_after_all (nothing_open plans) calls) id call ≡ answer_by plans id (own_calls (length plans) calls id) call
+pub answered : (plans : List PlanParts) (calls : List CallOn) (id : ℕ) (call : HostCall) → answer_on (host_after_all (nothing_open plans) calls) id call ≡ answer_by plans id (own_calls (length plans) calls id) call
 answered plans calls id call = at (nat_lt id 64) refl
   where
     at : (b : Bool) → nat_lt id 64 ≡ b → (if b then answer_at (host_after_all (nothing_open plans) calls).plans id (case_at (host_after_all (nothing_open plans) calls) id) call else Denied (OutOfRange id)) ≡ (if b then answer_by_own plans id (if b then own_calls_from (length plans) None calls id else None) call else Denied (OutOfRange id))
@@ -169,7 +169,7 @@ own_append files own [] ys id = refl
 own_append files own (c ∷ cs) ys id = own_append files (if is_on id c then own_with files own c.call else own) cs ys id
 
 -- a call on an id adds nothing to the own calls of another id
-pub leaves_own : (files : ℕ) (calls : List CallOn) (id other : ℕ) (call : Call) → other ≢ id → own_calls files (calls ++ on id call ∷ []) other ≡ own_calls files calls other
+pub leaves_own : (files : ℕ) (calls : List CallOn) (id other : ℕ) (call : HostCall) → other ≢ id → own_calls files (calls ++ on id call ∷ []) other ≡ own_calls files calls other
 leaves_own files calls id other call apart = at (nat_lt other 64)
   where
     at : (b : Bool) → (if b then own_calls_from files None (calls ++ on id call ∷ []) other else None) ≡ (if b then own_calls_from files None calls other else None)
@@ -210,7 +210,7 @@ own_filtered files own (c ∷ cs) id = at (c.id == id) refl (own_filtered files 
         ∙ ap (λ b. own_calls_from files (if b then own_with files own c.call else own) cs id) (sym is)
 
 -- the same calls on an id give it the same answers
-pub apart : (plans : List PlanParts) (calls others : List CallOn) (id : ℕ) (call : Call) → calls_on id calls ≡ calls_on id others → answer_on (host_after_all (nothing_open plans) calls) id call ≡ answer_on (host_after_all (nothing_open plans) others) id call
+pub apart : (plans : List PlanParts) (calls others : List CallOn) (id : ℕ) (call : HostCall) → calls_on id calls ≡ calls_on id others → answer_on (host_after_all (nothing_open plans) calls) id call ≡ answer_on (host_after_all (nothing_open plans) others) id call
 apart plans calls others id call same = answered plans calls id call ∙ ap (λ o. answer_by plans id o call) own ∙ sym (answered plans others id call)
   where
     own : own_calls (length plans) calls id ≡ own_calls (length plans) others id
@@ -226,12 +226,12 @@ record Agree (h g : HostParts) (id : ℕ) : Type 0 where
   size : length h.cases ≡ 64
   also : length g.cases ≡ 64
 
-same_answer : (h g : HostParts) (id : ℕ) (call : Call) → Agree h g id → answer_on h id call ≡ answer_on g id call
+same_answer : (h g : HostParts) (id : ℕ) (call : HostCall) → Agree h g id → answer_on h id call ≡ answer_on g id call
 same_answer h g id call agree =
     ap (λ (ps : List PlanParts). if nat_lt id 64 then answer_at ps id (case_at h id) call else Denied (OutOfRange id)) agree.same_plans
     ∙ ap (λ o. if nat_lt id 64 then answer_at g.plans id o call else Denied (OutOfRange id)) agree.same_case
 
-same_after : (h g : HostParts) (id : ℕ) (call : Call) → Agree h g id → Agree (host_after h id call) (host_after g id call) id
+same_after : (h g : HostParts) (id : ℕ) (call : HostCall) → Agree h g id → Agree (host_after h id call) (host_after g id call) id
 same_after h g id call agree = record {
   same_plans = agree.same_plans;
   same_case = at (nat_lt id 64) refl;
@@ -251,7 +251,7 @@ same_after h g id call agree = record {
     at false is = agree.same_case
 
 -- a call on another id leaves two such hosts the same for the id
-same_still : (h g : HostParts) (id other : ℕ) (call : Call) → id ≢ other → Agree h g id → Agree (host_after h other call) g id
+same_still : (h g : HostParts) (id other : ℕ) (call : HostCall) → id ≢ other → Agree h g id → Agree (host_after h other call) g id
 same_still h g id other call apart agree = record {
   same_plans = agree.same_plans;
   same_case = leaves_case h other id call apart ∙ agree.same_case;

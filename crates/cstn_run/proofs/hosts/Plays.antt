@@ -7,7 +7,7 @@ use Rattle.cstn_reply.specs.Texts.{after_text}
 use Rattle.cstn_reply.specs.Sessions.{on_turn, script, play}
 use Rattle.cstn_reply.specs.declared.output.Outcome.{Outcome}
 use Rattle.cstn_reply.specs.declared.output.Outcome.TheVariants.{Good, Bad, Words, Document, Full, Unfinished, Script, Wide}
-use Rattle.cstn_run.specs.hosted.Sessions.{HostSession, unfinished, ended, hosted_turn, host_turn, host_ending}
+use Rattle.cstn_run.specs.hosted.Sessions.{HostSession, unfinished, host_ended, hosted_turn, host_turn, host_ending}
 
 -- a session ends in one of these ways
 abbrev pub IsEnd : Outcome → Type 0
@@ -20,7 +20,7 @@ IsEnd Unfinished = Unit {0}
 IsEnd Script = Unit {0}
 IsEnd Wide = ⊥
 
-ending_is : (found : Option (ℕ × ℕ)) → IsEnd (ended found).outcome
+ending_is : (found : Option (ℕ × ℕ)) → IsEnd (host_ended found).outcome
 ending_is None = tt
 ending_is (Some found) = tt
 

@@ -2,14 +2,14 @@
 use Rattle.std.specs.Prelude.{◌≡◌, ℕ, Bool, true, false, ◌==◌, nat_lt, if◌then◌else◌, List, [], ◌∷◌, ◌++◌, length, flat_map, Option, None, Some}
 use Rattle.std.specs.List.{filter}
 use Rattle.cstn_net.specs.Networks.{count}
-use Rattle.cstn_exec.specs.Runs.{Run, start, due}
+use Rattle.cstn_exec.specs.Runs.{Run, start_of_run, due}
 use Rattle.cstn_exec.specs.Answers.{answer_to, run_after}
 use Rattle.cstn_lines.specs.LiveLines.{Live}
 use Rattle.cstn_lines.specs.HostLines.{Hosted, opened, put_on, closed}
 use Rattle.cstn_run.specs.hosted.Calls.{InUse, NotOpen, OutOfRange, NotAFile}
 use Rattle.cstn_reply.specs.Texts.{line}
 use Rattle.cstn_reply.specs.Sessions.{Turn, more, last, wrong}
-use Rattle.cstn_run.specs.hosted.Sessions.{File, HostSession, begun, file_at, id_of, the_event, answer_lines, with_id, agreed_text, denied_text, said, session_after}
+use Rattle.cstn_run.specs.hosted.Sessions.{File, HostSession, host_begun, hosted_file, id_of, the_event, answer_lines, with_id, agreed_text, denied_text, host_said, session_after}
 
 -- the host line is on the id
 abbrev pub is_on : ℕ → Hosted → Bool
@@ -26,7 +26,7 @@ put_if false text later = later
 -- what a session says to the lines on one id, where it answers these host lines on any ids in turn
 abbrev pub said_to : ℕ → HostSession → List Hosted → List (List ℕ)
 said_to id session [] = []
-said_to id session (first ∷ lines) = put_if (is_on id first) (said session first) (said_to id (session_after session first) lines)
+said_to id session (first ∷ lines) = put_if (is_on id first) (host_said session first) (said_to id (session_after session first) lines)
 
 -- the session after host lines in turn
 abbrev pub after_all : HostSession → List Hosted → HostSession
@@ -35,7 +35,7 @@ after_all session (first ∷ lines) = after_all (session_after session first) li
 
 -- what is said to a host line after others, where no id was open before them
 abbrev pub said_after : List File → List Hosted → Hosted → List ℕ
-said_after files lines hosted = said (after_all (begun files) lines) hosted
+said_after files lines hosted = host_said (after_all (host_begun files) lines) hosted
 
 -- ---- a run alone
 
@@ -61,14 +61,14 @@ alone_said id file run (first ∷ lives) = flat_map (with_id id) (alone_lines fi
 -- the text of an answer
 abbrev pub turn_text : Turn Run → List ℕ
 turn_text (more text run) = text
-turn_text (last said) = said.text
+turn_text (last host_said) = host_said.text
 turn_text wrong = []
 
 -- the answer goes on from this run, or it is the last, and nothing is due in this run
-abbrev pub LeadsTo : File → Run → Turn Run → Type 0
-LeadsTo file next (more text run) = run ≡ next
-LeadsTo file next (last said) = due file.net file.bounds next ≡ None
-LeadsTo file next wrong = ⊥
+abbrev pub LeadsToRun : File → Run → Turn Run → Type 0
+LeadsToRun file next (more text run) = run ≡ next
+LeadsToRun file next (last host_said) = due file.net file.bounds next ≡ None
+LeadsToRun file next wrong = ⊥
 
 -- ---- an id's own lines
 
@@ -97,11 +97,11 @@ abbrev pub own_lines : List File → ℕ → List Hosted → Option Own
 own_lines files id lines = if nat_lt id 64 then own_from files None id lines else None
 
 abbrev pub own_file : List File → Own → File
-own_file files own = file_at files own.file
+own_file files own = hosted_file files own.file
 
 -- the run of the file's plan alone after the id's own lines
 abbrev pub own_run : List File → Own → Run
-own_run files own = alone_after_all (own_file files own) (start (count (own_file files own).net)) own.lives
+own_run files own = alone_after_all (own_file files own) (start_of_run (count (own_file files own).net)) own.lives
 
 -- What is said to a line on an id up to 63, by its own lines before. Where it isn't open, `open` of a file that is there opens
 -- it, and all else is refused. Where it is open, `open` is refused, `close` closes it, and to a live line the answer is that of a

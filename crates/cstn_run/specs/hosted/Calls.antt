@@ -4,23 +4,23 @@ use Rattle.cstn_label.specs.Bounds.{Bound}
 use Rattle.cstn_net.specs.Networks.{Network}
 use Rattle.cstn_plan.specs.Plans.{PlanParts}
 use Rattle.cstn_exec.specs.Runs.{Run, called}
-use Rattle.cstn_exec.specs.Moves.{Refusal, moment_refusal}
+use Rattle.cstn_exec.specs.Moves.{EventRefusal, moment_refusal}
 use Rattle.cstn_exec.specs.Answers.{Event, Moment, See, AskDue, Answer, Names, answer_to, run_after}
 use Rattle.cstn_run.specs.hosted.Hosts.{HostParts, Opened, net_at, bounds_at, case_at, opened_anew}
 
 -- a call on an id: `open` over a file, and whether it fails for want of memory; the question for the file, or for the
 -- time-points that were named last; an event that is passed to the executive; or `close`
-pub data Call : Type 0 where
-  Open : (file : ℕ) → (want : Bool) → Call
-  AskFile : Call
-  AskNamed : Call
-  Pass : (event : Event) → Call
-  Close : Call
+pub data HostCall : Type 0 where
+  Open : (file : ℕ) → (want : Bool) → HostCall
+  AskFile : HostCall
+  AskNamed : HostCall
+  Pass : (event : Event) → HostCall
+  Close : HostCall
 
 -- a call and its id
 pub record CallOn : Type 0 where
   pub id : ℕ
-  pub call : Call
+  pub call : HostCall
 
 -- why a call is denied before it reaches an executive
 pub data Denial : Type 0 where
@@ -46,7 +46,7 @@ abbrev pub opening : List PlanParts → ℕ → Bool → Option Opened
 opening plans file want = if nat_lt file (length plans) then (if want then None else Some (opened_anew plans file)) else None
 
 -- what is answered to a call on an id up to 63, by what it is open over
-abbrev pub answer_at : List PlanParts → ℕ → Option Opened → Call → HostAnswer
+abbrev pub answer_at : List PlanParts → ℕ → Option Opened → HostCall → HostAnswer
 answer_at plans id None (Open file want) = opening_answer plans file want
 answer_at plans id None AskFile = Denied (NotOpen id)
 answer_at plans id None AskNamed = Denied (NotOpen id)
@@ -58,26 +58,26 @@ answer_at plans id (Some c) AskNamed = Told (Names c.named)
 answer_at plans id (Some c) (Pass e) = Told (answer_to (net_at plans c.file) (bounds_at plans c.file) c.run e)
 answer_at plans id (Some c) Close = Agreed
 
-abbrev pub unless_refused : List ℕ → List ℕ → Option Refusal → List ℕ
-unless_refused before xs None = xs
-unless_refused before xs (Some why) = before
+abbrev pub unless_event_refused : List ℕ → List ℕ → Option EventRefusal → List ℕ
+unless_event_refused before xs None = xs
+unless_event_refused before xs (Some why) = before
 
 -- the time-points that were named last, after an event
 abbrev pub named_after : Network → List Bound → Run → List ℕ → Event → List ℕ
-named_after net bounds run before (Moment t) = unless_refused before (called net bounds run t) (moment_refusal net bounds run t)
+named_after net bounds run before (Moment t) = unless_event_refused before (called net bounds run t) (moment_refusal net bounds run t)
 named_after net bounds run before (See p v) = before
 named_after net bounds run before AskDue = before
 
 -- what the id is open over after an event was passed to its executive
-abbrev pub passed : List PlanParts → Opened → Event → Opened
-passed plans c e = record {
+abbrev pub event_passed : List PlanParts → Opened → Event → Opened
+event_passed plans c e = record {
   file = c.file;
   run = run_after (net_at plans c.file) (bounds_at plans c.file) c.run e;
   named = named_after (net_at plans c.file) (bounds_at plans c.file) c.run c.named e;
 }
 
 -- what the id is open over after a call on it
-abbrev pub case_after : List PlanParts → Option Opened → Call → Option Opened
+abbrev pub case_after : List PlanParts → Option Opened → HostCall → Option Opened
 case_after plans None (Open file want) = opening plans file want
 case_after plans None AskFile = None
 case_after plans None AskNamed = None
@@ -86,15 +86,15 @@ case_after plans None Close = None
 case_after plans (Some c) (Open file want) = Some c
 case_after plans (Some c) AskFile = Some c
 case_after plans (Some c) AskNamed = Some c
-case_after plans (Some c) (Pass e) = Some (passed plans c e)
+case_after plans (Some c) (Pass e) = Some (event_passed plans c e)
 case_after plans (Some c) Close = None
 
 -- what is answered to a call on an id
-abbrev pub answer_on : HostParts → ℕ → Call → HostAnswer
+abbrev pub answer_on : HostParts → ℕ → HostCall → HostAnswer
 answer_on host id call = if nat_lt id 64 then answer_at host.plans id (case_at host id) call else Denied (OutOfRange id)
 
 -- the host after a call on an id
-abbrev pub host_after : HostParts → ℕ → Call → HostParts
+abbrev pub host_after : HostParts → ℕ → HostCall → HostParts
 host_after host id call = record {
   plans = host.plans;
   cases = if nat_lt id 64 then slice_set host.cases id (case_after host.plans (case_at host id) call) else host.cases;

@@ -4,7 +4,7 @@ use Rattle.cstn_label.specs.Bounds.{Bound}
 use Rattle.cstn_net.specs.Networks.{Network, count}
 use Rattle.cstn_net.specs.Read.{the_network}
 use Rattle.cstn_plan.specs.Plans.{PlanParts, the_bounds}
-use Rattle.cstn_exec.specs.Runs.{Run, start}
+use Rattle.cstn_exec.specs.Runs.{Run, start_of_run}
 
 -- what an id is open over: the number of a plan, called a file, the run of that plan, and the time-points that were named at
 -- the run's last accepted moment
@@ -45,9 +45,9 @@ named_in None = []
 named_in (Some c) = c.named
 
 -- the time-points that the id's run named last
-abbrev pub named_at : HostParts → ℕ → List ℕ
-named_at host id = named_in (case_at host id)
+abbrev pub named_last : HostParts → ℕ → List ℕ
+named_last host id = named_in (case_at host id)
 
 -- what an id is open over when it has just been opened over the file: nothing of the plan is executed or seen
 abbrev pub opened_anew : List PlanParts → ℕ → Opened
-opened_anew plans file = record { file = file; run = start (count (net_at plans file)); named = [] }
+opened_anew plans file = record { file = file; run = start_of_run (count (net_at plans file)); named = [] }

@@ -3,8 +3,8 @@ use Rattle.std.specs.Prelude.{◌≡◌, ◌+◌, ℕ, List, ◌∷◌, ◌++◌
 use Rattle.cstn_net.specs.Networks.{IsWellFormed}
 use Rattle.cstn_net.specs.Strategies.{IsConsistent, IsLeast}
 use Rattle.cstn_exec.specs.Runs.{Run, due}
-use Rattle.cstn_exec.specs.Moves.{moved}
-use Rattle.cstn_exec.specs.Right.{IsPlan, IsCalled, AgreesKnown}
+use Rattle.cstn_exec.specs.Moves.{run_moved}
+use Rattle.cstn_exec.specs.Right.{IsPlanBounds, IsCalled, AgreesKnown}
 use Rattle.cstn_lines.specs.LiveLines.{moment_at, due_now}
 use Rattle.cstn_lines.specs.HostLines.{Hosted, put_on}
 use Rattle.cstn_exec.specs.Running.{spaced}
@@ -18,12 +18,12 @@ abbrev pub HasStrategy : Named → Type 0
 HasStrategy named = IsWellFormed named.net × IsConsistent named.net
 
 -- the bounds of a file are those of a plan of its network
-abbrev pub HasPlan : File → Type 0
-HasPlan file = IsPlan file.net file.bounds
+abbrev pub HasPlanBounds : File → Type 0
+HasPlanBounds file = IsPlanBounds file.net file.bounds
 
 -- what is due in a run of a file's plan after the moment t, where that is accepted
 abbrev pub due_then : File → Run → ℕ → Option ℕ
-due_then file run t = due file.net file.bounds (moved file.net file.bounds run t)
+due_then file run t = due file.net file.bounds (run_moved file.net file.bounds run t)
 
 -- a line is said that names these time-points at t, and a line `done` after it where nothing is due then
 abbrev pub SaysMoment : List File → List Hosted → ℕ → ℕ → Own → List ℕ → Type 0

@@ -4,7 +4,7 @@ use Rattle.std.specs.List.{All}
 use Rattle.std.specs.Option.{option_map}
 use Rattle.std.specs.Prelude.{IfSome}
 use Rattle.cstn_plan.specs.Plans.{PlanParts}
-use Rattle.cstn_exec.specs.Read.{the_refusal}
+use Rattle.cstn_exec.specs.Read.{the_event_refusal}
 use Rattle.cstn_exec.specs.Answers.{Refused}
 use Rattle.cstn_run.specs.declared.hosted.cases.Case.{Case}
 use Rattle.cstn_run.specs.declared.hosted.errors.HostError.{HostError}
@@ -20,7 +20,7 @@ abbrev pub the_cases : List (Option Case) → List (Option Opened)
 the_cases cases = map (option_map the_opened) cases
 
 -- the executive has a copy of the file's plan
-pub record IsOver (plans : List PlanParts) (c : Case) : Type 0 where
+pub record IsOverPlan (plans : List PlanParts) (c : Case) : Type 0 where
   pub inside : c.file < length plans
   pub net : c.executive.net ≡ record (plan_of_file plans c.file).net { spare = 0 }
   pub bounds : c.executive.bounds ≡ (plan_of_file plans c.file).bounds
@@ -30,7 +30,7 @@ pub record IsHost (plans : List PlanParts) (cases : List (Option Case)) : Type 0
   pub some : 1 ≤ length plans
   pub few : length plans ≤ 8
   pub ids : length cases ≡ 64
-  pub over : All (λ c. IfSome c (IsOver plans)) cases
+  pub over : All (λ c. IfSome c (IsOverPlan plans)) cases
 
 -- what an error tells
 abbrev pub the_denial : HostError → HostAnswer
@@ -38,7 +38,7 @@ the_denial (IdInUse id) = Denied (InUse id)
 the_denial (NoSuchPlan id) = Denied (NotOpen id)
 the_denial (IdRange id) = Denied (OutOfRange id)
 the_denial (NoFile file) = Denied (NotAFile file)
-the_denial (Exec e) = Told (Refused (the_refusal e))
+the_denial (Exec e) = Told (Refused (the_event_refusal e))
 the_denial (Memory e) = Denied NoMemory
 
 -- the answer that a result stands for: `told` of the value where the call was accepted, and else what the error tells

@@ -6,7 +6,7 @@ use Rattle.cstn_net.specs.Networks.{Network, count}
 use Rattle.cstn_net.specs.Read.{the_network}
 use Rattle.cstn_lines.specs.LiveLines.{Live, moment_at, seen, due_now}
 use Rattle.cstn_lines.specs.HostLines.{Hosted, opened, put_on, closed, host_read}
-use Rattle.cstn_exec.specs.Runs.{Run, start, due}
+use Rattle.cstn_exec.specs.Runs.{Run, start_of_run, due}
 use Rattle.cstn_exec.specs.Answers.{Event, Moment, See, AskDue, Answer, Names, Kept, Refused, DueAt, answer_to, run_after}
 use Rattle.cstn_run.specs.hosted.Hosts.{no_plan}
 use Rattle.cstn_run.specs.hosted.Calls.{Denial, InUse, NotOpen, OutOfRange, NotAFile, NoMemory, HostAnswer, Agreed, FileIs, Told, Denied}
@@ -32,15 +32,15 @@ pub record HostSession : Type 0 where
   pub cases : List (Option Case)
 
 -- no id is open
-abbrev pub begun : List File → HostSession
-begun files = record { files = files; cases = replicate 64 None }
+abbrev pub host_begun : List File → HostSession
+host_begun files = record { files = files; cases = replicate 64 None }
 
 -- what stands for a file that isn't there
 abbrev pub no_file : File
 no_file = record { names = []; net = the_network no_plan.net; bounds = [] }
 
-abbrev pub file_at : List File → ℕ → File
-file_at files k = slice_index_or files k no_file
+abbrev pub hosted_file : List File → ℕ → File
+hosted_file files k = slice_index_or files k no_file
 
 -- what the id is open over, if it is open
 abbrev pub case_of : HostSession → ℕ → Option Case
@@ -48,7 +48,7 @@ case_of session id = slice_index_or session.cases id None
 
 -- what an id is open over when it was just opened: a run of the file's plan in which nothing is executed or seen
 abbrev pub fresh : List File → ℕ → Case
-fresh files file = record { file = file; run = start (count (file_at files file).net) }
+fresh files file = record { file = file; run = start_of_run (count (hosted_file files file).net) }
 
 -- the id of a host line
 abbrev pub id_of : Hosted → ℕ
@@ -68,7 +68,7 @@ the_event due_now = AskDue
 abbrev pub passed_on : List File → Case → Live → Case
 passed_on files c live = record {
   file = c.file;
-  run = run_after (file_at files c.file).net (file_at files c.file).bounds c.run (the_event live);
+  run = run_after (hosted_file files c.file).net (hosted_file files c.file).bounds c.run (the_event live);
 }
 
 -- what the id of a host line is open over after it
@@ -86,7 +86,7 @@ answer_in files None (opened id file) = if nat_lt file (length files) then Agree
 answer_in files None (put_on id live) = Denied (NotOpen id)
 answer_in files None (closed id) = Denied (NotOpen id)
 answer_in files (Some c) (opened id file) = Denied (InUse id)
-answer_in files (Some c) (put_on id live) = Told (answer_to (file_at files c.file).net (file_at files c.file).bounds c.run (the_event live))
+answer_in files (Some c) (put_on id live) = Told (answer_to (hosted_file files c.file).net (hosted_file files c.file).bounds c.run (the_event live))
 answer_in files (Some c) (closed id) = Agreed
 
 -- ---- answers in words
@@ -118,13 +118,13 @@ answer_lines names due live (Refused why) = refused_text why ∷ []
 answer_lines names due live (DueAt t) = due_text t ∷ []
 
 -- the live line of a host line; one that opens or closes an id has none, and `due` stands for it, which no executive answers
-abbrev pub live_of : Hosted → Live
-live_of (opened id file) = due_now
-live_of (put_on id live) = live
-live_of (closed id) = due_now
+abbrev pub live_line_of : Hosted → Live
+live_line_of (opened id file) = due_now
+live_line_of (put_on id live) = live
+live_line_of (closed id) = due_now
 
 abbrev pub told_text : List (List ℕ) → Option ℕ → Hosted → Answer → List ℕ
-told_text names due hosted answer = flat_map (with_id (id_of hosted)) (answer_lines names due (live_of hosted) answer)
+told_text names due hosted answer = flat_map (with_id (id_of hosted)) (answer_lines names due (live_line_of hosted) answer)
 
 abbrev pub agreed_text : Hosted → List ℕ
 agreed_text (opened id file) = line (codes "opened " ++ decimal id)
@@ -148,12 +148,12 @@ answer_text names due hosted (Denied why) = line (denied_text why)
 
 abbrev pub names_in : List File → Option Case → List (List ℕ)
 names_in files None = []
-names_in files (Some c) = (file_at files c.file).names
+names_in files (Some c) = (hosted_file files c.file).names
 
 -- the moment that is due, if the id is open and not all is executed
 abbrev pub due_in : List File → Option Case → Option ℕ
 due_in files None = None
-due_in files (Some c) = due (file_at files c.file).net (file_at files c.file).bounds c.run
+due_in files (Some c) = due (hosted_file files c.file).net (hosted_file files c.file).bounds c.run
 
 -- what is said to a host line, by what its id is open over
 abbrev pub said_in : List File → Option Case → Hosted → List ℕ
@@ -162,8 +162,8 @@ said_in files case hosted = answer_text (names_in files case) (due_in files (cas
 -- ---- the session
 
 -- what is said to a host line
-abbrev pub said : HostSession → Hosted → List ℕ
-said session hosted =
+abbrev pub host_said : HostSession → Hosted → List ℕ
+host_said session hosted =
     if nat_lt (id_of hosted) 64 then said_in session.files (case_of session (id_of hosted)) hosted else line (denied_text (OutOfRange (id_of hosted)))
 
 -- the session after a host line
@@ -176,7 +176,7 @@ session_after session hosted = record {
 -- the answer to what a host line says
 abbrev pub hosted_turn : HostSession → Option Hosted → Turn HostSession
 hosted_turn session None = wrong
-hosted_turn session (Some hosted) = more (said session hosted) (session_after session hosted)
+hosted_turn session (Some hosted) = more (host_said session hosted) (session_after session hosted)
 
 -- the answer to a host line
 abbrev pub host_turn : HostSession → List ℕ → Turn HostSession
@@ -194,23 +194,23 @@ abbrev pub host_wants : List ℕ → Bool
 host_wants text = is_opening (host_read text)
 
 -- the first of two, or the second where there is no first
-abbrev pub or_later : Option (ℕ × ℕ) → Option (ℕ × ℕ) → Option (ℕ × ℕ)
-or_later (Some found) later = Some found
-or_later None later = later
+abbrev pub or_second : Option (ℕ × ℕ) → Option (ℕ × ℕ) → Option (ℕ × ℕ)
+or_second (Some found) later = Some found
+or_second None later = later
 
 -- of n ids from `id` on, the least that is open and has something due, and the moment that is due there
 abbrev pub due_from : HostSession → ℕ → ℕ → Option (ℕ × ℕ)
 due_from session id zero = None
-due_from session id (suc n) = or_later (option_map (λ t. (id, t)) (due_in session.files (case_of session id))) (due_from session (id + 1) n)
+due_from session id (suc n) = or_second (option_map (λ t. (id, t)) (due_in session.files (case_of session id))) (due_from session (id + 1) n)
 
 -- the least open id of which not all is executed, and the moment that is due there
 unfoldable pub unfinished : HostSession → Option (ℕ × ℕ)
 unfinished session = due_from session 0 64
 
-abbrev pub ended : Option (ℕ × ℕ) → Said
-ended None = record { outcome = Good; text = [] }
-ended (Some found) = say Unfinished (codes "unfinished " ++ decimal found.0 ++ 32 ∷ decimal found.1)
+abbrev pub host_ended : Option (ℕ × ℕ) → Said
+host_ended None = record { outcome = Good; text = [] }
+host_ended (Some found) = say Unfinished (codes "unfinished " ++ decimal found.0 ++ 32 ∷ decimal found.1)
 
 -- what is said where the host lines end
 abbrev pub host_ending : HostSession → Said
-host_ending session = ended (unfinished session)
+host_ending session = host_ended (unfinished session)

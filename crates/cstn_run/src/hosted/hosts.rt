@@ -1,10 +1,10 @@
 ghost use Rattle.std.specs.Prelude.{◌≡◌, ◌<◌, ◌≤◌, [], false, length, replicate, None, IfOk, IfErr, OnErr};
 ghost use Rattle.cstn_net.specs.Networks.{count};
 ghost use Rattle.cstn_net.specs.Read.{the_network};
-ghost use Rattle.cstn_exec.specs.Runs.{start};
+ghost use Rattle.cstn_exec.specs.Runs.{start_of_run};
 ghost use Rattle.cstn_exec.specs.Answers.{Moment, See, AskDue, Names, Kept, DueAt};
 ghost use Rattle.cstn_exec.specs.Running.{the_nodes};
-ghost use Rattle.cstn_run.specs.hosted.Hosts.{nothing_open, named_at};
+ghost use Rattle.cstn_run.specs.hosted.Hosts.{nothing_open, named_last};
 ghost use Rattle.cstn_run.specs.hosted.Calls.{Open, AskFile, AskNamed, Pass, Close, Agreed, FileIs, Told, answer_on, host_after};
 ghost use Rattle.cstn_run.specs.hosted.Read.{answer_of, in_want};
 
@@ -122,7 +122,7 @@ impl Host {
     /// returns them. Refused with the first that applies of `IdRange`, `NoSuchPlan`, and `Exec` with the reason of
     /// [`Executive::moment`].
     pub fn moment(&mut self, id: u32, t: u32) -> Result<(), HostError>
-        ensures answer { answer_of (λ _. Told (Names (named_at self.new id))) result ≡ answer_on self.old id (Pass (Moment t)) }
+        ensures answer { answer_of (λ _. Told (Names (named_last self.new id))) result ≡ answer_on self.old id (Pass (Moment t)) }
         ensures memory { in_want result ≡ false }
         ensures after { self.new ≡ host_after self.old id (Pass (Moment t)) }
         ensures same { OnErr result (self.new ≡ self.old) }
@@ -179,7 +179,7 @@ fn start_copy(alloc: Global, plan: &SoundPlan) -> Result<Executive, AllocError>
     ensures { IfOk result (λ e. e ≡ record {
       net = record plan.now.net { spare = 0 };
       bounds = plan.now.bounds;
-      run = start (count (the_network plan.now.net));
+      run = start_of_run (count (the_network plan.now.net));
       named = [];
     }) }
 {

@@ -8,12 +8,12 @@ ghost use Rattle.cstn_lines.specs.HostLines.{Hosted, opened, put_on, closed, hos
 ghost use Rattle.cstn_reply.specs.Texts.{line};
 ghost use Rattle.cstn_exec.specs.Running.{run_turn};
 ghost use Rattle.cstn_reply.specs.Reached.{LeadsTo as SessionLeadsTo, Says};
-ghost use Rattle.cstn_run.specs.hosted.Sessions.{File, HostSession, begun, file_at, fresh, agreed_text, session_after, host_turn, host_ending};
+ghost use Rattle.cstn_run.specs.hosted.Sessions.{File, HostSession, host_begun, hosted_file, fresh, agreed_text, session_after, host_turn, host_ending};
 ghost use Rattle.cstn_run.specs.hosted.Alone.{Own, lines_on, said_to, after_all, said_after, alone_lines};
-ghost use Rattle.cstn_run.specs.hosted.Alone.{alone_after, alone_said, turn_text, LeadsTo, own_lines};
+ghost use Rattle.cstn_run.specs.hosted.Alone.{alone_after, alone_said, turn_text, LeadsToRun, own_lines};
 ghost use Rattle.cstn_run.specs.hosted.Alone.{own_file, own_run, said_by};
 ghost use Rattle.cstn_run.specs.hosted.Files.{Named, the_file};
-ghost use Rattle.cstn_run.specs.hosted.Least.{HasStrategy, HasPlan, HostNamesLeast, HostTellsDue};
+ghost use Rattle.cstn_run.specs.hosted.Least.{HasStrategy, HasPlanBounds, HostNamesLeast, HostTellsDue};
 
 use cstn_check::growth_decides;
 use cstn_exec::{due_is_exact, runs_stay_right, the_named_are_called};
@@ -22,7 +22,7 @@ use cstn_exec::{due_is_exact, runs_stay_right, the_named_are_called};
 /// between.
 pub fn lines_of_other_ids_make_no_difference()
     ensures each { (files : List File) (lines others : List Hosted) (id : ℕ) → lines_on id lines ≡ lines_on id others
-        → said_to id (begun files) lines ≡ said_to id (begun files) others }
+        → said_to id (host_begun files) lines ≡ said_to id (host_begun files) others }
 {}
 
 /// After any host lines, the answer to a line depends only on the files and on the own lines of its id: those since the last
@@ -31,8 +31,8 @@ pub fn lines_of_other_ids_make_no_difference()
 pub fn answers_follow_own_lines()
     ensures answer { (files : List File) (lines : List Hosted) (hosted : Hosted) → said_after files lines hosted ≡ said_by files lines hosted }
     ensures text { (files : List File) (before : List (List ℕ)) (next : List ℕ) (lines : List Hosted) (hosted : Hosted) (session : HostSession)
-        → map host_read before ≡ map Some lines → host_read next ≡ Some hosted → SessionLeadsTo host_turn (begun files) before next session
-        → Says host_turn host_ending (begun files) before next (said_by files lines hosted) }
+        → map host_read before ≡ map Some lines → host_read next ≡ Some hosted → SessionLeadsTo host_turn (host_begun files) before next session
+        → Says host_turn host_ending (host_begun files) before next (said_by files lines hosted) }
 {}
 
 /// Whatever lines came before, where `open` of an id is answered by `opened`, the live lines that follow on the id are answered
@@ -41,8 +41,8 @@ pub fn answers_follow_own_lines()
 pub fn ids_are_answered_alone()
     ensures alone { (files : List File) (before lines : List Hosted) (id file : ℕ) (lives : List Live)
         → said_after files before (opened id file) ≡ agreed_text (opened id file) → lines_on id lines ≡ map (put_on id) lives
-        → said_to id (session_after (after_all (begun files) before) (opened id file)) lines
-        ≡ alone_said id (file_at files file) (fresh files file).run lives }
+        → said_to id (session_after (after_all (host_begun files) before) (opened id file)) lines
+        ≡ alone_said id (hosted_file files file) (fresh files file).run lives }
 {}
 
 /// An id that is closed isn't open, whatever lines came before, and once it is opened again it has no earlier lines of its own.
@@ -57,10 +57,10 @@ pub fn reopened_ids_have_no_earlier_lines()
 /// id, whatever lines came before, an accepted moment names exactly the time-points that aren't executed yet and whose least
 /// moment it is, in each scenario that agrees with what is known; and `due` tells the due moment, or that all is done.
 pub fn open_ids_name_the_least()
-    ensures planned { (all : List Named) → All HasStrategy all → All HasPlan (map the_file all) }
-    ensures least { (files : List File) (lines : List Hosted) (id t : ℕ) (own : Own) → All HasPlan files → own_lines files id lines ≡ Some own
+    ensures planned { (all : List Named) → All HasStrategy all → All HasPlanBounds (map the_file all) }
+    ensures least { (files : List File) (lines : List Hosted) (id t : ℕ) (own : Own) → All HasPlanBounds files → own_lines files id lines ≡ Some own
         → moment_refusal (own_file files own).net (own_file files own).bounds (own_run files own) t ≡ None → HostNamesLeast files lines id t own }
-    ensures due { (files : List File) (lines : List Hosted) (id : ℕ) (own : Own) → All HasPlan files → own_lines files id lines ≡ Some own
+    ensures due { (files : List File) (lines : List Hosted) (id : ℕ) (own : Own) → All HasPlanBounds files → own_lines files id lines ≡ Some own
         → HostTellsDue files lines id own }
 {
     growth_decides();
@@ -76,5 +76,5 @@ pub fn runs_answer_alone()
     ensures text { (file : File) (run : Run) (live : Live) (bytes : List ℕ) → live_read bytes ≡ Some live
         → turn_text (run_turn file.names file.net file.bounds run bytes) ≡ flat_map line (alone_lines file run live) }
     ensures leads { (file : File) (run : Run) (live : Live) (bytes : List ℕ) → live_read bytes ≡ Some live
-        → LeadsTo file (alone_after file run live) (run_turn file.names file.net file.bounds run bytes) }
+        → LeadsToRun file (alone_after file run live) (run_turn file.names file.net file.bounds run bytes) }
 {}

@@ -4,7 +4,7 @@ ghost use Rattle.cstn_lines.specs.LiveLines.{moment_at, seen, due_now, the_live}
 ghost use Rattle.cstn_lines.specs.HostLines.{opened, put_on, closed};
 ghost use Rattle.cstn_exec.specs.Runs.{due};
 ghost use Rattle.cstn_run.specs.hosted.Hosts.{Opened, net_at, bounds_at, case_at};
-ghost use Rattle.cstn_run.specs.hosted.Sessions.{begun, case_of, due_in, said, unfinished, session_after, host_turn, host_wants, host_ending};
+ghost use Rattle.cstn_run.specs.hosted.Sessions.{host_begun, case_of, due_in, host_said, unfinished, session_after, host_turn, host_wants, host_ending};
 ghost use Rattle.cstn_run.specs.hosted.Sessions.{HostSession as SessionState};
 ghost use Rattle.cstn_run.specs.hosted.SessionRead.{the_files, the_host_session, the_names, IsHostSession};
 
@@ -47,7 +47,7 @@ impl HostSession {
         requires some { 1 ≤ length plans.items }
         requires few { length plans.items ≤ 8 }
         requires named { IsHostSession plans.items (the_names names.items) }
-        ensures start { IfOk result (λ w. the_host_session w ≡ begun (the_files plans.items (the_names names.items))) }
+        ensures start { IfOk result (λ w. the_host_session w ≡ host_begun (the_files plans.items (the_names names.items))) }
     {
         let host = Host::start(alloc, plans)?;
         Ok(HostSession { host, names })
@@ -56,7 +56,7 @@ impl HostSession {
     // Opens an id over a file.
     fn open(&mut self, id: u32, file: u32, text: &mut AnswerText) -> Result<(), AllocError>
         requires empty { text.old ≡ [] }
-        ensures said { OnOk result (said (the_host_session self.old) (opened id file) ≡ text.new) }
+        ensures said { OnOk result (host_said (the_host_session self.old) (opened id file) ≡ text.new) }
         ensures after { OnOk result (session_after (the_host_session self.old) (opened id file) ≡ the_host_session self.new) }
     {
         match self.host.open(id, file) {
@@ -71,7 +71,7 @@ impl HostSession {
     // Closes an id.
     fn close(&mut self, id: u32, text: &mut AnswerText) -> Result<(), AllocError>
         requires empty { text.old ≡ [] }
-        ensures said { OnOk result (said (the_host_session self.old) (closed id) ≡ text.new) }
+        ensures said { OnOk result (host_said (the_host_session self.old) (closed id) ≡ text.new) }
         ensures after { OnOk result (session_after (the_host_session self.old) (closed id) ≡ the_host_session self.new) }
         ensures memory { OnErr result ⊥ }
     {
@@ -87,7 +87,7 @@ impl HostSession {
     // Answers a live line on an id.
     fn pass(&mut self, id: u32, line: LiveLine, text: &mut AnswerText) -> Result<(), AllocError>
         requires empty { text.old ≡ [] }
-        ensures said { OnOk result (said (the_host_session self.old) (put_on id (the_live line)) ≡ text.new) }
+        ensures said { OnOk result (host_said (the_host_session self.old) (put_on id (the_live line)) ≡ text.new) }
         ensures after { OnOk result (session_after (the_host_session self.old) (put_on id (the_live line)) ≡ the_host_session self.new) }
         ensures memory { OnErr result ⊥ }
     {
@@ -101,7 +101,7 @@ impl HostSession {
     // Answers a moment of an id.
     fn moment(&mut self, id: u32, t: u32, text: &mut AnswerText) -> Result<(), AllocError>
         requires empty { text.old ≡ [] }
-        ensures said { OnOk result (said (the_host_session self.old) (put_on id (moment_at t)) ≡ text.new) }
+        ensures said { OnOk result (host_said (the_host_session self.old) (put_on id (moment_at t)) ≡ text.new) }
         ensures after { OnOk result (session_after (the_host_session self.old) (put_on id (moment_at t)) ≡ the_host_session self.new) }
         ensures memory { OnErr result ⊥ }
     {
@@ -144,7 +144,7 @@ impl HostSession {
         text: &mut AnswerText,
     ) -> Result<(), AllocError>
         requires empty { text.old ≡ [] }
-        ensures said { OnOk result (said (the_host_session self.old) (put_on id (seen prop.index value)) ≡ text.new) }
+        ensures said { OnOk result (host_said (the_host_session self.old) (put_on id (seen prop.index value)) ≡ text.new) }
         ensures after { OnOk result (session_after (the_host_session self.old) (put_on id (seen prop.index value)) ≡ the_host_session self.new) }
         ensures memory { OnErr result ⊥ }
     {
@@ -161,7 +161,7 @@ impl HostSession {
     // Answers what is due of an id.
     fn due(&self, id: u32, text: &mut AnswerText) -> Result<(), AllocError>
         requires empty { text.old ≡ [] }
-        ensures said { OnOk result (said (the_host_session self.now) (put_on id due_now) ≡ text.new) }
+        ensures said { OnOk result (host_said (the_host_session self.now) (put_on id due_now) ≡ text.new) }
         ensures memory { OnErr result ⊥ }
     {
         match self.host.due(id) {

@@ -2,10 +2,11 @@
 use Rattle.std.specs.Prelude.{ℕ, List, ◌++◌, codes}
 use Rattle.cstn_lift.specs.Read.{the_labelled}
 use Rattle.cstn_save.specs.Canonical.{canonical}
+use Rattle.cstn_follow.specs.Digests.{digest_line}
 use Rattle.cstn_follow.specs.Following.{Following, begun_following, verdict_now, verdict_line}
 use Rattle.cstn_follow.specs.Marks.{Marked, begun_marked, marked_turn_by, marked_ending}
 use Rattle.cstn_follow.specs.declared.following.Heard.{Heard as HeardText}
-use Rattle.cstn_follow.specs.declared.following.Heard.TheVariants.{Text, Rest}
+use Rattle.cstn_follow.specs.declared.following.Heard.TheVariants.{Text, Rest, Digest}
 use Rattle.cstn_reply.specs.Texts.{line}
 use Rattle.cstn_reply.specs.Sessions.{Turn}
 use Rattle.cstn_top.specs.Plans.{ended_session}
@@ -15,8 +16,9 @@ use Rattle.cstn_top.specs.Answers.{LabelledAnswer}
 abbrev pub heard_text : HeardText → List ℕ
 heard_text (Text text) = text.items
 heard_text (Rest network names) = canonical (the_labelled network) names
+heard_text (Digest network names) = digest_line (canonical (the_labelled network) names)
 
--- the answer to a line, which may be none of the session; what is left is written as its canonical document
+-- the answer to a line, which may be none of the session; documents are the canonical ones
 abbrev pub marked_turn : Marked → List ℕ → Turn Marked
 marked_turn = marked_turn_by canonical
 

@@ -2,7 +2,7 @@
 use Rattle.std.specs.Prelude.{◌⊎◌, ℕ, List, [], ◌∷◌, ◌++◌, map, Option}
 use Rattle.cstn_net.specs.Networks.{Network}
 use Rattle.cstn_check.specs.Decisions.{verdict, IsYes}
-use Rattle.cstn_run.specs.hosted.Sessions.{begun, host_turn, host_wants, host_ending}
+use Rattle.cstn_run.specs.hosted.Sessions.{host_begun, host_turn, host_wants, host_ending}
 use Rattle.cstn_run.specs.hosted.Files.{Named, the_file, yes_lines}
 use Rattle.cstn_request.specs.Documents.{HasNetwork, IsRefused}
 use Rattle.cstn_top.specs.Plans.{Plan, wanting_session}
@@ -22,7 +22,7 @@ on_verdicts cap after_yes (named ∷ rest) = plan_on_verdict cap named.names nam
 
 -- what is said of networks: where each verdict is yes, these lines and then the answers to the host lines
 abbrev pub attended : ℕ → List Named → Plan
-attended cap all = on_verdicts cap (wanting_session host_wants host_turn host_ending (yes_lines all) (begun (map the_file all))) all
+attended cap all = on_verdicts cap (wanting_session host_wants host_turn host_ending (yes_lines all) (host_begun (map the_file all))) all
 
 -- what `host` says of files with these contents
 abbrev pub hosted_plan : ℕ → Option ℕ → List (List ℕ) → Plan

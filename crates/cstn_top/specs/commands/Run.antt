@@ -7,7 +7,7 @@ use Rattle.cstn_lift.specs.Labelled.{Labelled}
 use Rattle.cstn_lift.specs.Lowered.{lowered}
 use Rattle.cstn_check.specs.Growth.{log_of, load_of, live_bounds}
 use Rattle.cstn_check.specs.Decisions.{verdict}
-use Rattle.cstn_exec.specs.Guides.{begun}
+use Rattle.cstn_exec.specs.Guides.{guide_begun}
 use Rattle.cstn_reply.specs.Texts.{yes_line}
 use Rattle.cstn_run.specs.Sessions.{guide_turn, guide_ending}
 use Rattle.cstn_top.specs.Plans.{session}
@@ -18,7 +18,7 @@ abbrev pub run_answer : ℕ → LabelledAnswer
 run_answer cap names m =
     plan_on_verdict cap names (lowered m)
     (session (guide_turn (map printed_name names) m (live_bounds (log_of (lowered m)))) (guide_ending m (live_bounds (log_of (lowered m))))
-    (yes_line (load_of (lowered m))) (begun (count m.base)))
+    (yes_line (load_of (lowered m))) (guide_begun (count m.base)))
     (verdict cap (lowered m))
 
 -- the bounds by which a labelled network is carried out: those of the live entries of the log of the lowered network

@@ -26,6 +26,7 @@ use super::run::run_session;
 use super::save::save_text;
 use super::sentences::sentences_text;
 use super::version::version_text;
+use cstn_cases::cases_text;
 use cstn_check::check_text;
 use cstn_closed::closedcheck_text;
 use cstn_conflict::conflict_text;
@@ -125,7 +126,7 @@ fn answer_network(
     }
 }
 
-// What is said of a labelled network: the answers to the lines of a session.
+// What is said of a labelled network: the answers to the lines of a session, or a text.
 fn answer_labelled(
     alloc: Global,
     verb: LabelledVerb,
@@ -140,6 +141,10 @@ fn answer_labelled(
     match verb {
         LabelledVerb::Follow => { follow_session(alloc, document.labelled, document.names, cap) }
         LabelledVerb::Run => run_session(alloc, document.labelled, &document.names, cap),
+        LabelledVerb::Cases => {
+            let said = cases_text(alloc, document.labelled, &document.names, cap)?;
+            Ok(Prepared::Says(said))
+        }
     }
 }
 

@@ -16,7 +16,7 @@ ghost use Rattle.cstn_top.specs.commands.Follow.{heard_text, marked_turn, follow
 
 use super::Prepared;
 use cstn_check::Verdict;
-use cstn_follow::{Heard, Marked, read_saying};
+use cstn_follow::{Heard, Marked, digest_line, read_saying};
 use cstn_lift::Labelled;
 use cstn_log::Cap;
 use cstn_reply::{Answer, AnswerText, Outcome, Talk};
@@ -72,7 +72,7 @@ impl Talk for Follower {
     }
 }
 
-// Puts what is said to a line: a text, or the canonical document of what is left.
+// Puts what is said to a line: a text, the canonical document of what is left, or the digest of that of the plan.
 fn put_heard(alloc: Global, heard: Heard, text: &mut AnswerText) -> Result<(), AllocError>
     requires empty { text.old ≡ [] }
     requires said { (names : List (List ℕ)) × (slice_get names 0 ≡ Some (codes "Z")) × IsSaidFor names heard }
@@ -84,6 +84,12 @@ fn put_heard(alloc: Global, heard: Heard, text: &mut AnswerText) -> Result<(), A
         Heard::Rest { network, names } => {
             let document = write(alloc, &network, &names)?;
             text.extend(&document)?;
+            Ok(())
+        }
+        Heard::Digest { network, names } => {
+            let document = write(alloc, &network, &names)?;
+            let line = digest_line(alloc, &document)?;
+            text.extend(&line)?;
             Ok(())
         }
     }

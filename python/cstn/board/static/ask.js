@@ -5,6 +5,7 @@ import { tell } from "./telling.js";
 import { sentence } from "./words.js";
 
 const dialog = document.getElementById("ask");
+const PAUSE = 300;
 
 function next(answer, page) {
   if (answer.over) return "Then all is done.";
@@ -24,6 +25,12 @@ export function outcome(answer, page) {
     blame.length > 0 && [h("p", {}, "These limits cannot all be kept:"), h("ul", {}, blame)]);
 }
 
+/** Whether it would still fit, in a line, before anything is asked or told. */
+function fits(answer) {
+  const waits = answer.waits.length > 0 && ["It comes too soon, and would wait for ", listed(answer.waits), "."];
+  return h("p", { class: `fits ${answer.verdict ?? ""}`, "data-fits": answer.verdict ?? "", role: "status" }, waits || answer.why || WORDS[answer.verdict]);
+}
+
 /** The event that the dialog says at this moment, or words for what is wrong with it. */
 function read(page, about, at, kind) {
   const tick = about.letter && kind.value === "never" ? page.data.deadline + 1 : page.clock.read(at.value, about.event.at);
@@ -37,6 +44,7 @@ function read(page, about, at, kind) {
 function words(event, about, page) {
   const at = page.clock.at(event.at);
   if (event.kind === "did") return `${about.shown} done at ${at}`;
+  if (event.kind === "not_before") return event.at > 0 ? `${about.shown} not before ${at}` : `${about.shown} as soon as the rest allows`;
   if (event.kind === "saw") return `${about.word} is ${event.value}, at ${at}`;
   if (event.kind === "await") return event.at > page.data.deadline ? `${about.word} will not come` : `${about.word} expected at ${at}`;
   return `It is ${at}`;
@@ -51,8 +59,7 @@ function parts(page, about) {
   if (about.event.value === false) kind.value = "false";
   const moment = h("label", { class: "narrow" }, "When", at);
   const places = { wrong: h("p", { class: "wrong", role: "alert" }), found: h("div", {}) };
-  kind.addEventListener("change", () => { moment.hidden = kind.value === "never"; places.found.replaceChildren(); });
-  at.addEventListener("input", () => places.found.replaceChildren());
+  kind.addEventListener("change", () => { moment.hidden = kind.value === "never"; });
   return { at, kind, moment, ...places };
 }
 
@@ -73,6 +80,8 @@ export function askAbout(page, about) {
   const tryIt = async () => {
     const asked = event();
     if (!asked) return;
+    clearTimeout(attempts.timer);
+    attempts.last += 1;
     try {
       it.found.replaceChildren(outcome(await talk.whatIf(page.data.id, asked), page));
     } catch (error) {
@@ -86,16 +95,36 @@ export function askAbout(page, about) {
     dialog.close();
     await (about.send ? about.send(asked) : tell(page, asked, words(asked, about, page)));
   };
+  const attempts = { last: 0, timer: null };
+  const attempt = async () => {
+    const [asked, mine] = [read(page, about, it.at, it.kind), (attempts.last += 1)];
+    if (about.correcting || typeof asked === "string") return;
+    const answer = await talk.attempt(page.data.id, asked).catch(() => null);
+    if (answer && mine === attempts.last) it.found.replaceChildren(fits(answer));
+  };
+  const changed = () => {
+    it.found.replaceChildren();
+    attempts.last += 1;
+    clearTimeout(attempts.timer);
+    attempts.timer = setTimeout(attempt, PAUSE);
+  };
+  it.at.addEventListener("input", changed);
+  it.kind.addEventListener("change", changed);
   const opener = document.activeElement?.dataset.key;
   const leave = () => { dialog.close(); about.leave(); };
+  const anyTime = { ...about.event, at: 0 };
+  const takeBack = () => { dialog.close(); tell(page, anyTime, words(anyTime, about, page)); };
   dialog.replaceChildren(h("form", { onsubmit: send },
     h("h2", { id: "ask-title" }, about.title),
     h("div", { class: "fields" }, about.letter && h("label", {}, "The result", it.kind), it.moment), it.wrong, it.found,
     h("div", { class: "buttons" }, h("button", { class: "button first", id: "ask-tell" }, about.correcting ? "Correct it" : "Tell it"),
       !about.correcting && h("button", { type: "button", class: "button", id: "ask-try", onclick: tryIt }, "What if?"),
-      about.correcting && h("button", { type: "button", class: "button grave", id: "ask-leave", onclick: leave }, "It did not happen"),
+      !about.correcting && about.ready > 0 && h("button", { type: "button", class: "button", id: "ask-back", onclick: takeBack }, "As soon as the rest allows"),
+      about.correcting && h("button", { type: "button", class: "button grave", id: "ask-leave", onclick: leave },
+        about.event.kind === "not_before" ? "Leave it out" : "It did not happen"),
       h("button", { type: "button", class: "button", onclick: () => dialog.close() }, "Close"))));
   dialog.showModal();
   dialog.addEventListener("close", () => backTo(opener), { once: true });
   it.at.select();
+  attempt();
 }

@@ -48,7 +48,8 @@ function reaction(step, data, place, y) {
 function says(step, page) {
   if (step.at !== null) return `${step.shown}: done at ${page.clock.at(step.at)}`;
   const planned = step.planned === null ? "" : ` planned ${page.clock.at(step.planned)}`;
-  return `${step.shown}:${planned}${step.by === null ? "" : `, can wait until ${page.clock.at(step.by)}`}`;
+  const ready = step.ready === null ? "" : `, not before ${page.clock.at(step.ready)}`;
+  return `${step.shown}:${planned}${ready}${step.by === null ? "" : `, can wait until ${page.clock.at(step.by)}`}`;
 }
 
 /** A stripe behind every second row. */

@@ -1,5 +1,5 @@
 // What a "no" blames and how far it must give way; and all limits, to be changed, removed and put in.
-import { button, fold, h, momentField, number, quiet } from "./dom.js";
+import { button, fold, h, momentField, name, number, quiet } from "./dom.js";
 import { tell } from "./telling.js";
 import { numberOf, readNumber, sentence } from "./words.js";
 
@@ -28,6 +28,26 @@ function later(data, page) {
     h("div", { class: "buttons" }, button("give-deadline", `Deadline ${needed}`, change, { "data-act": "give-deadline" })));
 }
 
+function comeBy(result, page) {
+  const [now, needed] = [result.expected, result.needed].map((it) => it === null ? null : page.clock.at(it));
+  const expect = () => tell(page, { kind: "await", letter: result.letter, at: result.needed }, `${result.word} expected at ${needed}`);
+  return needed && h("li", { class: "row", "data-late": result.letter },
+    h("div", { class: "says" }, "Or result ", name(result.word), ", expected at ", number(now), ": it would have to come by ", number(needed), "."),
+    h("div", { class: "buttons" }, button(`come-${result.letter}`, `Expected ${needed}`, expect, { "data-act": "come-by" })));
+}
+
+const WITHOUT = { yes: "Without what is broken it fits again.", no: "Without what is broken something else still cannot be kept.", full: "Whether it fits without what is broken is not known." };
+
+/** What was done has broken limits: what is broken is broken, and the plan goes on without them. */
+function broken(data, page) {
+  const it = data.blame.forgive;
+  if (!it) return null;
+  const forgive = () => tell(page, { kind: "forgive" }, "What is broken is given up");
+  return h("li", { class: "row", id: "broken" },
+    h("div", { class: "says" }, "What was done has broken ", it.limits.map((parts, i) => [i ? "; " : "", sentence(parts, page.clock)]), ".", quiet(WITHOUT[it.verdict])),
+    h("div", { class: "buttons" }, button("forgive", "Give up what is broken", forgive, { kind: it.verdict === "yes" ? "first" : "", "data-act": "forgive" })));
+}
+
 const NOBODY = "No limit is to blame: the deadline is too early, or what was told leaves no time to know a result.";
 
 const decide = (count) => (count === 1 ? "Somebody has to decide by how much it gives way, or a moment below is to be corrected."
@@ -39,7 +59,8 @@ export function drawNo(data, page) {
   const ways = data.blame.limits;
   return h("section", { class: "card state no", id: "no" }, h("h2", {}, ways.length === 1 ? "This cannot be kept" : "These cannot all be kept"),
     h("p", {}, ways.length ? decide(ways.length) : NOBODY),
-    h("ul", { class: "rows" }, ways.map((it) => wayOut(it, data, page)), later(data, page)));
+    h("ul", { class: "rows" }, ways.map((it) => wayOut(it, data, page)),
+      data.blame.results.map((it) => comeBy(it, page)), broken(data, page), later(data, page)));
 }
 
 function editor(limit, page) {
@@ -61,8 +82,10 @@ function limitRow(limit, page) {
 }
 
 function adder(data, page) {
+  const last = data.steps.at(-1);
   const options = () => data.steps.map((it) => h("option", { value: it.index }, it.shown));
   const step_ = h("select", { "data-key": "add-step" }, options());
+  if (last.further) step_.value = last.index;
   const kind = h("select", { "data-key": "add-kind" }, h("option", { value: "least" }, "at least"), h("option", { value: "most" }, "at most"));
   const ticks = h("input", { class: "short", "data-key": "add-ticks", inputmode: "numeric", autocomplete: "off" });
   const from = h("select", { "data-key": "add-from" }, options());
@@ -73,7 +96,20 @@ function adder(data, page) {
     return tell(page, { kind: "add", ...places, bound: kind.value, value: Number(ticks.value) }, "Limit put in");
   };
   return h("form", { class: "fields", onsubmit: add, id: "add" }, h("label", {}, "This step", step_), h("label", { class: "narrow" }, "comes", kind),
-    h("label", { class: "narrow" }, "ticks", ticks), h("label", {}, "after", from), h("button", { class: "button", "data-key": "add" }, "Put in"));
+    h("label", { class: "narrow" }, "ticks", ticks), h("label", {}, "after", from), h("button", { class: "button", "data-key": "add", "aria-label": "Put in this limit" }, "Put in"));
+}
+
+/** A step that the document does not have. Nothing ties it to the others but a limit that is put in then. */
+function stepMore(page) {
+  const field = h("input", { "data-key": "step-name", maxlength: 80, autocomplete: "off", required: true });
+  const put = (event) => {
+    event.preventDefault();
+    const told = field.value.trim();
+    field.value = "";
+    return tell(page, { kind: "step", name: told }, `Step ${told} put in`);
+  };
+  return h("form", { class: "fields", onsubmit: put, id: "step-more" }, h("label", {}, "Its name", field),
+    h("button", { class: "button", "data-key": "step-put", "aria-label": "Put in this step" }, "Put in"));
 }
 
 function deadline(data, page) {
@@ -90,6 +126,7 @@ function deadline(data, page) {
 export function drawLimits(data, page) {
   const changed = data.limits.filter((it) => it.state).length;
   const title = `${data.limits.length} limits${changed ? ` (${changed} not as in the document)` : ""}`;
-  return h("section", { class: "card", id: "limits" }, fold("limits", title, deadline(data, page), h("h3", {}, "A limit more"), adder(data, page),
+  return h("section", { class: "card", id: "limits" }, fold("limits", title, deadline(data, page), h("h3", {}, "A step more"), stepMore(page),
+    h("h3", {}, "A limit more"), adder(data, page),
     h("h3", {}, "All limits"), h("ul", { class: "rows" }, data.limits.map((it) => limitRow(it, page)))));
 }

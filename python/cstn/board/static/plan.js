@@ -1,6 +1,6 @@
 // The page of one plan: how it stands, what is next, what nothing can be done about without a decision, and what was told.
 import { askAbout } from "./ask.js";
-import { button, fold, h, momentField, name, number, quiet } from "./dom.js";
+import { button, fold, h, listed, momentField, name, number, quiet } from "./dom.js";
 import { drawGantt } from "./gantt.js";
 import { drawHistory } from "./history.js";
 import { drawLimits, drawNo } from "./limits.js";
@@ -13,11 +13,22 @@ const VERDICTS = {
   full: ["Not known", "The question was too large for its limit. What is told is kept; nobody knows whether the rest fits."],
 };
 
-function verdict(data) {
+function verdict(data, page) {
   const [title, words] = data.over ? ["All is done", "Nothing is left of this plan."] : VERDICTS[data.verdict];
   const state = { "data-verdict": data.verdict, "data-version": data.version };
   return h("section", { class: `card state wide ${data.verdict}`, id: "verdict", ...state },
-    h("strong", {}, title), h("p", {}, words));
+    h("strong", {}, title), h("p", {}, words), idle(data, page));
+}
+
+/** Until when nothing at all may happen. */
+function idle(data, page) {
+  if (data.over || data.until === null || data.until === undefined) return null;
+  const left = data.until - page.clock.now();
+  const tight = [...data.steps.filter((it) => it.by === data.until).map((it) => it.shown),
+    ...data.results.filter((it) => it.until === data.until).map((it) => `result ${it.word}`)];
+  return h("p", { class: "quiet", id: "until" }, "If nothing more happens, this holds until ",
+    number(page.clock.at(data.until), { "data-until": data.until }), left > 0 ? ` (${page.clock.length(left)} left).` : ", and no longer.",
+    tight.length > 0 && [" What cannot wait longer: ", listed(tight), "."]);
 }
 
 /** Until when a step can wait. In the case that the picture shows it may be planned later than another case allows. */
@@ -34,7 +45,8 @@ function when(step, page) {
   const late = page.data.late.find((it) => it.step === step.index);
   const tag = late ? h("span", { class: "tag late" }, `late by ${page.clock.length(now - late.due)}`)
     : step.state === "open" && step.planned !== null && step.planned <= now && h("span", { class: "tag due" }, "now");
-  const parts = [tag, step.planned !== null && step.planned > now && `planned ${page.clock.at(step.planned)}`,
+  const parts = [tag, step.ready > now && ["not before ", number(page.clock.at(step.ready), { "data-ready": step.ready })],
+    step.planned !== null && step.planned > now && `planned ${page.clock.at(step.planned)}`,
     step.by !== null && until(step, page), step.label && `only if ${step.label}`].filter(Boolean);
   return parts.flatMap((part, i) => (i ? [" · ", part] : [part]));
 }
@@ -43,6 +55,8 @@ function stepRow(step, page, kind, place) {
   const now = page.clock.now();
   const did = (at) => ({ kind: "did", step: step.index, at });
   const ask = () => askAbout(page, { title: [name(step.shown), " is done"], event: did(page.clock.now()), shown: step.shown });
+  const wait = () => askAbout(page, { title: [name(step.shown), " cannot come before"], shown: step.shown, ready: step.ready,
+    event: { kind: "not_before", step: step.index, at: Math.max(step.ready ?? 0, step.planned ?? 0, page.clock.now()) } });
   const title = step.observes ? [name(step.shown), h("span", { class: "quiet" }, ` (tells ${step.observes})`)] : name(step.shown);
   return h("li", { class: "row", "data-step": step.index },
     h("div", { class: "says" }, h("div", {}, title), h("div", { class: "quiet" }, when(step, page))),
@@ -50,7 +64,9 @@ function stepRow(step, page, kind, place) {
       button(`${place}-did-${step.index}`, "Done now", () => tell(page, did(page.clock.now()), `${step.shown} done at ${page.clock.at(now)}`),
         { kind, "data-act": "did", "aria-label": `${step.shown} done now`, disabled: step.state !== "open" }),
       button(`${place}-ask-${step.index}`, "Other time …", ask,
-        { "data-act": "ask", "aria-label": `${step.shown} done at another time, or what if` })));
+        { "data-act": "ask", "aria-label": `${step.shown} done at another time, or what if` }),
+      button(`${place}-wait-${step.index}`, "Not before …", wait,
+        { "data-act": "wait", "aria-label": `${step.shown} cannot come before a moment, or what if` })));
 }
 
 function resultSays(result, page) {
@@ -141,7 +157,7 @@ export function drawPlan(data, state) {
   const page = { ...state, data };
   if (!data.begun) return notBegun(data, page);
   const todo = [drawNo(data, page), next(data, page), byHand(data, page), others(data, page)].filter(Boolean);
-  return [verdict(data),
+  return [verdict(data, page),
     todo.length > 0 && h("div", { class: "column" }, todo),
     h("div", { class: todo.length ? "column" : "column wide" }, drawGantt(data, page), drawHistory(data, page), drawLimits(data, page), files(data))];
 }

@@ -33,4 +33,5 @@ export const plan = (id, chosen) => get(`api/plans/${id}?${new URLSearchParams(c
 export const begin = (document, title) => post("api/plans", { document, title });
 export const tell = (id, event) => post(`api/plans/${id}/tell`, { key: newKey(), ...event });
 export const whatIf = (id, event) => post(`api/plans/${id}/try`, event);
+export const attempt = (id, event) => post(`api/plans/${id}/attempt`, event);
 export const correct = (id, body) => post(`api/plans/${id}/correct`, body);

@@ -15,7 +15,7 @@ use Rattle.cstn_check.specs.Growth.{log_of, load_of, live_bounds}
 use Rattle.cstn_reply.specs.Read.{the_said}
 use Rattle.cstn_reply.specs.Texts.{say}
 use Rattle.cstn_reply.specs.declared.output.Outcome.TheVariants.{Wide}
-use Rattle.cstn_outline.specs.Trees.{Tree, Line, IsAmong}
+use Rattle.cstn_outline.specs.Trees.{Tree, TreeLine, IsAmong}
 use Rattle.cstn_outline.specs.Read.{the_tree}
 use Rattle.cstn_cases.specs.Limits.{most_branches}
 use Rattle.cstn_cases.specs.Cases.{AreCasesOf, IsSoundlyPlanned, branches}
@@ -31,7 +31,7 @@ show-requires-clause-named c =
     let m : Labelled = the_labelled c.args.labels.now in
     let bounds : List Bound = the_bounds c.into_plan-plan.result.bounds in
     let cases : AreCasesOf m bounds (the_tree c.in-Some.tree) =
-    subst (λ (o : Option (List Line)). IfSome o (λ t. AreCasesOf m bounds (the_tree t))) c.in-Some.is c.in_ok-tree.ensures.tree in
+    subst (λ (o : Option (List TreeLine)). IfSome o (λ t. AreCasesOf m bounds (the_tree t))) c.in-Some.is c.in_ok-tree.ensures.tree in
     subst (λ (n : ℕ). IsAmong n (the_tree c.in-Some.tree)) (sym c.requires.named) (cases_among m bounds (the_tree c.in-Some.tree) cases)
 
 pub returns-in-Some : goal.returns-in-Some
@@ -48,9 +48,9 @@ returns-in-Some c =
     } in
     let live : bounds ≡ live_bounds (log_of (lowered m)) = c.into_plan-plan.ensures.live ∙ ap (λ n. live_bounds (log_of n)) c.requires.lowered in
     let cases : AreCasesOf m bounds (the_tree c.in-Some.tree) =
-    subst (λ (o : Option (List Line)). IfSome o (λ t. AreCasesOf m bounds (the_tree t))) c.in-Some.is c.in_ok-tree.ensures.tree in
+    subst (λ (o : Option (List TreeLine)). IfSome o (λ t. AreCasesOf m bounds (the_tree t))) c.in-Some.is c.in_ok-tree.ensures.tree in
     let few : branches (the_tree c.in-Some.tree) ≤ most_branches =
-    subst (λ (o : Option (List Line)). IfSome o (λ t. branches (the_tree t) ≤ most_branches)) c.in-Some.is c.in_ok-tree.ensures.few in
+    subst (λ (o : Option (List TreeLine)). IfSome o (λ t. branches (the_tree t) ≤ most_branches)) c.in-Some.is c.in_ok-tree.ensures.few in
     let texts : List (List ℕ) = c.args.names.now in
     record {
       said = IfOk-weaker c.show.result (λ said. the_said said ≡ tree_said texts c.args.load c.in-Some.tree) (λ said. AreCasesUnless texts m None (the_said said))
@@ -72,7 +72,7 @@ returns c =
     let live : bounds ≡ live_bounds (log_of (lowered m)) = c.into_plan-plan.ensures.live ∙ ap (λ n. live_bounds (log_of n)) c.requires.lowered in
     let texts : List (List ℕ) = c.args.names.now in
     let many : (tree : Tree) → AreCasesOf m bounds tree → most_branches < branches tree =
-    subst (λ (o : Option (List Line)). IfNone o ((tree : Tree) → AreCasesOf m bounds tree → most_branches < branches tree)) c.in-None.is c.in_ok-tree.ensures.wide in
+    subst (λ (o : Option (List TreeLine)). IfNone o ((tree : Tree) → AreCasesOf m bounds tree → most_branches < branches tree)) c.in-None.is c.in_ok-tree.ensures.wide in
     let counted : c.observed.result ≡ count_by is_some m.base.observes =
     c.observed.ensures ∙ ap (λ (n : NetworkParts). count_by is_some (the_network n).observes) c.base-in-None.ensures.base in
     record {

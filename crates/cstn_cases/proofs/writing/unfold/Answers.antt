@@ -12,8 +12,8 @@ use Rattle.cstn_lift.specs.Lowered.{lowered}
 use Rattle.cstn_lift.specs.Read.{LabelledParts, the_labelled}
 use Rattle.cstn_plan.specs.Asked.{AllSound}
 use Rattle.cstn_plan.specs.Plans.{the_bounds}
-use Rattle.cstn_outline.specs.Read.{the_line, the_tree, numbers}
-use Rattle.cstn_outline.specs.Trees.Line.{AtLine, AskLine, DoneLine}
+use Rattle.cstn_outline.specs.Read.{the_tree_line, the_tree, node_numbers}
+use Rattle.cstn_outline.specs.Trees.TreeLine.{AtLine, AskLine, DoneLine}
 use Rattle.cstn_cases.specs.declared.going.Case.{Case}
 use Rattle.cstn_cases.specs.declared.nexts.Next.{Next}
 use Rattle.cstn_cases.specs.declared.nexts.Next.TheVariants.{Over, Asks, Names}

@@ -3,14 +3,14 @@ use Rattle.cstn_net.specs.Read.{the_network}
 use Rattle.cstn_log.specs.Entries.{the_entries}
 use Rattle.cstn_check.specs.Growth.{grown}
 use Rattle.cstn_check.specs.Spent.{AreSpent, fresh_count}
-use Rattle.cstn_check.specs.Turns.{IsOpen, IsTaken}
+use Rattle.cstn_check.specs.Turns.{IsOpen, HasBecome}
 use Rattle.cstn_check.proofs.CostLemmas.{turn_costs}
 use Rattle.cstn_check.proofs.TryLemmas.{waits_of}
 use Rattle.cstn_check.proofs.growth.grow_open.Given as goal
 
 abbrev pub invariant-loop-j : goal.invariant-loop-j
 invariant-loop-j l = record {
-  taken : IsTaken (the_network l.fn.net) l.fn.log l.log (grown (the_network l.fn.net) (the_entries l.fn.log.entries) l.j) false;
+  taken : HasBecome (the_network l.fn.net) l.fn.log l.log (grown (the_network l.fn.net) (the_entries l.fn.log.entries) l.j) false;
   ready : IsOpen (the_network l.fn.net) l.log;
   tries : l.fn.tries.count ≤ l.tries.count;
   turns : l.j ≤ length l.log.entries;

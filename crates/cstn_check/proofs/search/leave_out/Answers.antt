@@ -3,7 +3,7 @@ use Rattle.std.specs.Prelude.{option_map, IfSome}
 use Rattle.std.proofs.lemmas.List.{drop_all}
 use Rattle.cstn_net.specs.Networks.{Network}
 use Rattle.cstn_net.specs.Read.{the_network}
-use Rattle.cstn_check.specs.Givers.{ids_of, but, without, IsPart}
+use Rattle.cstn_check.specs.Givers.{ids_of, but, network_without, IsPart}
 use Rattle.cstn_check.specs.Needs.{IfNo, Stands}
 use Rattle.cstn_check.specs.Search.{narrowed, left_by, left_over}
 use Rattle.cstn_check.specs.declared.search.Left.{Left}
@@ -16,8 +16,8 @@ narrowed_part : (whole now next : Network) (id : ℕ) (o : Option Bool) → IsPa
 narrowed_part whole now next id None part found = absurd (cc)
 narrowed_part whole now next id (Some true) part found = let same : now ≡ next = cc in (part.0, sym same ∙ part.1)
 narrowed_part whole now next id (Some false) part found =
-    let same : without id now ≡ next = cc in
-    (but id part.0, sym same ∙ ap (without id) part.1 ∙ without_one whole part.0 id)
+    let same : network_without id now ≡ next = cc in
+    (but id part.0, sym same ∙ ap (network_without id) part.1 ∙ without_one whole part.0 id)
 
 pub loop-k-init : goal.loop-k-init
 loop-k-init g c = record {
@@ -30,7 +30,7 @@ loop-k-init g c = record {
 pub narrowed-requires-clause-may : goal.narrowed-requires-clause-may
 narrowed-requires-clause-may g c =
     let part = c.loop-k.invariant.part in
-    subst (g.T.Trial.may c.args.trial.now) (sym (ap (without c.index.result.now) part.1 ∙ without_one (the_network c.args.net) part.0 c.index.result.now))
+    subst (g.T.Trial.may c.args.trial.now) (sym (ap (network_without c.index.result.now) part.1 ∙ without_one (the_network c.args.net) part.0 c.index.result.now))
     (c.requires.may (but c.index.result.now part.0))
 
 pub returns-in_default : goal.returns-in_default
@@ -59,10 +59,10 @@ loop-k-preserved g c =
     let same = ap length c.loop-k.invariant.ids in
     let inside : k < length ids = omega arith in
     let here = next_id ids k id inside (c.index.ensures ∙ ap (λ l. get_or l k id) c.loop-k.invariant.ids) in
-    let found : narrowed (says (without id now)) id now ≡ Some next = sym c.in_ok-less.ensures.narrowed ∙ ap (option_map (λ (l : Left). the_network l.net)) c.in-Some.is in
+    let found : narrowed (says (network_without id now)) id now ≡ Some next = sym c.in_ok-less.ensures.narrowed ∙ ap (option_map (λ (l : Left). the_network l.net)) c.in-Some.is in
     record {
       ids = c.loop-k.invariant.ids;
-      part = narrowed_part (the_network c.args.net) now next id (says (without id now)) c.loop-k.invariant.part found;
+      part = narrowed_part (the_network c.args.net) now next id (says (network_without id now)) c.loop-k.invariant.part found;
       reached = left_next says id (drop (k + 1) ids) now (left_over says (the_network c.args.net)) (ap (λ l. left_by says l now) (sym here) ∙ c.loop-k.invariant.reached)
           next found;
       stands = subst (λ (o : Option Left). IfSome o (λ (l : Left). IfNo l.last (Stands says (the_network l.net))))

@@ -1,7 +1,7 @@
 use Rattle.std.proofs.Common.{Some, sym, subst, ap, ◌∙◌}
 use Rattle.cstn_net.specs.Networks.{Network}
 use Rattle.cstn_net.specs.Read.{the_network}
-use Rattle.cstn_check.specs.Givers.{without}
+use Rattle.cstn_check.specs.Givers.{network_without}
 use Rattle.cstn_check.specs.Needs.{IfNo, Stands}
 use Rattle.cstn_check.specs.declared.needs.Finding.{Finding}
 use Rattle.cstn_check.specs.Search.{narrowed}
@@ -20,4 +20,4 @@ returns-then-is_idle-clause-stands g c =
     let net = the_network c.args.left.net in
     let known = idle_known says net c.args.id c.args.left.last (sym c.is_idle.ensures ∙ c.if-is_idle.true) c.requires.stands in
     subst (λ (n : Network). IfNo c.without.result.last (Stands says n)) (sym c.without.ensures.net)
-    (subst (λ (f : Finding). IfNo f (Stands says (without c.args.id net))) (sym c.without.ensures.last) known.1)
+    (subst (λ (f : Finding). IfNo f (Stands says (network_without c.args.id net))) (sym c.without.ensures.last) known.1)

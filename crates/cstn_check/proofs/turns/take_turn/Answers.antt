@@ -2,7 +2,7 @@ use Rattle.std.proofs.Common.{rules, ◌+◌, map, true, arith, refl, subst}
 use Rattle.cstn_net.specs.Read.{the_network, the_constraint}
 use Rattle.cstn_log.specs.Entries.{the_entries}
 use Rattle.cstn_check.specs.Growth.{tried, chains_at, waits_below, turn}
-use Rattle.cstn_check.specs.Turns.{IsTaken, IsCut}
+use Rattle.cstn_check.specs.Turns.{HasBecome, IsCutShort}
 use Rattle.cstn_check.proofs.Sequences.{refuted_step, step_open, step_refuted, step_then, refuted_then, cut_first, turn_is}
 use Rattle.cstn_check.proofs.SpentLemmas.{spent_after}
 use Rattle.cstn_check.proofs.TryLemmas.{taken_on, size_is, upto_kept}
@@ -22,7 +22,7 @@ try_new_waits-requires-clause-spent c =
 pub returns-in-Refuted-clause-outcome : goal.returns-in-Refuted-clause-outcome
 returns-in-Refuted-clause-outcome c =
     refuted_step _ _ _ _
-    (subst (λ l. IsTaken (the_network c.args.net.now) c.args.log.now c.try_chains.new.log (tried (the_network c.args.net.now) (the_entries c.args.log.now.entries) l) true)
+    (subst (λ l. HasBecome (the_network c.args.net.now) c.args.log.now c.try_chains.new.log (tried (the_network c.args.net.now) (the_entries c.args.log.now.entries) l) true)
     (turn_is c.args.net.now c.args.net.now.constraints c.args.j refl)
     (refuted_then (the_network c.args.net.now) c.args.log.now (chains_at (map the_constraint c.args.net.now.constraints) c.args.j)
     (waits_below (c.args.j + 1) c.args.j) c.try_chains.new.log
@@ -38,7 +38,7 @@ returns-in-Open-clause-outcome c =
 pub returns-in_err-try_chains-clause-outcome : goal.returns-in_err-try_chains-clause-outcome
 returns-in_err-try_chains-clause-outcome c = record {
   taken = search rules;
-  cut = λ is. subst (λ l. IsCut c.args.log.now c.try_chains.new.log (tried (the_network c.args.net.now) (the_entries c.args.log.now.entries) l))
+  cut = λ is. subst (λ l. IsCutShort c.args.log.now c.try_chains.new.log (tried (the_network c.args.net.now) (the_entries c.args.log.now.entries) l))
       (turn_is c.args.net.now c.args.net.now.constraints c.args.j refl)
       (cut_first (the_network c.args.net.now) c.args.log.now (chains_at (map the_constraint c.args.net.now.constraints) c.args.j)
       (waits_below (c.args.j + 1) c.args.j) c.try_chains.new.log (c.in_err-try_chains.ensures.outcome.cut refl));

@@ -10,7 +10,7 @@ use Rattle.cstn_rules.specs.Read.{the_entry}
 use Rattle.cstn_log.specs.Entries.{the_entries}
 use Rattle.cstn_check.specs.Growth.{tried, chains_at}
 use Rattle.cstn_check.specs.Growth.Instance.{chain_at}
-use Rattle.cstn_check.specs.Turns.{IsTaken}
+use Rattle.cstn_check.specs.Turns.{HasBecome}
 use Rattle.cstn_check.specs.Steps.{is_refutation}
 use Rattle.cstn_check.proofs.ChainSkips.{chains_to}
 use Rattle.cstn_check.proofs.Sequences.{open_step, refuted_step, step_open, go_on, go_true, go_cut, chains_next, chains_whole}
@@ -94,7 +94,7 @@ loop-place-preserved c =
 pub returns-clause-outcome : goal.returns-clause-outcome
 returns-clause-outcome c =
     open_step _ _ _ _
-    (subst (λ (cs : List Constraint). IsTaken (the_network c.args.net.now) c.args.log.now c.loop-place.log (tried (the_network c.args.net.now) (the_entries c.args.log.now.entries) (chains_at (map the_constraint cs) c.args.j)) false)
+    (subst (λ (cs : List Constraint). HasBecome (the_network c.args.net.now) c.args.log.now c.loop-place.log (tried (the_network c.args.net.now) (the_entries c.args.log.now.entries) (chains_at (map the_constraint cs) c.args.j)) false)
     (take_all c.loop-place.place c.args.net.now.constraints (omega (arith, c.loop-place-test.false, c.constraint_count.ensures))) c.loop-place.invariant.taken)
     c.loop-place.invariant.ready
 

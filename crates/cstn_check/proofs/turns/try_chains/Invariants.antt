@@ -6,13 +6,13 @@ use Rattle.cstn_net.specs.Read.{the_network, the_constraint}
 use Rattle.cstn_log.specs.Entries.{the_entries}
 use Rattle.cstn_check.specs.Growth.{tried, chains_at}
 use Rattle.cstn_check.specs.Spent.{AreSpent, fresh_count}
-use Rattle.cstn_check.specs.Turns.{IsOpen, IsTaken}
+use Rattle.cstn_check.specs.Turns.{IsOpen, HasBecome}
 use Rattle.cstn_check.specs.Steps.{IsCounted}
 use Rattle.cstn_check.proofs.turns.try_chains.Given as goal
 
 abbrev pub invariant-loop-place : goal.invariant-loop-place
 invariant-loop-place l = record {
-  taken : IsTaken (the_network l.fn.net) l.fn.log l.log (tried (the_network l.fn.net) (the_entries l.fn.log.entries) (chains_at (map the_constraint (take l.place l.fn.net.constraints)) l.fn.j)) false;
+  taken : HasBecome (the_network l.fn.net) l.fn.log l.log (tried (the_network l.fn.net) (the_entries l.fn.log.entries) (chains_at (map the_constraint (take l.place l.fn.net.constraints)) l.fn.j)) false;
   ready : IsOpen (the_network l.fn.net) l.log;
   upto : l.place ≤ length l.fn.net.constraints;
   here : (e : Entry) → slice_get l.fn.log.entries l.fn.j ≡ Some e → l.place < length l.fn.net.constraints → get_or (ends l.fn.net.constraints) l.place 0 ≡ e.bound.node.0;

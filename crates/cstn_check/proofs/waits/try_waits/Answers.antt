@@ -2,7 +2,7 @@ use Rattle.std.proofs.Common.{rules, ℕ, suc, ◌≡◌, ◌<◌, ◌+◌, [], 
 use Rattle.std.proofs.lemmas.Bool.{false≢true}
 use Rattle.cstn_net.specs.Read.{the_network}
 use Rattle.cstn_check.specs.Growth.{tried, waits_below}
-use Rattle.cstn_check.specs.Turns.{IsTaken}
+use Rattle.cstn_check.specs.Turns.{HasBecome}
 use Rattle.cstn_check.specs.Steps.{is_refutation}
 use Rattle.cstn_check.specs.Growth.Instance.{wait_at}
 use Rattle.cstn_check.proofs.TurnLemmas.{idle, has_bound, bound_on}
@@ -118,7 +118,7 @@ pub returns-clause-outcome : goal.returns-clause-outcome
 returns-clause-outcome c =
     let done : c.loop-i.i ≡ c.args.j + 1 = omega (arith, c.loop-i.invariant.upto, c.loop-i-test.false) in
     open_step _ _ _ _
-    (subst (λ (n : ℕ). IsTaken (the_network c.args.net.now) c.args.log.now c.loop-i.log (tried (the_network c.args.net.now) (the_entries c.args.log.now.entries) (waits_below n c.args.j)) false)
+    (subst (λ (n : ℕ). HasBecome (the_network c.args.net.now) c.args.log.now c.loop-i.log (tried (the_network c.args.net.now) (the_entries c.args.log.now.entries) (waits_below n c.args.j)) false)
     done c.loop-i.invariant.taken)
     c.loop-i.invariant.ready
 

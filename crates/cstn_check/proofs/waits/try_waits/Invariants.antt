@@ -5,13 +5,13 @@ use Rattle.cstn_check.specs.Growth.{tried, waits_below}
 use Rattle.cstn_check.specs.Tries.{total, concludes_with}
 use Rattle.cstn_label.specs.Read.{the_bound}
 use Rattle.cstn_check.specs.Waits.{HasBound, IsAhead}
-use Rattle.cstn_check.specs.Turns.{IsOpen, IsTaken}
+use Rattle.cstn_check.specs.Turns.{IsOpen, HasBecome}
 use Rattle.cstn_check.specs.Steps.{IsCounted}
 use Rattle.cstn_check.proofs.waits.try_waits.Given as goal
 
 abbrev pub invariant-loop-i : goal.invariant-loop-i
 invariant-loop-i l = record {
-  taken : IsTaken (the_network l.fn.net) l.fn.log l.log (tried (the_network l.fn.net) (the_entries l.fn.log.entries) (waits_below l.i l.fn.j)) false;
+  taken : HasBecome (the_network l.fn.net) l.fn.log l.log (tried (the_network l.fn.net) (the_entries l.fn.log.entries) (waits_below l.i l.fn.j)) false;
   ready : IsOpen (the_network l.fn.net) l.log;
   upto : l.i ≤ l.fn.j + 1;
   counted : IsCounted l.fn.tries.count l.tries.count (total (concludes_with (the_network l.fn.net) (the_entries l.fn.log.entries) l.fn.j) l.i);

@@ -4,7 +4,7 @@ use Rattle.cstn_label.specs.Read.{the_bound}
 use Rattle.cstn_net.specs.Links.{ends}
 use Rattle.cstn_net.specs.Read.{the_network}
 use Rattle.cstn_net.specs.declared.constraints.Constraint.{Constraint}
-use Rattle.cstn_closed.specs.Closed.{the_bounds}
+use Rattle.cstn_closed.specs.Closed.{the_listed_bounds}
 use Rattle.cstn_closed.specs.Instances.{AreChainsCovered}
 use Rattle.cstn_closed.proofs.InstanceLemmas.{IsChainedAt, chained_elsewhere, chained_here, all_chained, first_chained}
 use Rattle.cstn_closed.proofs.ListLemmas.{fit_here, image_there, so_here}
@@ -19,7 +19,7 @@ first_ending-place-requires c = record {
 pub loop-place-init : goal.loop-place-init
 loop-place-init c =
     let net = c.args.net.now in
-    let bounds = the_bounds c.args.closed.now in
+    let bounds = the_listed_bounds c.args.closed.now in
     let b = the_bound c.bound-b.result in
     walk_begins (IsChainedAt net bounds b) (ends net.constraints) b.node (chained_elsewhere net bounds b) c.first_ending-place.result c.first_ending-place.ensures.first
 
@@ -30,7 +30,7 @@ is_chain_covered-requires-clause-bound c =
 pub returns-then-not-is_chain_covered-clause-some : goal.returns-then-not-is_chain_covered-clause-some
 returns-then-not-is_chain_covered-clause-some c =
     let net = c.args.net.now in
-    let bounds = the_bounds c.args.closed.now in
+    let bounds = the_listed_bounds c.args.closed.now in
     let b = the_bound c.bound-b.result in
     first_chained net bounds b c.args.at c.loop-place.place c.constraint_at-c.result.now c.network_is_well_formed.ensures c.loop-place.invariant
     (image_there c.args.closed.now.bounds c.args.at c.bound-b.result c.bound-b.ensures.bound) c.constraint_at-c.ensures.at
@@ -39,7 +39,7 @@ returns-then-not-is_chain_covered-clause-some c =
 pub loop-place-preserved : goal.loop-place-preserved
 loop-place-preserved c =
     let net = c.args.net.now in
-    let bounds = the_bounds c.args.closed.now in
+    let bounds = the_listed_bounds c.args.closed.now in
     let b = the_bound c.bound-b.result in
     walk_on (IsChainedAt net bounds b) (ends net.constraints) b.node (chained_elsewhere net bounds b) c.loop-place.place c.next_ending-place.result c.loop-place.invariant
     (omega (arith, c.loop-place-test.true, c.constraint_count.ensures.count, length-map net.constraints (λ (d : Constraint). d.to.0)))
@@ -49,7 +49,7 @@ loop-place-preserved c =
 pub returns-clause-none : goal.returns-clause-none
 returns-clause-none c =
     let net = c.args.net.now in
-    let bounds = the_bounds c.args.closed.now in
+    let bounds = the_listed_bounds c.args.closed.now in
     so_here (AreChainsCovered (the_network net) bounds) c.args.closed.now.bounds c.args.at c.bound-b.result c.bound-b.ensures.bound
     (all_chained net bounds (the_bound c.bound-b.result) c.loop-place.place c.loop-place.invariant
     (omega (arith, c.loop-place-test.false, c.constraint_count.ensures.count)))

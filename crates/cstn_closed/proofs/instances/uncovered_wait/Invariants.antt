@@ -1,10 +1,10 @@
 use Rattle.std.proofs.Common.{ℕ, ◌<◌, get_or}
 use Rattle.cstn_label.specs.Read.{the_bound}
 use Rattle.cstn_net.specs.Read.{the_network}
-use Rattle.cstn_closed.specs.Closed.{the_bounds}
+use Rattle.cstn_closed.specs.Closed.{the_listed_bounds}
 use Rattle.cstn_closed.proofs.InstanceLemmas.{IsAwaitedAt}
 use Rattle.cstn_closed.proofs.instances.uncovered_wait.Given as goal
 
 abbrev pub invariant-loop-at : goal.invariant-loop-at
 invariant-loop-at l = (n : ℕ) → n < l.at-index →
-    IsAwaitedAt (the_network l.net) (the_bounds l.closed) (the_bound l.first) (get_or l.at-items n 0)
+    IsAwaitedAt (the_network l.net) (the_listed_bounds l.closed) (the_bound l.first) (get_or l.at-items n 0)

@@ -9,7 +9,7 @@ use Rattle.cstn_lift.specs.Read.{the_labelled}
 use Rattle.cstn_lift.specs.WellFormed.{IsLabelled}
 use Rattle.cstn_history.specs.Rest.{rest}
 use Rattle.cstn_history.specs.Read.{the_history, IsKeptFor}
-use Rattle.cstn_history.specs.Handed.{HasRoom}
+use Rattle.cstn_history.specs.Handed.{HasFewConstraints}
 use Rattle.cstn_check.specs.Needs.{said}
 use Rattle.cstn_follow.specs.Tries.{with_base}
 use Rattle.cstn_follow.specs.Needs.{sources}
@@ -39,7 +39,7 @@ rest-requires-clause-kept c =
     let part = network_alone m c.requires.part.0 in
     let timely = c.edits_keep_histories.ensures.history m h m.base.deadline part.base.constraints kept.history kept.in_time in
     subst (λ (l : Labelled). IsKeptFor l c.args.history.now) (sym (c.in_ok-less.ensures.base ∙ ap (with_base m) c.requires.part.1))
-    (record { one_each = kept.one_each; wide = kept.wide; history = timely.history; in_time = timely.in_time })
+    (record { one_each = kept.one_each; wide = kept.wide; ready_each = kept.ready_each; history = timely.history; in_time = timely.in_time })
 
 pub rest-requires-clause-above : goal.rest-requires-clause-above
 rest-requires-clause-above c =
@@ -56,7 +56,7 @@ unreachable-requires c =
     let m = the_labelled c.args.network.now in
     let h = the_history c.args.history.now in
     let left = rest (the_labelled c.in_ok-less.less) h c.args.fresh in
-    let room = subst (λ (l : Labelled). HasRoom (rest l h c.args.fresh)) (sym (c.in_ok-less.ensures.base ∙ ap (with_base m) c.requires.part.1))
+    let room = subst (λ (l : Labelled). HasFewConstraints (rest l h c.args.fresh)) (sym (c.in_ok-less.ensures.base ∙ ap (with_base m) c.requires.part.1))
     (c.parts_are_labelled.ensures.room m c.requires.part.0 h c.args.fresh c.base.ensures.labelled c.requires.tries.room) in
     not_too_many left c.in-Err-TooManyConstraints.field-0 room c.in-Err-TooManyConstraints.ensures.refused c.in-Err-TooManyConstraints.field-0-is
 

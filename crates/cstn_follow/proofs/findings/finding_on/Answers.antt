@@ -2,7 +2,7 @@ use Rattle.std.proofs.Common.{◌<◌, ap, sym, subst, ◌∙◌}
 use Rattle.cstn_net.specs.Networks.{Network, IsWellFormed, count}
 use Rattle.cstn_net.specs.Read.{the_network}
 use Rattle.std.specs.List.{All}
-use Rattle.cstn_log.specs.Cuts.{part}
+use Rattle.cstn_log.specs.Cuts.{last_with_ancestors}
 use Rattle.cstn_check.specs.Checks.{CheckParts}
 use Rattle.cstn_check.specs.Decisions.{verdict}
 use Rattle.cstn_check.specs.Growth.{log_of, live_bounds, load_of}
@@ -32,6 +32,6 @@ returns-in_ok-refutation-in-No c =
       ap (λ (s : CheckParts). verdict s.cap (the_network s.net)) (sym start) ∙ sym said ∙ c.in-No.is
           ∙ ap No (load.0 ∙ ap (λ (s : CheckParts). load_of (the_network s.net)) start
           ∙ sym (refutation.ensures.load ∙ ap load_of net)),
-      refutation.ensures.part ∙ ap (λ (n : Network). part (log_of n)) net,
+      refutation.ensures.part ∙ ap (λ (n : Network). last_with_ancestors (log_of n)) net,
       subst (λ (n : Network). All (λ e. e.bound.node.0 < count n) refutation.refutation.steps) net refutation.ensures.named,
     )

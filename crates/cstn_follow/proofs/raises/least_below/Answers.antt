@@ -10,7 +10,7 @@ use Rattle.cstn_check.specs.Search.{halving}
 use Rattle.cstn_history.specs.Read.{the_history}
 use Rattle.cstn_follow.specs.Raises.{said_raised}
 use Rattle.cstn_follow.proofs.Halved.{found_upto}
-use Rattle.cstn_follow.proofs.ValueAt.{value_fits}
+use Rattle.cstn_net.proofs.Values.{value_fits}
 use Rattle.cstn_follow.proofs.raises.least_below.Goals as goal
 
 pub value_below-requires-clause-range : goal.value_below-requires-clause-range

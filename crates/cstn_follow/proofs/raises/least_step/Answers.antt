@@ -8,7 +8,7 @@ use Rattle.cstn_lift.specs.Read.{the_labelled}
 use Rattle.cstn_history.specs.Read.{the_history}
 use Rattle.cstn_follow.specs.Raises.{said_raised, middle_value, least_between}
 use Rattle.cstn_follow.proofs.Halved.{between_yes, between_no, between_none}
-use Rattle.cstn_follow.proofs.ValueAt.{value_fits}
+use Rattle.cstn_net.proofs.Values.{value_fits}
 use Rattle.cstn_follow.proofs.raises.least_step.Goals as goal
 
 pub least_below-requires-clause-order : goal.least_below-requires-clause-order

@@ -7,7 +7,7 @@ use Rattle.cstn_net.specs.Limits.{most_deadline}
 use Rattle.cstn_net.specs.Networks.{IsValue}
 use Rattle.cstn_plan.specs.Asked.{moment_of}
 use Rattle.cstn_follow.proofs.Halved.{middle_from, middle_before, middle_short}
-use Rattle.cstn_follow.proofs.ValueAt.{value_fits}
+use Rattle.cstn_net.proofs.Values.{value_fits}
 use Rattle.cstn_follow.proofs.raises.middle_value.Goals as goal
 
 pub returns : goal.returns

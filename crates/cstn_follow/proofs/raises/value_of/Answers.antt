@@ -3,7 +3,8 @@ use Rattle.std.specs.Prelude.{ℤ}
 use Rattle.std.specs.Int.{w32}
 use Rattle.std.proofs.lemmas.Int.{to_z-of_z}
 use Rattle.cstn_net.specs.declared.constraints.Constraint.{Constraint}
-use Rattle.cstn_follow.proofs.ValueAt.{value_fits, nowhere, value_at}
+use Rattle.cstn_net.proofs.Values.{value_fits}
+use Rattle.cstn_follow.proofs.ValueAt.{nowhere, value_at}
 use Rattle.cstn_follow.proofs.raises.value_of.Goals as goal
 
 pub returns-in_default : goal.returns-in_default

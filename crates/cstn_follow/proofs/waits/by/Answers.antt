@@ -7,7 +7,7 @@ use Rattle.cstn_lift.specs.Lowered.{lowered}
 use Rattle.cstn_lift.specs.Read.{the_labelled}
 use Rattle.cstn_lift.specs.WellFormed.{IsLabelled}
 use Rattle.cstn_history.specs.Histories.{IsTimelyHistory}
-use Rattle.cstn_history.specs.Rest.{rest, number_of}
+use Rattle.cstn_history.specs.Rest.{rest, number_left}
 use Rattle.cstn_history.specs.Read.{the_history}
 use Rattle.cstn_follow.specs.Waiting.{HasRoomToWait, TakesWaiting}
 use Rattle.cstn_follow.proofs.Numbers.{numbers_long, number_at, room_said, no_room_said, search_is}
@@ -44,9 +44,9 @@ halve-requires-clause-may c =
     let low = subst (λ (l : Labelled). length (lowered l).constraints < most_constraints) rest_is said.1 in
     let room : HasRoomToWait m h fresh = record { base = subst (λ (l : Labelled). length l.base.constraints < most_constraints) rest_is said.0; lowered = low } in
     let d = c.index-2.result.now in
-    let number_is : d ≡ number_of m h x = c.index-2.ensures ∙ ap (λ (i : ℕ). slice_index_or c.in-Ok-numbers_left.numbers.items i d) c.index.ensures.index
+    let number_is : d ≡ number_left m h x = c.index-2.ensures ∙ ap (λ (i : ℕ). slice_index_or c.in-Ok-numbers_left.numbers.items i d) c.index.ensures.index
     ∙ number_at m h c.in-Ok-numbers_left.numbers.items c.in-Ok-numbers_left.ensures.numbers x d c.requires.inside in
-    let takes : TakesWaiting (rest m h fresh) fresh (number_of m h x) = record {
+    let takes : TakesWaiting (rest m h fresh) fresh (number_left m h x) = record {
       labelled = subst IsLabelled rest_is c.in-Ok.ensures.labelled;
       inside = c.waiting_is_found.ensures.numbers m h fresh x good timely.history c.requires.inside c.requires.left;
       below = c.waiting_is_found.ensures.ids m h fresh good timely c.requires.above room;
@@ -67,7 +67,7 @@ returns-in-Ok-Some c =
     let low = subst (λ (l : Labelled). length (lowered l).constraints < most_constraints) rest_is said.1 in
     let room : HasRoomToWait m h fresh = record { base = subst (λ (l : Labelled). length l.base.constraints < most_constraints) rest_is said.0; lowered = low } in
     let d = c.index-2.result.now in
-    let number_is : d ≡ number_of m h x = c.index-2.ensures ∙ ap (λ (i : ℕ). slice_index_or c.in-Ok-numbers_left.numbers.items i d) c.index.ensures.index
+    let number_is : d ≡ number_left m h x = c.index-2.ensures ∙ ap (λ (i : ℕ). slice_index_or c.in-Ok-numbers_left.numbers.items i d) c.index.ensures.index
     ∙ number_at m h c.in-Ok-numbers_left.numbers.items c.in-Ok-numbers_left.ensures.numbers x d c.requires.inside in
     let last = c.deadline.ensures.deadline ∙ ap (λ (b : NetworkParts). b.deadline) c.base-2.ensures.base in
     let found = search_is m h fresh x c.args.cap.entries d c.now.result c.deadline.result n rest_is number_is c.now.ensures.now last in
@@ -89,7 +89,7 @@ returns-in-Ok-None-clause-full c is =
     let low = subst (λ (l : Labelled). length (lowered l).constraints < most_constraints) rest_is said.1 in
     let room : HasRoomToWait m h fresh = record { base = subst (λ (l : Labelled). length l.base.constraints < most_constraints) rest_is said.0; lowered = low } in
     let d = c.index-2.result.now in
-    let number_is : d ≡ number_of m h x = c.index-2.ensures ∙ ap (λ (i : ℕ). slice_index_or c.in-Ok-numbers_left.numbers.items i d) c.index.ensures.index
+    let number_is : d ≡ number_left m h x = c.index-2.ensures ∙ ap (λ (i : ℕ). slice_index_or c.in-Ok-numbers_left.numbers.items i d) c.index.ensures.index
     ∙ number_at m h c.in-Ok-numbers_left.numbers.items c.in-Ok-numbers_left.ensures.numbers x d c.requires.inside in
     let last = c.deadline.ensures.deadline ∙ ap (λ (b : NetworkParts). b.deadline) c.base-2.ensures.base in
     let found = search_is m h fresh x c.args.cap.entries d c.now.result c.deadline.result n rest_is number_is c.now.ensures.now last in

@@ -9,8 +9,4 @@ returns c = record {
   new = new_ids;
   plan = λ cap names m lines s good few named leads.
       (lines_told (begun_following cap names m) s 0 lines (begun_sound cap names m good few named) leads).plan;
-  labels = λ cap names m lines s good few named leads.
-      (lines_told (begun_following cap names m) s 0 lines (begun_sound cap names m good few named) leads).labels;
-  history = λ cap names m lines s good few named leads.
-      (lines_told (begun_following cap names m) s 0 lines (begun_sound cap names m good few named) leads).history;
 }

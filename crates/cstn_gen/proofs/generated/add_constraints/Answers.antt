@@ -1,7 +1,7 @@
 use Rattle.std.proofs.Common.{◌+◌, ◌≡◌, arith, sym, subst, ap, length, ◌∙◌}
 use Rattle.std.proofs.lemmas.List.{length-append}
 use Rattle.cstn_gen.specs.Generated.{literals_at, label_from, props_of}
-use Rattle.cstn_gen.specs.Made.{HasConstraints}
+use Rattle.cstn_gen.specs.Made.{HasDrawnConstraints}
 use Rattle.cstn_gen.proofs.MadeLemmas.{one_more_constraint, drawn_is_at, state_more}
 use Rattle.cstn_gen.proofs.generated.add_constraints.Goals as goal
 
@@ -15,7 +15,7 @@ loop-preserved c =
     ∙ ap (label_from (props_of c.args.size)) c.draw_span-span.ensures.state in
     record {
       end = loop.end;
-      constraints = subst (HasConstraints c.args.number c.args.size (c.loop.counter + 1)) (sym (ap (λ b. b.drafts) added))
+      constraints = subst (HasDrawnConstraints c.args.number c.args.size (c.loop.counter + 1)) (sym (ap (λ b. b.drafts) added))
           (one_more_constraint c.args.number c.args.size c.loop.counter c.loop.builder.drafts _
           (c.drafts_are_numbered.ensures.more 0 c.loop.counter c.loop.builder.drafts _ (omega (arith, loop.drafts))) loop.constraints
           (drawn_is_at c.args.number c.args.size c.loop.counter x c.draw_span-span.result c.draw_label-label.result loop.state

@@ -1,6 +1,6 @@
 use Rattle.std.proofs.Common.{◌∷◌, length, arith, refl, ap, sym, subst}
 use Rattle.std.proofs.lemmas.Result.{err_from_is_err_and}
-use Rattle.cstn_element.specs.Children.{Takes}
+use Rattle.cstn_element.specs.Children.{TakesTokens}
 use Rattle.cstn_element.specs.Contents.{contents, inner}
 use Rattle.cstn_element.specs.Elements.{read_by}
 use Rattle.cstn_element.specs.declared.children.Next.{Next}
@@ -21,7 +21,7 @@ loop-start-preserved c = record {
       let stands = c.next_child.ensures.next others (omega (arith, l)) in
       let child = c.in_ok-read_graph_child-in-Child.ensures.reads (c.args.name.now ∷ others) (omega (arith, l)) in
       c.elements_are_read_in_turn.ensures.child empty_graph (graph_seen c.loop-start.graph) _ _ others _ _ _ _ _ _ (c.loop-start.invariant.same others l) stands c.in-Child.is child;
-  less = omega (arith, c.in_ok-read_graph_child-in-Child.ensures.less, subst (λ (next : Next). Takes next (length c.loop-start.scanner) (length c.next_child.new.scanner)) c.in-Child.is c.next_child.ensures.takes, c.loop-start.invariant.less);
+  less = omega (arith, c.in_ok-read_graph_child-in-Child.ensures.less, subst (λ (next : Next). TakesTokens next (length c.loop-start.scanner) (length c.next_child.new.scanner)) c.in-Child.is c.next_child.ensures.takes, c.loop-start.invariant.less);
 }
 
 pub returns-in_err-read_graph_child-in-Child-clause-reads : goal.returns-in_err-read_graph_child-in-Child-clause-reads

@@ -1,7 +1,7 @@
 use Rattle.std.proofs.Common.{◌∷◌, None, length, arith, ap, subst}
 use Rattle.std.specs.Prelude.{option_map}
 use Rattle.std.proofs.lemmas.Result.{err_from_is_err_and}
-use Rattle.cstn_element.specs.Children.{Takes}
+use Rattle.cstn_element.specs.Children.{TakesTokens}
 use Rattle.cstn_element.specs.Results.{or_refused}
 use Rattle.cstn_element.specs.Results.Refusal.{shape}
 use Rattle.cstn_element.specs.declared.children.Next.{Next}
@@ -14,7 +14,7 @@ loop-start-preserved c = record {
       let stands = c.next_child.ensures.next others (omega (arith, l)) in
       let child = c.in_ok-read_root_child-in-Child.ensures.reads (c.args.name.now ∷ others) (omega (arith, l)) in
       c.elements_are_read_in_turn.ensures.child None (option_map graph_seen c.loop-start.seen) _ _ others _ _ _ _ _ _ (c.loop-start.invariant.same others l) stands c.in-Child.is child;
-  less = omega (arith, c.in_ok-read_root_child-in-Child.ensures.less, subst (λ (next : Next). Takes next (length c.loop-start.scanner) (length c.next_child.new.scanner)) c.in-Child.is c.next_child.ensures.takes, c.loop-start.invariant.less);
+  less = omega (arith, c.in_ok-read_root_child-in-Child.ensures.less, subst (λ (next : Next). TakesTokens next (length c.loop-start.scanner) (length c.next_child.new.scanner)) c.in-Child.is c.next_child.ensures.takes, c.loop-start.invariant.less);
 }
 
 pub returns-in_err-read_root_child-in-Child-clause-reads : goal.returns-in_err-read_root_child-in-Child-clause-reads

@@ -7,7 +7,7 @@ use Rattle.cstn_element.specs.Contents.{Tag}
 use Rattle.cstn_element.specs.Children.{tag_seen}
 use Rattle.cstn_graphml.specs.DrawnGraphSeen.{graph_seen}
 use Rattle.cstn_graphml.specs.Document.{root_child}
-use Rattle.cstn_element.specs.Faults.{refusal_of}
+use Rattle.cstn_element.specs.Faults.{document_refusal}
 use Rattle.cstn_graphml.specs.Kept.{kept}
 use Rattle.cstn_graphml.proofs.GraphRead.{root_passed}
 use Rattle.cstn_graphml.proofs.KeptRead.{reads_kept, some_seen, root_read, root_refused}
@@ -25,8 +25,8 @@ returns-in_err-pass_element-clause-reads c = λ names l.
     let p = err_from_is_err_and c.from_residual.result c.from_residual.ensures.1 in
     let seen = option_map graph_seen c.args.seen.now in
     let other : is_same c.args.start.now.name.now (codes "graph") ≡ false = subst (λ k. is_same c.args.start.now.name.now k ≡ false) c.as_slice.ensures (not-true (is_same c.args.start.now.name.now c.as_slice.result.now) (sym c.if-ne.ensures)) in
-    rw (p.1, p.2) (reads_kept (option_map kept) (λ (u : Unit {0}). seen) (root_child (is_same c.args.start.now.name.now (codes "graph")) seen (tag_seen c.args.start.now)) _ _ _ names _ _ (Err (refusal_of c.in_err-pass_element.field-0.0)) (λ u. some_seen c.args.seen.now)
-    (root_passed c.elements_passed_over_leave_the_state.ensures.passed _ seen (tag_seen c.args.start.now) _ _ names _ _ (Err (refusal_of c.in_err-pass_element.field-0.0)) other (c.in_err-pass_element.ensures.reads names l)))
+    rw (p.1, p.2) (reads_kept (option_map kept) (λ (u : Unit {0}). seen) (root_child (is_same c.args.start.now.name.now (codes "graph")) seen (tag_seen c.args.start.now)) _ _ _ names _ _ (Err (document_refusal c.in_err-pass_element.field-0.0)) (λ u. some_seen c.args.seen.now)
+    (root_passed c.elements_passed_over_leave_the_state.ensures.passed _ seen (tag_seen c.args.start.now) _ _ names _ _ (Err (document_refusal c.in_err-pass_element.field-0.0)) other (c.in_err-pass_element.ensures.reads names l)))
 
 pub returns-clause-reads : goal.returns-clause-reads
 returns-clause-reads c = λ names l.

@@ -11,7 +11,7 @@ use Rattle.cstn_history.specs.Rest.{rest}
 use Rattle.cstn_history.specs.Read.{the_history}
 use Rattle.cstn_history.proofs.WellFormed.{rest_labelled}
 use Rattle.cstn_history.proofs.Refused.{lift_refused, lift_has_room}
-use Rattle.cstn_history.specs.Handed.{HasRoom}
+use Rattle.cstn_history.specs.Handed.{HasFewConstraints}
 use Rattle.cstn_history.proofs.rests.rest.Goals as goal
 
 pub returns-clause-refused : goal.returns-clause-refused
@@ -42,4 +42,4 @@ returns-in-Ok-lift-clause-few c =
     let same : with_labels base labels ≡ R =
     ap (λ (n : Network). record { base = n; labels = map marks labels }) base_is
     ∙ ap (λ (ls : List Label). record R { labels = ls }) c.in-Ok-labels_left.ensures in
-    subst HasRoom same (lift_has_room (with_labels base labels) c.network_is_well_formed.ensures.few_constraints c.in-Ok-lift.ensures.faultless)
+    subst HasFewConstraints same (lift_has_room (with_labels base labels) c.network_is_well_formed.ensures.few_constraints c.in-Ok-lift.ensures.faultless)

@@ -5,7 +5,7 @@ use Rattle.cstn_label.specs.Read.{the_bound}
 use Rattle.cstn_rules.specs.declared.entries.Why.{Why}
 use Rattle.cstn_rules.specs.Derivations.{Entry as TheEntry}
 use Rattle.cstn_rules.specs.Read.{the_entry}
-use Rattle.cstn_log.specs.Cuts.{rank, moved}
+use Rattle.cstn_log.specs.Cuts.{rank, moved_premises}
 use Rattle.cstn_log.proofs.ChoiceLemmas.{rank_marked, rank_unmarked, rank_grows}
 use Rattle.cstn_facts.proofs.Places.{get_front}
 use Rattle.cstn_log.proofs.MarkLemmas.{below_more}
@@ -46,7 +46,7 @@ loop-k-preserved c =
           let put = rw w.unwrap-then-marks-k.ensures at w.push-then-marks-k.ensures.items in
           let places = w.deref.ensures.value in
           let rule = placed_renumbered marks c.push.new.self.items k (k + 1) e.why (rw (pushed, next) ranks) low (omega arith) in
-          let is : the_entry w.placed.result ≡ moved marks (the_entry e) = ap (λ b. of_rule b w.placed.result.why) w.placed.ensures.bound ∙ ap (of_rule e.bound) ((rw places at w.placed.ensures.why) ∙ rule) in
+          let is : the_entry w.placed.result ≡ moved_premises marks (the_entry e) = ap (λ b. of_rule b w.placed.result.why) w.placed.ensures.bound ∙ ap (of_rule e.bound) ((rw places at w.placed.ensures.why) ∙ rule) in
           let step = cut_step_marked marks L c.loop-k.steps.items k e w.placed.result there w.if-marks-k.true is in
           let up = rank_marked marks k w.if-marks-k.true in
           let long = length-append c.loop-k.steps.items (w.placed.result ∷ []) in

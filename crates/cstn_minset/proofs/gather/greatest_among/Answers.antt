@@ -1,4 +1,4 @@
-use Rattle.std.proofs.Common.{◌≡◌, ◌⊎◌, inl, inr, ℕ, true, refl, ◌∙◌, sym, rules, SFits, w32}
+use Rattle.std.proofs.Common.{arith, ◌≡◌, ◌⊎◌, inl, inr, ℕ, true, refl, ◌∙◌, sym, rules, SFits, w32}
 use Rattle.std.specs.Prelude.{Some, slice_get}
 use Rattle.std.proofs.lemmas.Int.{to_z-of_z}
 use Rattle.cstn_label.specs.Words.{has_bit}
@@ -12,7 +12,7 @@ loop-i-init c = record { part = λ k set. set; found = inl refl }
 
 pub loop-i-smaller : goal.loop-i-smaller
 loop-i-smaller c =
-    count_less c.loop-i.rest c.with_bit-rest.result c.in-Some.i c.with_bit-rest.ensures.here c.with_bit-rest.ensures.others 64 c.in-Some.ensures.set c.in-Some.ensures.range
+    count_less c.loop-i.rest c.without_least-rest.result c.in-Some.i (c.without_least-rest.ensures.gone c.in-Some.i c.in-Some.ensures.set (λ j below. c.in-Some.ensures.least j (omega arith) below)) (λ k other. c.without_least-rest.ensures.others c.in-Some.i k c.in-Some.ensures.set (λ j below. c.in-Some.ensures.least j (omega arith) below) other) 64 c.in-Some.ensures.set c.in-Some.ensures.range
 
 pub loop-i-preserved : goal.loop-i-preserved
 loop-i-preserved c =
@@ -33,7 +33,7 @@ loop-i-preserved c =
       | inr new ↦ inr (i, here.0, here.1, set, sym (c.least.ensures here.0 here.1) ∙ sym (to_z-of_z w32 c.least.result least) ∙ sym new)
     ] in
     record {
-      part = part_less c.loop-i.rest c.with_bit-rest.result i c.with_bit-rest.ensures.here c.with_bit-rest.ensures.others c.args.bits c.loop-i.invariant.part;
+      part = part_less c.loop-i.rest c.without_least-rest.result i (c.without_least-rest.ensures.gone c.in-Some.i c.in-Some.ensures.set (λ j below. c.in-Some.ensures.least j (omega arith) below)) (λ k other. c.without_least-rest.ensures.others c.in-Some.i k c.in-Some.ensures.set (λ j below. c.in-Some.ensures.least j (omega arith) below) other) c.args.bits c.loop-i.invariant.part;
       found = rw (to_z-of_z w32 next fits, to_z-of_z w32 c.args.floor floor) told;
     }
 

@@ -2,7 +2,7 @@ use Rattle.std.proofs.Common.{◌≡◌, ◌⊎◌, ℕ, length}
 use Rattle.std.specs.Prelude.{pos}
 use Rattle.cstn_label.specs.Read.{marks}
 use Rattle.cstn_minset.specs.declared.columns.Record.{Record}
-use Rattle.cstn_minset.specs.Pages.{numbered}
+use Rattle.cstn_minset.specs.Pages.{numbered_pages}
 use Rattle.cstn_minset.specs.Sets.{IsRecordAt, IsRecordOf}
 use Rattle.cstn_minset.proofs.NumberLemmas.{left}
 use Rattle.cstn_minset.proofs.ScanLemmas.{IsScanned}
@@ -15,4 +15,4 @@ invariant-loop-place l = record {
 }
 
 abbrev pub decreases-loop-place : goal.decreases-loop-place
-decreases-loop-place l = left (length (numbered l.rows)) l.place
+decreases-loop-place l = left (length (numbered_pages l.rows)) l.place

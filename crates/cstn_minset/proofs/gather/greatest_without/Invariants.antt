@@ -1,6 +1,6 @@
 use Rattle.std.proofs.Common.{length}
 use Rattle.cstn_label.specs.Read.{marks}
-use Rattle.cstn_minset.specs.Pages.{numbered}
+use Rattle.cstn_minset.specs.Pages.{numbered_pages}
 use Rattle.cstn_minset.proofs.FloorLemmas.{AreFloors}
 use Rattle.cstn_minset.proofs.NumberLemmas.{left}
 use Rattle.cstn_minset.proofs.ScanLemmas.{IsScanned}
@@ -13,4 +13,4 @@ invariant-loop-place l = record {
 }
 
 abbrev pub decreases-loop-place : goal.decreases-loop-place
-decreases-loop-place l = left (length (numbered l.rows)) l.place
+decreases-loop-place l = left (length (numbered_pages l.rows)) l.place

@@ -1,6 +1,6 @@
 use Rattle.std.proofs.Common.{◌≡◌, length}
 use Rattle.std.specs.Prelude.{vec_capacity}
-use Rattle.cstn_minset.specs.Pages.{numbered}
+use Rattle.cstn_minset.specs.Pages.{numbered_pages}
 use Rattle.cstn_minset.proofs.GatherLemmas.{IsGathered}
 use Rattle.cstn_minset.proofs.NumberLemmas.{left}
 use Rattle.cstn_minset.proofs.gather.slots_above.Given as goal
@@ -12,4 +12,4 @@ invariant-loop-place l = record {
 }
 
 abbrev pub decreases-loop-place : goal.decreases-loop-place
-decreases-loop-place l = left (length (numbered l.rows)) l.place
+decreases-loop-place l = left (length (numbered_pages l.rows)) l.place

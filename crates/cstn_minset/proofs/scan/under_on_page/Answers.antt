@@ -21,7 +21,7 @@ loop-i-init c =
 
 pub loop-i-smaller : goal.loop-i-smaller
 loop-i-smaller c =
-    count_less c.loop-i.rest c.with_bit-rest.result c.in-Some.i c.with_bit-rest.ensures.here c.with_bit-rest.ensures.others 64 c.in-Some.ensures.set c.in-Some.ensures.range
+    count_less c.loop-i.rest c.without_least-rest.result c.in-Some.i (c.without_least-rest.ensures.gone c.in-Some.i c.in-Some.ensures.set (λ j below. c.in-Some.ensures.least j (omega arith) below)) (λ k other. c.without_least-rest.ensures.others c.in-Some.i k c.in-Some.ensures.set (λ j below. c.in-Some.ensures.least j (omega arith) below) other) 64 c.in-Some.ensures.set c.in-Some.ensures.range
 
 pub loop-i-preserved : goal.loop-i-preserved
 loop-i-preserved c =
@@ -30,7 +30,7 @@ loop-i-preserved c =
     let kept = c.index-records-i.result in
     let there = c.loop-i.invariant.among i c.in-Some.ensures.set in
     let here : slice_get items i ≡ Some kept = slice_get_read items (length items) i kept refl (slice_get_within items i there.0 there.1) (rw c.as_slice-records.ensures.value at c.index-records-i.is) in
-    looked_next items (IsRecordUnder c.args.b.now) (λ r. IsWithin (marks c.args.b.now.label) (marks r.label)) c.loop-i.rest c.with_bit-rest.result i kept c.loop-i.invariant c.with_bit-rest.ensures.here c.with_bit-rest.ensures.others here
+    looked_next items (IsRecordUnder c.args.b.now) (λ r. IsWithin (marks c.args.b.now.label) (marks r.label)) c.loop-i.rest c.without_least-rest.result i kept c.loop-i.invariant (c.without_least-rest.ensures.gone c.in-Some.i c.in-Some.ensures.set (λ j below. c.in-Some.ensures.least j (omega arith) below)) (λ k other. c.without_least-rest.ensures.others c.in-Some.i k c.in-Some.ensures.set (λ j below. c.in-Some.ensures.least j (omega arith) below) other) here
     (λ is. let low = is.0 in let high = c.if-kept-b.false in absurd (omega (arith, ints)))
 
 pub returns-then-kept-b-clause-some : goal.returns-then-kept-b-clause-some

@@ -1,10 +1,9 @@
-use Rattle.std.proofs.Common.{false}
 use Rattle.cstn_minset.proofs.BitLemmas.{count_below}
-use Rattle.cstn_minset.proofs.SheetLemmas.{IsLeftBut}
+use Rattle.cstn_minset.proofs.SheetLemmas.{IsAnyBut}
 use Rattle.cstn_minset.proofs.sheet.in_none.Given as goal
 
 abbrev pub invariant-loop-p : goal.invariant-loop-p
-invariant-loop-p l = IsLeftBut l.words l.numbers l.front false l.rest l.left
+invariant-loop-p l = IsAnyBut l.words l.numbers l.rest l.any
 
 abbrev pub decreases-loop-p : goal.decreases-loop-p
 decreases-loop-p l = count_below l.rest 64

@@ -5,7 +5,7 @@ use Rattle.std.proofs.lemmas.Option.{get_or_from_slice_get}
 use Rattle.std.proofs.lemmas.List.{take_all}
 use Rattle.cstn_label.specs.declared.nodes.NodeId.{NodeId}
 use Rattle.cstn_text.specs.PrintedNames.{printed_name}
-use Rattle.cstn_outline.specs.Read.{numbers}
+use Rattle.cstn_outline.specs.Read.{node_numbers}
 use Rattle.cstn_outline.proofs.PrintLemmas.{printed_more, pushed_twice}
 use Rattle.cstn_outline.proofs.printing.push_names.Goals as goal
 
@@ -23,5 +23,5 @@ loop-x-preserved c =
 
 pub returns : goal.returns
 returns c = record {
-  pushed = c.loop-x.invariant ∙ ap (λ (l : List NodeId). string_bytes c.args.text.now ++ flat_map (λ x. 32 ∷ printed_name (slice_index_or c.args.names.now x [])) (numbers l)) (take_all c.loop-x.x-index c.args.named.now c.loop-x-test.false);
+  pushed = c.loop-x.invariant ∙ ap (λ (l : List NodeId). string_bytes c.args.text.now ++ flat_map (λ x. 32 ∷ printed_name (slice_index_or c.args.names.now x [])) (node_numbers l)) (take_all c.loop-x.x-index c.args.named.now c.loop-x-test.false);
 }

@@ -9,9 +9,9 @@ use Rattle.cstn_rules.specs.Read.{the_entry}
 use Rattle.cstn_text.specs.Parts.{parts_at}
 use Rattle.cstn_text.specs.Listings.{told_after}
 use Rattle.cstn_refute.specs.Refutations.{IsStep, the_steps}
-use Rattle.cstn_refute.specs.Read.{IsWrong}
+use Rattle.cstn_refute.specs.Read.{IsWrongStepLine}
 use Rattle.cstn_refute.specs.Steps.{step_read}
-use Rattle.cstn_refute.specs.Texts.{Told, tells, wrong, step_lines}
+use Rattle.cstn_refute.specs.Texts.{RefutationTold, tells, wrong, step_lines}
 use Rattle.cstn_refute.proofs.OrderLemmas.{told_viewed, wrong_viewed, told_last}
 use Rattle.cstn_refute.proofs.reading.read_steps.Goals as goal
 
@@ -23,7 +23,7 @@ returns-clause-accepted c =
 pub returns-clause-line : goal.returns-clause-line
 returns-clause-line c =
     let last = told_last (step_lines c.args.names.now) c.args.load (map the_entry c.loop-line.steps.items) c.loop-line.left.now (sym c.in_default.ensures.cut) in
-    subst (λ t. IfErr c.finish.result (IsWrong t)) (sym last ∙ c.loop-line.invariant.told) c.finish.ensures.line
+    subst (λ t. IfErr c.finish.result (IsWrongStepLine t)) (sym last ∙ c.loop-line.invariant.told) c.finish.ensures.line
 
 pub loop-line-preserved : goal.loop-line-preserved
 loop-line-preserved c =
@@ -43,7 +43,7 @@ pub returns-in_default-read_step-clause-line : goal.returns-in_default-read_step
 returns-in_default-read_step-clause-line c =
     let steps = c.loop-line.steps.items in
     let count = c.len-k.ensures ∙ c.loop-line.steps.ok.0 in
-    let line_wrong : ℕ → Told = λ n. wrong (n + 2) in
+    let line_wrong : ℕ → RefutationTold = λ n. wrong (n + 2) in
     let read = subst (λ k. step_read c.args.names.now k c.in-Some.line.now ≡ None) (count ∙ sym (length-map steps the_entry)) (sym c.in_default-read_step.ensures.step) in
     wrong_viewed (step_lines c.args.names.now) the_entry c.args.load steps c.loop-line.left.now c.in-Some.line.now c.in-Some.rest.now _
     (sym c.in-Some.ensures.cut) read c.loop-line.invariant.told

@@ -1,11 +1,11 @@
 use Rattle.std.proofs.Common.{◌≡◌, ℕ, List, [], ◌∷◌, ◌++◌, drop, refl, sym, ◌∙◌, ap, arith, append-nil, append_assoc, ◌==◌, true, false, if◌then◌else◌, length}
-use Rattle.cstn_text.specs.PrintedNames.{unprinted, unprinted_after, escaped_byte}
+use Rattle.cstn_text.specs.PrintedNames.{unprinted, unprinted_after, unescaped_byte}
 use Rattle.cstn_text.proofs.PrintedNameLemmas.{unprinted_skip}
 use Rattle.cstn_sentences.proofs.spelling.unprinted.Goals as goal
 
-opened : (b : ℕ) (rest : List ℕ) → unprinted (b ∷ rest) ≡ (if b == 37 then escaped_byte rest else b) ∷ unprinted (drop (if b == 37 then 2 else 0) rest)
+opened : (b : ℕ) (rest : List ℕ) → unprinted (b ∷ rest) ≡ (if b == 37 then unescaped_byte rest else b) ∷ unprinted (drop (if b == 37 then 2 else 0) rest)
 unfolding unprinted_after
-opened b rest = ap (λ t. (if b == 37 then escaped_byte rest else b) ∷ t) (unprinted_skip (if b == 37 then 2 else 0) rest)
+opened b rest = ap (λ t. (if b == 37 then unescaped_byte rest else b) ∷ t) (unprinted_skip (if b == 37 then 2 else 0) rest)
 
 is_escape : (b : ℕ) → b ≡ 37 → (b == 37) ≡ true
 is_escape b e = grind arith
@@ -14,8 +14,8 @@ is_plain : (b : ℕ) → (b ≡ 37 → ⊥) → (b == 37) ≡ false
 is_plain b e = grind arith
 
 escaped : (bytes text left rest : List ℕ) (b : ℕ) → unprinted bytes ≡ text ++ unprinted left → left ≡ b ∷ rest → b ≡ 37
-    → unprinted bytes ≡ (text ++ (escaped_byte rest ∷ [])) ++ unprinted (drop 2 rest)
-escaped bytes text left rest b e is k = e ∙ ap (λ l. text ++ unprinted l) is ∙ ap (λ t. text ++ t) (opened b rest ∙ rw (is_escape b k) refl) ∙ sym (append_assoc text (escaped_byte rest ∷ []) (unprinted (drop 2 rest)))
+    → unprinted bytes ≡ (text ++ (unescaped_byte rest ∷ [])) ++ unprinted (drop 2 rest)
+escaped bytes text left rest b e is k = e ∙ ap (λ l. text ++ unprinted l) is ∙ ap (λ t. text ++ t) (opened b rest ∙ rw (is_escape b k) refl) ∙ sym (append_assoc text (unescaped_byte rest ∷ []) (unprinted (drop 2 rest)))
 
 plain : (bytes text left rest : List ℕ) (b : ℕ) → unprinted bytes ≡ text ++ unprinted left → left ≡ b ∷ rest → (b ≡ 37 → ⊥)
     → unprinted bytes ≡ (text ++ (b ∷ [])) ++ unprinted rest

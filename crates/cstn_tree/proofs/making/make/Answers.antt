@@ -10,7 +10,7 @@ use Rattle.cstn_exec.specs.Read.{ExecParts}
 use Rattle.cstn_outline.specs.Trees.{IsAmong, table_of}
 use Rattle.cstn_tree.specs.Good.{IsUnbroken}
 use Rattle.cstn_tree.specs.Made.{IsTreeOf}
-use Rattle.cstn_outline.specs.Written.{FitsText}
+use Rattle.cstn_outline.specs.Written.{TreeFitsText}
 use Rattle.cstn_outline.specs.Read.{the_tree}
 use Rattle.cstn_tree.proofs.MadeTrees.{made_good, made_least, made_among, made_fits}
 use Rattle.cstn_tree.proofs.making.make.Goals as goal
@@ -43,6 +43,6 @@ pub returns-clause-fits : goal.returns-clause-fits
 returns-clause-fits c =
     let net = the_network c.args.exec.now.net in
     let bounds = the_bounds c.args.exec.now.bounds in
-    IfOk-weaker c.grow-made.result (λ t. IsTreeOf net bounds (the_tree t)) (λ t. FitsText (the_tree t))
+    IfOk-weaker c.grow-made.result (λ t. IsTreeOf net bounds (the_tree t)) (λ t. TreeFitsText (the_tree t))
     (λ t made. made_fits net bounds c.network.ensures.earliest.0 c.network.ensures.well_formed c.network.ensures.earliest.1 (the_tree t) made)
     (subst (λ (e : ExecParts). IfOk c.grow-made.result (λ t. IsTreeOf (the_network e.net) (the_bounds e.bounds) (the_tree t))) c.restart.ensures.started c.grow-made.ensures.tree)

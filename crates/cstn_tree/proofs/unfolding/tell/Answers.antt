@@ -6,7 +6,7 @@ use Rattle.cstn_plan.specs.Plans.{the_bounds}
 use Rattle.cstn_check.specs.Growth.{log_of, live_bounds}
 use Rattle.cstn_exec.specs.Read.{ExecParts}
 use Rattle.cstn_outline.specs.Read.{the_tree}
-use Rattle.cstn_outline.specs.Texts.{told}
+use Rattle.cstn_outline.specs.Texts.{tree_told}
 use Rattle.cstn_tree.proofs.SayingTrees.{IsMade, tree_said}
 use Rattle.cstn_tree.proofs.unfolding.tell.Goals as goal
 
@@ -22,5 +22,5 @@ returns c = record {
       (subst (λ (n : NetworkParts). IsMade (the_network n) bounds (the_tree c.in_ok-tree.tree)) same_net
       (subst (λ (bs : List Bound). IsMade (the_network c.in_ok-exec.exec.net) bs (the_tree c.in_ok-tree.tree)) same_bounds made))
       (items ∙ c.in_ok-text.ensures.shown)
-      (ap (told c.args.names.now) items ∙ c.in_ok-text.ensures.back c.in_ok-tree.ensures.fits);
+      (ap (tree_told c.args.names.now) items ∙ c.in_ok-text.ensures.back c.in_ok-tree.ensures.fits);
 }

@@ -5,7 +5,7 @@ use Rattle.cstn_label.specs.declared.nodes.NodeId.{NodeId}
 use Rattle.cstn_label.specs.declared.labels.Label.{Label}
 use Rattle.cstn_label.specs.Read.{marks}
 use Rattle.cstn_outline.specs.Trees.{is_named}
-use Rattle.cstn_outline.specs.Read.{numbers}
+use Rattle.cstn_outline.specs.Read.{node_numbers}
 use Rattle.cstn_cases.specs.Writing.{the_named, the_told}
 use Rattle.cstn_cases.proofs.CaseLemmas.{name_more, history_of}
 use Rattle.cstn_cases.proofs.going.Case.name.Goals as goal
@@ -22,11 +22,11 @@ loop-x-preserved c =
     let is = c.index.ensures.index in
     let within = c.requires.inside k d c.loop-x-test.true in
     let inside : c.index.result < length moments = omega arith in
-    let more : numbers (take k xs) ++ c.index.result ∷ [] ≡ numbers (take (k + 1) xs) =
-    ap (λ (x : ℕ). numbers (take k xs) ++ x ∷ []) is ∙ sym (map_more (λ (x : NodeId). x.0) xs k d c.loop-x-test.true) in
+    let more : node_numbers (take k xs) ++ c.index.result ∷ [] ≡ node_numbers (take (k + 1) xs) =
+    ap (λ (x : ℕ). node_numbers (take k xs) ++ x ∷ []) is ∙ sym (map_more (λ (x : NodeId). x.0) xs k d c.loop-x-test.true) in
     let with : List ℕ → ℕ → Option ℕ = λ ys y. if is_named y ys then Some t else old y in
     record {
-      named = name_more moments t old (numbers (take k xs)) c.index.result inside c.loop-x.invariant.named
+      named = name_more moments t old (node_numbers (take k xs)) c.index.result inside c.loop-x.invariant.named
           ∙ ap with more;
       wide = length-set moments c.index.result (Some t) ∙ wide;
       told = c.loop-x.invariant.told;
@@ -39,9 +39,9 @@ returns-clause-named c =
     let old = the_named c.args.self.now.named.items in
     let t = c.args.t in
     let last = max c.args.self.now.last t in
-    let with : List NodeId → ℕ → Option ℕ = λ ys y. if is_named y (numbers ys) then Some t else old y in
+    let with : List NodeId → ℕ → Option ℕ = λ ys y. if is_named y (node_numbers ys) then Some t else old y in
     ap (λ (n : ℕ). history_of n (the_named c.loop-x.self.named.items) (the_told (marks c.loop-x.self.told)))
     (c.max-self.ensures ∙ ap (λ (n : ℕ). max n t) c.loop-x.invariant.last)
     ∙ ap (λ (f : ℕ → Option ℕ). history_of last f (the_told (marks c.loop-x.self.told)))
     (c.loop-x.invariant.named ∙ ap with (take_all c.loop-x.x-index xs c.loop-x-test.false))
-    ∙ ap (λ (w : Label). history_of last (λ y. if is_named y (numbers xs) then Some t else old y) (the_told (marks w))) c.loop-x.invariant.told
+    ∙ ap (λ (w : Label). history_of last (λ y. if is_named y (node_numbers xs) then Some t else old y) (the_told (marks w))) c.loop-x.invariant.told

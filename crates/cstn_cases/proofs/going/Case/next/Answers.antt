@@ -14,7 +14,7 @@ use Rattle.cstn_lift.specs.Read.{the_labelled}
 use Rattle.cstn_plan.specs.Asked.{AllSound}
 use Rattle.cstn_plan.specs.Plans.{the_bounds}
 use Rattle.cstn_history.specs.Histories.{History}
-use Rattle.cstn_outline.specs.Read.{numbers}
+use Rattle.cstn_outline.specs.Read.{node_numbers}
 use Rattle.cstn_next.specs.Next.{earlier, earliest}
 use Rattle.cstn_next.proofs.Filled.{filled_long}
 use Rattle.cstn_cases.specs.Cases.{IsSoundlyPlanned}
@@ -95,5 +95,5 @@ returns c =
     (c.deref-3.ensures.value ∙ c.in_ok-awaited.ensures) c.in-Some.t (option_map (λ (p : Prop). p.index) c.first_upto.result) c.first_upto.ensures
     ∙ ap (λ (o : Option Prop). option_map (λ (p : Prop). p.index) o) c.in_default-first_upto.is in
     let named = named_by m bounds h c.deref-4.result.now c.deref-3.result.now (c.deref-4.ensures.value ∙ c.in_ok-ready.ensures)
-    (c.deref-3.ensures.value ∙ c.in_ok-awaited.ensures) c.in-Some.t (numbers c.in_ok-named.named.items) c.in_ok-named.ensures in
+    (c.deref-3.ensures.value ∙ c.in_ok-awaited.ensures) c.in-Some.t (node_numbers c.in_ok-named.named.items) c.in_ok-named.ensures in
     record { next = (left, time, quiet, named) }

@@ -11,8 +11,8 @@ use Rattle.cstn_lift.specs.Lowered.{lowered}
 use Rattle.cstn_lift.specs.Read.{LabelledParts, the_labelled}
 use Rattle.cstn_plan.specs.Asked.{AllSound}
 use Rattle.cstn_plan.specs.Plans.{the_bounds}
-use Rattle.cstn_outline.specs.Read.{the_line, the_tree, numbers}
-use Rattle.cstn_outline.specs.Trees.Line.{AtLine, AskLine, DoneLine}
+use Rattle.cstn_outline.specs.Read.{the_tree_line, the_tree, node_numbers}
+use Rattle.cstn_outline.specs.Trees.TreeLine.{AtLine, AskLine, DoneLine}
 use Rattle.cstn_cases.specs.declared.going.Case.{Case}
 use Rattle.cstn_cases.specs.declared.nexts.Next.{Next}
 use Rattle.cstn_cases.specs.declared.nexts.Next.TheVariants.{Over, Asks, Names}
@@ -113,7 +113,7 @@ returns-in-Names-clause-writing c =
     ok_both c.name.result (λ lines named.
     subst (λ (n : ℕ). IsWriting m bounds c.name.new.self.lines.items n c.name.new.self.pending.items) (sym c.name.ensures.branches)
     (writes_at m bounds plan c.args.self.now.lines.items c.name.new.self.lines.items c.args.self.now.branches c.args.self.now.pending.items c.args.case
-    c.requires.writing c.in-Names.t next.0 next.1 (numbers c.in-Names.xs.items) c.name.new.self.pending.items next.2 next.3 named lines)) c.name.ensures.lines c.name.ensures.pending
+    c.requires.writing c.in-Names.t next.0 next.1 (node_numbers c.in-Names.xs.items) c.name.new.self.pending.items next.2 next.3 named lines)) c.name.ensures.lines c.name.ensures.pending
 
 pub returns-in-Asks-clause-few : goal.returns-in-Asks-clause-few
 returns-in-Asks-clause-few c = ok_always c.ask.result (let same = c.ask.ensures.branches in omega arith)

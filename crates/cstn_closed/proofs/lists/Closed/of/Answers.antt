@@ -3,7 +3,7 @@ use Rattle.std.proofs.Math.Seq.{take_all}
 use Rattle.cstn_label.specs.declared.bounds.Bound.{Bound}
 use Rattle.cstn_label.specs.Read.{the_bound}
 use Rattle.cstn_net.specs.Read.{the_network}
-use Rattle.cstn_closed.specs.Closed.{the_bounds}
+use Rattle.cstn_closed.specs.Closed.{the_listed_bounds}
 use Rattle.cstn_closed.specs.Faults.{IsFaultless}
 use Rattle.cstn_closed.proofs.FaultLemmas.{closed_faultless}
 use Rattle.std.proofs.lemmas.List.{take_more}
@@ -30,4 +30,4 @@ returns-clause-accepted c range =
     let none = closed_faultless net (map the_bound bounds) c.is_closed.ensures.closed range in
     let all : c.loop-k.bounds.items ≡ bounds = c.loop-k.invariant.taken
     ∙ take_all c.loop-k.k bounds (omega (arith, c.loop-k-test.false, c.count-k-end.ensures.count)) in
-    subst (λ v. IsFaultless net (the_bounds v)) (sym c.new.ensures.new) (subst (λ (bs : List Bound). IsFaultless net (map the_bound bs)) (sym all) none)
+    subst (λ v. IsFaultless net (the_listed_bounds v)) (sym c.new.ensures.new) (subst (λ (bs : List Bound). IsFaultless net (map the_bound bs)) (sym all) none)

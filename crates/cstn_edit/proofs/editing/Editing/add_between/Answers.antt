@@ -2,7 +2,7 @@ use Rattle.std.proofs.Common.{ℕ, ℤ, w32, List, ◌++◌, ap, ◌∙◌, code
 use Rattle.std.proofs.lemmas.Int.{to_z-of_z}
 use Rattle.cstn_label.specs.Read.{marks}
 use Rattle.cstn_change.specs.Changes.{adds, refusal}
-use Rattle.cstn_change.specs.Read.{the_refusal}
+use Rattle.cstn_change.specs.Read.{the_change_refusal}
 use Rattle.cstn_edit.specs.Sessions.{EditSessionParts}
 use Rattle.cstn_edit.specs.Edits.{edited_of, with_change, the_session}
 use Rattle.cstn_reply.specs.Texts.{line}
@@ -29,6 +29,6 @@ returns c =
             (ap (λ (x : EditSessionParts). x.cap) w.in-Ok.ensures.added)
         | in-Err w ↦
             refused c.args.self.now s c.add.new.self c.self.inside.names c.self.inside.verdict c.self.view_is c.self.invariant.0.room change c.match-add.text
-            (the_refusal w.in-Err.error) (w.in-Err.ensures.refusal ∙ why) (w.text-is ∙ w.put_refusal.ensures.line) w.in-Err.ensures.refused
+            (the_change_refusal w.in-Err.error) (w.in-Err.ensures.refusal ∙ why) (w.text-is ∙ w.put_refusal.ensures.line) w.in-Err.ensures.refused
       ];
     }

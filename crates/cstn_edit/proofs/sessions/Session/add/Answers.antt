@@ -9,7 +9,7 @@ use Rattle.cstn_net.specs.declared.constraints.Constraint.{Constraint}
 use Rattle.cstn_net.specs.Networks.{IsValue, IsLeastUnobserved}
 use Rattle.cstn_net.specs.Read.{the_network, the_constraint}
 use Rattle.cstn_change.specs.Changes.{adds, refusal}
-use Rattle.cstn_change.specs.Read.{the_refusal}
+use Rattle.cstn_change.specs.Read.{the_change_refusal}
 use Rattle.cstn_change.specs.declared.errors.EditError.TheVariants.{NoRoom, ValueRange, NotObserved}
 use Rattle.cstn_edit.specs.Sessions.{EditSessionParts}
 use Rattle.cstn_edit.specs.Edits.{the_session, with_change}
@@ -45,7 +45,7 @@ unwrap-requires c =
 
 pub returns-in-Some-clause-refusal : goal.returns-in-Some-clause-refusal
 returns-in-Some-clause-refusal c =
-    refusal_seen _ c.args.self.now (adds c.args.from.0 c.args.to.0 c.args.most (marks c.args.label)) (Some (the_refusal c.in-Some.error)) c.self.view_is
+    refusal_seen _ c.args.self.now (adds c.args.from.0 c.args.to.0 c.args.most (marks c.args.label)) (Some (the_change_refusal c.in-Some.error)) c.self.view_is
     (c.in-Some.ensures.refusal c.self.inside.next c.args.from.0 c.args.to.0 ∙ ap (λ z. refusal c.self.inside.room (record { net = the_network c.self.inside.net; fresh = c.self.inside.next; edits = c.self.inside.edits }) (adds c.args.from.0 c.args.to.0 z (marks c.args.label))) (to_z-of_z w32 c.args.most c.ranges.most))
 
 pub returns-clause-refusal : goal.returns-clause-refusal

@@ -9,7 +9,7 @@ use Rattle.cstn_net.specs.Read.{NetworkParts, the_network, the_constraint, with_
 use Rattle.cstn_log.specs.Cuts.{chosen, dropped, marked_staying}
 use Rattle.cstn_log.specs.Entries.{the_entries}
 use Rattle.cstn_change.specs.Changes.{revalues, refusal, with_value}
-use Rattle.cstn_change.specs.Read.{the_refusal}
+use Rattle.cstn_change.specs.Read.{the_change_refusal}
 use Rattle.cstn_change.specs.declared.errors.EditError.TheVariants.{NoSuch, ValueRange}
 use Rattle.cstn_change.proofs.IdLemmas.{with_most_seen}
 use Rattle.cstn_edit.specs.Sessions.{EditSessionParts, IsEditSession, kept_of, kept_list}
@@ -78,7 +78,7 @@ returns-clause-ids c = λ ok.
 
 pub returns-in-Some-clause-refusal : goal.returns-in-Some-clause-refusal
 returns-in-Some-clause-refusal c =
-    refusal_seen _ c.args.self.now (revalues c.args.id c.args.most) (Some (the_refusal c.in-Some.error)) c.self.view_is
+    refusal_seen _ c.args.self.now (revalues c.args.id c.args.most) (Some (the_change_refusal c.in-Some.error)) c.self.view_is
     (c.in-Some.ensures.refusal c.self.inside.room c.self.inside.next ∙ ap (λ z. refusal c.self.inside.room (record { net = the_network c.self.inside.net; fresh = c.self.inside.next; edits = c.self.inside.edits }) (revalues c.args.id z)) (to_z-of_z w32 c.args.most c.ranges.most))
 
 pub returns-clause-refusal : goal.returns-clause-refusal

@@ -7,8 +7,8 @@ use Rattle.cstn_net.specs.Networks.{count}
 use Rattle.cstn_net.specs.Read.{NetworkParts, the_network, the_constraint, has_id, without_id}
 use Rattle.cstn_log.specs.Cuts.{chosen, dropped, marked_staying}
 use Rattle.cstn_log.specs.Entries.{the_entries}
-use Rattle.cstn_change.specs.Changes.{removes, without}
-use Rattle.cstn_change.specs.Read.{the_refusal}
+use Rattle.cstn_change.specs.Changes.{removes, constraints_without}
+use Rattle.cstn_change.specs.Read.{the_change_refusal}
 use Rattle.cstn_change.specs.declared.errors.EditError.TheVariants.{NoSuch}
 use Rattle.cstn_change.proofs.IdLemmas.{without_seen}
 use Rattle.cstn_edit.specs.Sessions.{EditSessionParts, IsEditSession, kept_of, kept_list}
@@ -58,7 +58,7 @@ pub returns-clause-session : goal.returns-clause-session
 returns-clause-session c = λ ok.
     let inside = c.self.inside in
     let cs = inside.net.constraints in
-    others_seen c.args.self.now inside.net c.take_out.new.self inside.log c.forget-self-inside.new.log (without_id c.args.id cs) (without c.args.id)
+    others_seen c.args.self.now inside.net c.take_out.new.self inside.log c.forget-self-inside.new.log (without_id c.args.id cs) (constraints_without c.args.id)
     inside.room inside.edits c.args.id (inside.net.spare + 1) inside.tries.count inside.next inside.last inside.fresh.items inside.settled c.self.view_is (gone c)
     (without_seen c.args.id cs) c.forget-self-inside.ensures.size.0 c.forget-self-inside.ensures.dropped
 
@@ -79,7 +79,7 @@ returns-clause-ids c = λ ok.
 
 pub returns-in-Some-clause-refusal : goal.returns-in-Some-clause-refusal
 returns-in-Some-clause-refusal c =
-    refusal_seen _ c.args.self.now (removes c.args.id) (Some (the_refusal c.in-Some.error)) c.self.view_is
+    refusal_seen _ c.args.self.now (removes c.args.id) (Some (the_change_refusal c.in-Some.error)) c.self.view_is
     (c.in-Some.ensures.refusal c.self.inside.room c.self.inside.next)
 
 pub returns-clause-refusal : goal.returns-clause-refusal

@@ -11,12 +11,12 @@ use Rattle.cstn_lift.specs.Labelled.{Labelled}
 use Rattle.cstn_lift.specs.Lowered.{lowered}
 use Rattle.cstn_lift.specs.Read.{the_labelled}
 use Rattle.cstn_exec.specs.Runs.{Run, known, called}
-use Rattle.cstn_exec.specs.Moves.{moment_refusal, moved}
-use Rattle.cstn_exec.specs.Right.{IsRight}
-use Rattle.cstn_exec.specs.Read.{ExecParts, the_refusal}
+use Rattle.cstn_exec.specs.Moves.{moment_refusal, run_moved}
+use Rattle.cstn_exec.specs.Right.{IsRightRun}
+use Rattle.cstn_exec.specs.Read.{ExecParts, the_event_refusal}
 use Rattle.cstn_exec.specs.Guides.{Guided, named, left_out, advanced}
 use Rattle.cstn_exec.specs.Sound.{IsPlanned, IsNamedAt, IsLeftAt, IsGuided, IsOnTime}
-use Rattle.cstn_exec.specs.GuideRead.{GuideParts, parts, advanced_on, AreFresh}
+use Rattle.cstn_exec.specs.GuideRead.{GuideParts, guide_parts, advanced_on, AreWithoutOutcomes}
 use Rattle.cstn_exec.proofs.GuideNaming.{named_exactly, left_exactly, named_ascend}
 use Rattle.cstn_exec.proofs.Denying.{left_in}
 use Rattle.cstn_exec.proofs.Advancing.{called_fresh, advanced_guided}
@@ -27,7 +27,7 @@ use Rattle.cstn_exec.proofs.guides.Guide.moment.Goals as goal
 pub returns-in-Err-clause-refused : goal.returns-in-Err-clause-refused
 returns-in-Err-clause-refused c =
     let old = c.self.inside.executive in
-    subst (λ (v : GuideParts). Some (the_refusal c.in-Err.refusal) ≡ moment_refusal (lowered (the_labelled v.labelled)) (the_bounds v.bounds) v.state.run c.args.t)
+    subst (λ (v : GuideParts). Some (the_event_refusal c.in-Err.refusal) ≡ moment_refusal (lowered (the_labelled v.labelled)) (the_bounds v.bounds) v.state.run c.args.t)
     c.self.view_is
     (c.in-Err.ensures.refused ∙ ap (λ (n : Network). moment_refusal n (the_bounds old.bounds) old.run c.args.t) c.self.invariant.lowered)
 
@@ -48,9 +48,9 @@ pub sort_out-requires-clause-fresh : goal.sort_out-requires-clause-fresh
 sort_out-requires-clause-fresh c =
     let old = c.self.inside.executive in
     let wf = subst (λ (v : GuideParts). IsWellFormed (lowered (the_labelled v.labelled))) (sym c.self.view_is) c.is_guided.ensures.planned.well_formed in
-    subst (λ (e : ExecParts). AreFresh (the_network e.net) e.run e.named) (sym c.in_default.ensures.moved)
+    subst (λ (e : ExecParts). AreWithoutOutcomes (the_network e.net) e.run e.named) (sym c.in_default.ensures.moved)
     (called_fresh (the_network old.net) (the_bounds old.bounds) (subst IsWellFormed (sym c.self.invariant.lowered) wf) old.run
-    (subst (λ (n : Network). IsRight n old.run) (sym c.self.invariant.lowered) c.self.invariant.guided.right) c.args.t)
+    (subst (λ (n : Network). IsRightRun n old.run) (sym c.self.invariant.lowered) c.self.invariant.guided.right) c.args.t)
 
 -- what holds after `sort_out` went through the time-points that are called
 record Sorted (m : Labelled) (old : ExecParts) (left : List Bool) (t : ℕ) (after : Run) (marks : List Bool) (names : List ℕ) : Type 0 where
@@ -74,7 +74,7 @@ sorted c =
     fun_ext c.known-known.ensures.known ∙ ap (λ (n : Network). known n old.run (c.args.t + 1)) net in
     let there = c.in_default.ensures.moved in
     let names = ap (λ (e : ExecParts). e.named) there ∙ ap (λ (n : Network). called n bounds old.run c.args.t) net in
-    let run = ap (λ (e : ExecParts). e.run) there ∙ ap (λ (n : Network). moved n bounds old.run c.args.t) net in
+    let run = ap (λ (e : ExecParts). e.run) there ∙ ap (λ (n : Network). run_moved n bounds old.run c.args.t) net in
     let net_there = ap (λ (e : ExecParts). the_network e.net) there ∙ net in
     record {
       ok = subst (λ (n : Network). moment_refusal n bounds old.run c.args.t ≡ None) net (sym c.in_default.ensures.refused);
@@ -114,7 +114,7 @@ returns-clause-advanced c =
     let names = map (λ x. x.0) c.sort_out.new.named.items in
     let after : Guided = record { run = c.sort_out.new.executive.run; left = c.sort_out.new.left.items } in
     let bounds = ap (λ (e : ExecParts). e.bounds) c.sort_out.ensures.executive ∙ ap (λ (e : ExecParts). e.bounds) c.in_default.ensures.moved in
-    subst (λ (v : GuideParts). parts c.self.inside.labels c.sort_out.new.executive.bounds after names
+    subst (λ (v : GuideParts). guide_parts c.self.inside.labels c.sort_out.new.executive.bounds after names
     ≡ advanced_on v c.args.t)
     c.self.view_is
     (same_parts c.self.inside.labels c.sort_out.new.executive.bounds c.self.inside.executive.bounds after _ names _ bounds s.state s.names_are)

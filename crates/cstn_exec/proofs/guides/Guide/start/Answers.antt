@@ -5,7 +5,7 @@ use Rattle.cstn_net.specs.Read.{NetworkParts, the_network}
 use Rattle.cstn_plan.specs.Plans.{IsEarliest, the_bounds}
 use Rattle.cstn_lift.specs.Lowered.{lowered}
 use Rattle.cstn_lift.specs.Read.{the_labelled}
-use Rattle.cstn_exec.specs.Runs.{Run, start}
+use Rattle.cstn_exec.specs.Runs.{Run, start_of_run}
 use Rattle.cstn_exec.specs.Read.{ExecParts}
 use Rattle.cstn_exec.specs.Sound.{IsGuided}
 use Rattle.cstn_exec.proofs.Advancing.{begun_guided}
@@ -23,7 +23,7 @@ invariant_of-result c =
     let plan = subst (λ (n : Network). (table : Table) × IsEarliest n (the_bounds executive.bounds) table) net c.network.ensures.earliest in
     let base = ap (λ (n : NetworkParts). count (the_network n)) c.base.ensures.base in
     let size : c.count-count.result ≡ count m.base = c.count-count.ensures.count ∙ base in
-    let run : executive.run ≡ start (count m.base) = ap (λ (e : ExecParts). e.run) is ∙ ap (λ (n : Network). start (count n)) c.requires.lowered in
+    let run : executive.run ≡ start_of_run (count m.base) = ap (λ (e : ExecParts). e.run) is ∙ ap (λ (n : Network). start_of_run (count n)) c.requires.lowered in
     let left : c.resize.new.self.items ≡ replicate (count m.base) false =
     filled_with c.in_ok-left.left.items c.resize.new.self.items c.count-count.result _ c.in_ok-left.ensures.items c.in_ok-left.ensures.len c.in_ok-resize.ensures.items
     ∙ ap (λ (n : ℕ). replicate n false) size in
@@ -31,7 +31,7 @@ invariant_of-result c =
       lowered = net;
       labelled = c.base.ensures.labelled;
       guided = subst (λ (r : Run). IsGuided m (record { run = r; left = c.resize.new.self.items })) (sym run)
-          (subst (λ (l : List Bool). IsGuided m (record { run = start (count m.base); left = l })) (sym left)
+          (subst (λ (l : List Bool). IsGuided m (record { run = start_of_run (count m.base); left = l })) (sym left)
           (begun_guided m (the_bounds executive.bounds) plan.0 wf plan.1));
       room = let capacity = c.in_ok-named.ensures.capacity in omega arith;
     }

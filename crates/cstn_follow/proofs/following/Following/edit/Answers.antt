@@ -2,7 +2,7 @@ use Rattle.std.proofs.Common.{◌≡◌, length, sym, subst, ap, ◌∙◌}
 use Rattle.std.specs.Prelude.{Ok, IfOk, OnErr}
 use Rattle.std.proofs.lemmas.Result.{IfOk-weaker, on_err_weaker}
 use Rattle.cstn_lift.specs.Read.{the_labelled}
-use Rattle.cstn_change.specs.Changes.{IsBetween}
+use Rattle.cstn_change.specs.Changes.{HasTimePointEnds}
 use Rattle.cstn_change.specs.ChangeLines.{accepted_text}
 use Rattle.cstn_change.specs.Read.{the_change}
 use Rattle.cstn_reply.specs.Texts.{line}
@@ -16,7 +16,7 @@ use Rattle.cstn_follow.proofs.following.Following.edit.Goals as goal
 
 pub edit-made-requires : goal.edit-made-requires
 edit-made-requires c = record {
-  between = subst (λ (v : FollowingParts). IsBetween (the_labelled v.network).base (the_change c.args.change)) (sym c.self.view_is) c.requires.between;
+  between = subst (λ (v : FollowingParts). HasTimePointEnds (the_labelled v.network).base (the_change c.args.change)) (sym c.self.view_is) c.requires.between;
 }
 
 pub invariant_of-self : goal.invariant_of-self

@@ -8,7 +8,7 @@ use Rattle.cstn_history.specs.Read.{the_history}
 use Rattle.cstn_follow.specs.Raises.{said_raised, raise_first, least_tried}
 use Rattle.cstn_follow.specs.Sessions.{SessionParts}
 use Rattle.cstn_follow.specs.declared.answers.Raise.TheVariants.{Never}
-use Rattle.cstn_follow.proofs.ValueAt.{value_fits}
+use Rattle.cstn_net.proofs.Values.{value_fits}
 use Rattle.cstn_follow.proofs.session.Session.raise_stuck.Goals as goal
 
 pub returns-in_ok-said : goal.returns-in_ok-said

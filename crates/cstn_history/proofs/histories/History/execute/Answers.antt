@@ -17,7 +17,7 @@ returns-clause-kept c =
     let free = subst (λ (p : HistoryParts). done_refusal m (the_history p) t c.args.x.0 ≡ None) (sym c.self.view_is)
     (sym c.done_refusal.ensures.refusal ∙ ap (option_map the_fact_refusal) c.in_default.is) in
     let now = kept_done m c.done_refusal.ensures.labelled q was t c.args.x.0 free in
-    let there = subst (λ i. IsKeptFor m (record { time = max q.time t; done = slice_set q.done i (Some t); told = q.told; expected = q.expected }))
+    let there = subst (λ i. IsKeptFor m (record { time = max q.time t; done = slice_set q.done i (Some t); told = q.told; expected = q.expected; ready = q.ready }))
     (sym c.index.ensures.index) now in
-    subst (λ n. IsKeptFor m (record { time = n; done = slice_set q.done c.index.result (Some t); told = q.told; expected = q.expected }))
+    subst (λ n. IsKeptFor m (record { time = n; done = slice_set q.done c.index.result (Some t); told = q.told; expected = q.expected; ready = q.ready }))
     (sym c.max-self-inside.ensures) there

@@ -16,4 +16,4 @@ returns-clause-kept c =
     let free = subst (λ (p : HistoryParts). told_refusal m (the_history p) t c.args.p.index ≡ None) (sym c.self.view_is)
     (sym c.told_refusal.ensures.refusal ∙ ap (option_map the_fact_refusal) c.in_default.is) in
     let now = kept_told m c.told_refusal.ensures.labelled q was t c.args.p c.args.value c.with-self-inside.result free c.with-self-inside.ensures.known in
-    subst (λ n. IsKeptFor m (record { time = n; done = q.done; told = c.with-self-inside.result; expected = q.expected })) (sym c.max-self-inside.ensures) now
+    subst (λ n. IsKeptFor m (record { time = n; done = q.done; told = c.with-self-inside.result; expected = q.expected; ready = q.ready })) (sym c.max-self-inside.ensures) now

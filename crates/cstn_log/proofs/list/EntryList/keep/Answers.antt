@@ -3,7 +3,7 @@ use Rattle.std.specs.Prelude.{slice_get}
 use Rattle.std.proofs.lemmas.Option.{slice_get-map}
 use Rattle.cstn_rules.specs.declared.entries.Entry.{Entry}
 use Rattle.cstn_rules.specs.Read.{the_entry}
-use Rattle.cstn_log.specs.Cuts.{PremisesMarked, IsClosedUnder, is_marked, replaced, chosen, cut}
+use Rattle.cstn_log.specs.Cuts.{PremisesMarked, IsClosedUnder, is_place_marked, replaced, chosen, cut}
 use Rattle.cstn_log.specs.Entries.{the_entries}
 use Rattle.cstn_log.specs.Kept.{AreLeft, renewed}
 use Rattle.cstn_log.specs.Lists.{Listing, IsFiled, placed, stored_in, ids_in}
@@ -40,7 +40,7 @@ write_places-requires-clause-few c =
 closed : (c : goal.After-write_places) → IsClosedUnder c.args.marks.now (the_entries (map (placed c.self.inside.places.items) (stored_in c.self.inside.pool.slots c.self.inside.slots.items)))
 closed c = subst (λ (v : Listing). IsClosedUnder c.args.marks.now (the_entries v.entries)) (sym c.self.view_is) c.requires.closed
 
-premises : (c : goal.After-write_places) (k : ℕ) (e : Entry) → slice_get (stored_in c.self.inside.pool.slots c.self.inside.slots.items) k ≡ Some e → is_marked c.args.marks.now k ≡ true → PremisesMarked c.args.marks.now (replaced c.self.inside.places.items e.why)
+premises : (c : goal.After-write_places) (k : ℕ) (e : Entry) → slice_get (stored_in c.self.inside.pool.slots c.self.inside.slots.items) k ≡ Some e → is_place_marked c.args.marks.now k ≡ true → PremisesMarked c.args.marks.now (replaced c.self.inside.places.items e.why)
 premises c k e there marked =
     let S = stored_in c.self.inside.pool.slots c.self.inside.slots.items in
     let P = c.self.inside.places.items in

@@ -7,7 +7,7 @@ use Rattle.cstn_rules.specs.Derivations.{Entry as TheEntry, IsDerivation}
 use Rattle.cstn_rules.specs.Read.{the_entry}
 use Rattle.cstn_log.specs.Entries.{State, HasId, the_entries}
 use Rattle.cstn_log.specs.Kept.{AreLeft, IsPooled, renewed}
-use Rattle.cstn_log.specs.Cuts.{is_marked, rank, chosen, cut, marked_staying, dropped}
+use Rattle.cstn_log.specs.Cuts.{is_place_marked, rank, chosen, cut, marked_staying, dropped}
 use Rattle.cstn_log.proofs.ChoiceLemmas.{rank_upto, length_chosen, chosen_all, all_marked}
 use Rattle.cstn_log.proofs.CutLemmas.{cut_all}
 use Rattle.cstn_log.proofs.LeftLemmas.{clash, left_pooled, none_gone, renewed_cut, length_left}
@@ -54,7 +54,7 @@ returns-then-staying-before-clause-gone c =
     let staying : c.count_marked-staying.result ≡ rank M (length E) = (rw c.deref.ensures.value at c.count_marked-staying.ensures) ∙ ap (rank M) size in
     let before : c.len-before.result ≡ length E = c.len-before.ensures.len in
     let all : rank M (length E) ≡ length E = omega (arith, staying, before, c.if-staying-before.true) in
-    subst (λ (v : State). (k : ℕ) (id : SlotId) → slice_get v.ids k ≡ Some id → is_marked (marked_staying c.args.constraint [] (the_entries v.entries)) k ≡ false → ¬ HasId I id) c.self.view_is
+    subst (λ (v : State). (k : ℕ) (id : SlotId) → slice_get v.ids k ≡ Some id → is_place_marked (marked_staying c.args.constraint [] (the_entries v.entries)) k ≡ false → ¬ HasId I id) c.self.view_is
     (λ k id there unmarked has.
     let marked = all_marked M (length E) k all (omega (arith, slice_get_within I k id there, c.self.invariant.kept.size)) in
     clash marked (rw (← marks) at unmarked))
@@ -180,7 +180,7 @@ returns-clause-gone c =
     let M = c.mark_staying.new.marks.items in
     let marks : M ≡ marked_staying c.args.constraint [] (the_entries E) = c.mark_staying.ensures.marked in
     let chose : c.keep.new.self.ids ≡ chosen M I = ap (λ v. v.ids) (rw c.deref-2.ensures.value at c.keep.ensures.kept) in
-    subst (λ (v : State). (k : ℕ) (id : SlotId) → slice_get v.ids k ≡ Some id → is_marked (marked_staying c.args.constraint [] (the_entries v.entries)) k ≡ false → ¬ HasId c.keep.new.self.ids id) c.self.view_is
+    subst (λ (v : State). (k : ℕ) (id : SlotId) → slice_get v.ids k ≡ Some id → is_place_marked (marked_staying c.args.constraint [] (the_entries v.entries)) k ≡ false → ¬ HasId c.keep.new.self.ids id) c.self.view_is
     (λ k id there unmarked has. none_gone M c.self.inside.list.pool.slots c.self.inside.list.pool.births E I k id c.self.invariant.kept.pooled there (rw (← marks) at unmarked) (rw chose at has))
 
 pub returns-clause-answer : goal.returns-clause-answer

@@ -2,13 +2,13 @@ use Rattle.std.proofs.Common.{◌<◌, length, arith, ap, sym, subst, ◌∙◌}
 use Rattle.std.proofs.lemmas.Option.{slice_get_past}
 use Rattle.cstn_label.specs.Labels.{IsWithin, Label}
 use Rattle.cstn_label.specs.Read.{marks}
-use Rattle.cstn_minset.specs.Columns.{Listing, mark_on}
+use Rattle.cstn_minset.specs.Columns.{ColumnsParts, mark_on}
 use Rattle.cstn_minset.proofs.ColumnLemmas.{columns_pushed}
 use Rattle.cstn_minset.proofs.columns.Columns.push.Goals as goal
 
 pub replace-requires-clause-small : goal.replace-requires-clause-small
 replace-requires-clause-small c =
-    let room = subst (λ (v : Listing). length v.items < 64) (sym c.self.view_is) c.requires.room in
+    let room = subst (λ (v : ColumnsParts). length v.items < 64) (sym c.self.view_is) c.requires.room in
     omega (arith, room, c.len-place.ensures.value)
 
 pub replace-requires-clause-before : goal.replace-requires-clause-before
@@ -19,7 +19,7 @@ replace-requires-clause-before c = λ p small.
 
 pub invariant_of-self : goal.invariant_of-self
 invariant_of-self c =
-    let room = subst (λ (v : Listing). length v.items < 64) (sym c.self.view_is) c.requires.room in
+    let room = subst (λ (v : ColumnsParts). length v.items < 64) (sym c.self.view_is) c.requires.room in
     let law = c.joined_is_the_least_above.ensures in
     let joined = c.join-self-inside.ensures.join in
     rw c.push.ensures.items (columns_pushed c.self.inside.records.items c.self.inside.sheet c.replace.new.self c.self.inside.used c.join-self-inside.result c.args.added c.self.invariant room

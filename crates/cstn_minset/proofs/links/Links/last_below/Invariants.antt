@@ -1,13 +1,13 @@
 use Rattle.std.proofs.Common.{◌<◌, ◌+◌}
-use Rattle.cstn_minset.specs.Chains.{Table}
-use Rattle.cstn_minset.specs.Links.{AreLinks, AreNumbers}
+use Rattle.cstn_minset.specs.Chains.{SlotChains}
+use Rattle.cstn_minset.specs.Links.{AreLinks, AreOwnKeys}
 use Rattle.cstn_minset.proofs.NumberLemmas.{IsReached, left}
 use Rattle.cstn_minset.proofs.links.Links.last_below.Given as goal
 
 abbrev pub invariant-loop-place : goal.invariant-loop-place
 invariant-loop-place l = record {
   inside : l.before < l.self.slots + l.self.heads;
-  reached : (table : Table) → AreLinks l.self table → AreNumbers table → IsReached table l.self.slots l.self.heads l.head l.slot l.before l.place;
+  reached : (table : SlotChains) → AreLinks l.self table → AreOwnKeys table → IsReached table l.self.slots l.self.heads l.head l.slot l.before l.place;
 }
 
 abbrev pub decreases-loop-place : goal.decreases-loop-place

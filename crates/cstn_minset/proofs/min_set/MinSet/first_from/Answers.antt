@@ -1,5 +1,5 @@
 use Rattle.std.proofs.Common.{subst}
-use Rattle.cstn_minset.specs.Sets.{Places, IsFirst, IsAt, table_of}
+use Rattle.cstn_minset.specs.Sets.{Places, IsEarliestOfKind, IsAt, entries_of}
 use Rattle.cstn_minset.proofs.PassLemmas.{earliest_first}
 use Rattle.cstn_minset.proofs.min_set.MinSet.first_from.Goals as goal
 
@@ -7,6 +7,6 @@ pub returns : goal.returns
 returns c =
     let inside = c.self.inside in
     record {
-      first = subst (λ (v : Places). IsFirst v.table (IsAt c.args.node.0) c.args.birth c.earliest.result) c.self.view_is
-          (earliest_first inside.births inside.rows inside.nodes (table_of inside.births inside.rows) (IsAt c.args.node.0) c.args.birth c.self.invariant c.earliest.result c.earliest.ensures);
+      first = subst (λ (v : Places). IsEarliestOfKind v.table (IsAt c.args.node.0) c.args.birth c.earliest.result) c.self.view_is
+          (earliest_first inside.births inside.rows inside.nodes (entries_of inside.births inside.rows) (IsAt c.args.node.0) c.args.birth c.self.invariant c.earliest.result c.earliest.ensures);
     }

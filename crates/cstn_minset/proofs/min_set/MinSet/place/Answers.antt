@@ -1,5 +1,5 @@
 use Rattle.std.proofs.Common.{◌<◌, arith, sym, subst}
-use Rattle.cstn_minset.specs.Sets.{Places, IsPlaced, IsCovered, IsCleared}
+use Rattle.cstn_minset.specs.Sets.{Places, IsPlaced, IsCoveredInSet, IsCleared}
 use Rattle.cstn_minset.proofs.CoverLemmas.{covering_grows, emptied_at}
 use Rattle.cstn_minset.proofs.SetLemmas.{placed_count, count_less, clearing_more, clearing_end}
 use Rattle.cstn_minset.proofs.min_set.MinSet.place.Goals as goal
@@ -24,6 +24,6 @@ pub returns-clause-covering_grows : goal.returns-clause-covering_grows
 returns-clause-covering_grows c = λ b covered.
     let done = c.take_under.ensures.none c.loop-test.false in
     let cleared = subst (λ (v : Places). IsCleared c.args.b.now c.args.self.now.table v.table) (sym done.0) (clearing_end c.args.b.now c.args.self.now c.loop.self c.loop.invariant done.1) in
-    subst (λ (v : Places). IsCovered v.table b) (sym c.put.ensures)
+    subst (λ (v : Places). IsCoveredInSet v.table b) (sym c.put.ensures)
     (covering_grows c.labels_are_their_marks.ensures.above c.args.self.now.table c.take_under.new.self.table c.args.b.now b c.args.id.slot c.args.id.birth cleared (omega (arith, cleared.size, c.requires.slot))
     (emptied_at c.args.b.now c.args.self.now.table c.take_under.new.self.table c.args.id.slot cleared c.requires.free) covered)

@@ -3,7 +3,7 @@ use Rattle.std.specs.Prelude.{Some, slice_get, slice_set, IsPermutation}
 use Rattle.std.proofs.lemmas.List.Sorted.{IsPermutation-refl, IsPermutation-trans, IsPermutation-append_comm}
 use Rattle.std.proofs.lemmas.Option.{slice_get_within}
 use Rattle.cstn_minset.specs.declared.page.Page.{Page}
-use Rattle.cstn_minset.specs.Pages.{Paged, IsPageOf, on_page, held, most_pages, IsInOrder}
+use Rattle.cstn_minset.specs.Pages.{Paged, IsPageOf, on_page, held_records, most_pages, IsInOrder}
 use Rattle.cstn_minset.proofs.HeldLemmas.{got_set, got_other, held_less, held_more, none_on}
 use Rattle.cstn_minset.proofs.HomeLemmas.{page_of_in, pages_are_numbers, less_are_numbers, moved_to, table_set, changed, rehomed}
 use Rattle.cstn_minset.proofs.RowLemmas.{read_page, at_all, fit_none, fit_first}
@@ -79,5 +79,5 @@ returns-clause-same c =
     let other : c.args.page ≢ c.args.first = λ same. omega (arith, same, row, behind) in
     let less = held_less c.self.inside.pages.items c.args.page there.0 c.empty-none.result (on_page there.0) there.1 (rw (none_on c.empty-none.result c.empty-none.ensures.empty) (IsPermutation-refl (on_page there.0))) in
     let more = held_more (slice_set c.self.inside.pages.items c.args.page c.empty-none.result) c.args.first own.0 there.0 (got_other c.self.inside.pages.items c.args.page c.args.first c.empty-none.result other ∙ own.1) (none_on own.0 (empty own.0 own.1)) in
-    rw (none, full) (subst (λ (v : Paged). IsPermutation (held v.pages) (held (slice_set (slice_set c.self.inside.pages.items c.args.page c.empty-none.result) c.args.first there.0))) c.self.view_is
-    (IsPermutation-trans _ _ _ less (IsPermutation-trans _ _ _ (IsPermutation-append_comm (held (slice_set c.self.inside.pages.items c.args.page c.empty-none.result)) (on_page there.0)) more)))
+    rw (none, full) (subst (λ (v : Paged). IsPermutation (held_records v.pages) (held_records (slice_set (slice_set c.self.inside.pages.items c.args.page c.empty-none.result) c.args.first there.0))) c.self.view_is
+    (IsPermutation-trans _ _ _ less (IsPermutation-trans _ _ _ (IsPermutation-append_comm (held_records (slice_set c.self.inside.pages.items c.args.page c.empty-none.result)) (on_page there.0)) more)))

@@ -3,7 +3,7 @@ use Rattle.std.specs.Prelude.{Some, slice_get, slice_set, IsPermutation}
 use Rattle.std.proofs.lemmas.List.Sorted.{IsPermutation-refl, IsPermutation-trans, IsPermutation-append_comm, length_permutation}
 use Rattle.std.proofs.lemmas.Option.{slice_get_within}
 use Rattle.cstn_minset.specs.declared.page.Page.{Page}
-use Rattle.cstn_minset.specs.Pages.{Paged, on_page, held, IsInOrder}
+use Rattle.cstn_minset.specs.Pages.{Paged, on_page, held_records, IsInOrder}
 use Rattle.cstn_minset.proofs.HeldLemmas.{got_set, held_less, none_on}
 use Rattle.cstn_minset.proofs.HomeLemmas.{changed}
 use Rattle.cstn_minset.proofs.RowLemmas.{read_page, at_all, fit_first_empty}
@@ -53,12 +53,12 @@ pub install-requires-clause-room : goal.install-requires-clause-room
 install-requires-clause-room c =
     let back = sym c.self.view_is in
     let row = subst (λ (v : Paged). c.args.head < v.heads) back c.requires.head in
-    let room = subst (λ (v : Paged). length (held v.pages) < v.capacity) back c.requires.room in
+    let room = subst (λ (v : Paged). length (held_records v.pages) < v.capacity) back c.requires.room in
     let own = c.self.invariant.own c.args.head row in
     let dest = c.replace-full.new.dest in
     let none : dest.records.items ≡ [] = ap (λ x. x.records.items) c.replace-full.ensures.after ∙ c.empty-none.ensures.empty in
     let less = held_less c.self.inside.pages.items c.args.head own.0 dest (on_page own.0) own.1 (rw (none_on dest none) (IsPermutation-refl (on_page own.0))) in
-    omega (arith, room, length_permutation _ _ less, length-append (held (slice_set c.self.inside.pages.items c.args.head dest)) (on_page own.0))
+    omega (arith, room, length_permutation _ _ less, length-append (held_records (slice_set c.self.inside.pages.items c.args.head dest)) (on_page own.0))
 
 pub returns-clause-page : goal.returns-clause-page
 returns-clause-page c =
@@ -78,5 +78,5 @@ returns-clause-same c =
     let read = read_page c.self.inside.pages.items c.args.head own.0 c.index_mut.result.now own.1 c.index_mut.ensures.value in
     let full : c.replace-full.result ≡ own.0 = c.replace-full.ensures.value ∙ read in
     let less = held_less c.self.inside.pages.items c.args.head own.0 dest (on_page own.0) own.1 (rw (none_on dest none) (IsPermutation-refl (on_page own.0))) in
-    let whole = subst (λ (v : Paged). IsPermutation (held v.pages) (held (slice_set c.self.inside.pages.items c.args.head dest) ++ on_page own.0)) c.self.view_is less in
-    IsPermutation-trans _ _ _ whole (IsPermutation-trans _ _ _ (IsPermutation-append_comm (held (slice_set c.self.inside.pages.items c.args.head dest)) (on_page own.0)) (rw full at c.install.ensures.same))
+    let whole = subst (λ (v : Paged). IsPermutation (held_records v.pages) (held_records (slice_set c.self.inside.pages.items c.args.head dest) ++ on_page own.0)) c.self.view_is less in
+    IsPermutation-trans _ _ _ whole (IsPermutation-trans _ _ _ (IsPermutation-append_comm (held_records (slice_set c.self.inside.pages.items c.args.head dest)) (on_page own.0)) (rw full at c.install.ensures.same))

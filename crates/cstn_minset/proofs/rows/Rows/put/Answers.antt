@@ -2,7 +2,7 @@ use Rattle.std.proofs.Common.{ℕ, ◌≡◌, ◌<◌, ◌∷◌, length, ap, sy
 use Rattle.std.specs.Prelude.{Some, slice_get, slice_set, IsPermutation}
 use Rattle.std.proofs.lemmas.List.Sorted.{IsPermutation-trans, IsPermutation-cons}
 use Rattle.cstn_minset.specs.declared.page.Page.{Page}
-use Rattle.cstn_minset.specs.Pages.{Paged, held, IsInOrder}
+use Rattle.cstn_minset.specs.Pages.{Paged, held_records, IsInOrder}
 use Rattle.cstn_minset.proofs.HomeLemmas.{changed}
 use Rattle.cstn_minset.proofs.HeldLemmas.{held_added}
 use Rattle.cstn_minset.proofs.RowLemmas.{read_page, at_all, fit_more}
@@ -26,8 +26,8 @@ returns-clause-put c =
     let back = sym c.self.view_is in
     let k : ℕ = c.args.head in
     let page : (p : Page) × (slice_get c.self.inside.pages.items k ≡ Some p) × (p.head ≡ c.args.head) × (length p.records.items < 64) = subst (λ (v : Paged). (p : Page) × (slice_get v.pages k ≡ Some p) × (p.head ≡ c.args.head) × (length p.records.items < 64)) back c.make_room.ensures.page in
-    let same = subst (λ (v : Paged). IsPermutation (held c.args.self.now.pages) (held v.pages)) back c.make_room.ensures.same in
+    let same = subst (λ (v : Paged). IsPermutation (held_records c.args.self.now.pages) (held_records v.pages)) back c.make_room.ensures.same in
     let read = read_page c.self.inside.pages.items c.args.head page.0 c.index_mut.result.now page.1 c.index_mut.ensures.value in
     let added = held_added c.self.inside.pages.items k page.0 c.add.new.self c.args.added page.1 (c.add.ensures.head ∙ ap (λ x. x.head) read) (rw read at c.add.ensures.added) in
     IsPermutation-trans _ _ _ (IsPermutation-cons _ _ _ same)
-    (subst (λ (h : ℕ). IsPermutation ((h, c.args.added) ∷ held c.self.inside.pages.items) (held (slice_set c.self.inside.pages.items k c.add.new.self))) page.2 added)
+    (subst (λ (h : ℕ). IsPermutation ((h, c.args.added) ∷ held_records c.self.inside.pages.items) (held_records (slice_set c.self.inside.pages.items k c.add.new.self))) page.2 added)

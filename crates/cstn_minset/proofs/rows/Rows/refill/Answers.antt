@@ -2,7 +2,7 @@ use Rattle.std.proofs.Common.{ℕ, ◌≡◌, ◌≢◌, ◌<◌, ◌≤◌, ◌
 use Rattle.std.specs.Prelude.{Some, slice_get, slice_set, IsPermutation}
 use Rattle.std.proofs.lemmas.List.Sorted.{IsPermutation-trans, IsPermutation-to_front}
 use Rattle.cstn_minset.specs.declared.page.Page.{Page}
-use Rattle.cstn_minset.specs.Pages.{Paged, held, IsInOrder}
+use Rattle.cstn_minset.specs.Pages.{Paged, held_records, IsInOrder}
 use Rattle.cstn_minset.proofs.HeldLemmas.{got_set, got_other, held_less, held_added, page_less}
 use Rattle.cstn_minset.proofs.HomeLemmas.{changed}
 use Rattle.cstn_minset.proofs.RowLemmas.{read_page, at_all, fit_less, fit_more}
@@ -55,6 +55,6 @@ returns-clause-same c =
     let there = got_other c.self.inside.pages.items c.args.first c.args.page c.take-moved.new.self other ∙ light.1 in
     let read' = read_page (slice_set c.self.inside.pages.items c.args.first c.take-moved.new.self) c.args.page light.0 c.index_mut-2.result.now there c.index_mut-2.ensures.value in
     let more = held_added (slice_set c.self.inside.pages.items c.args.first c.take-moved.new.self) c.args.page light.0 c.add.new.self c.take-moved.result there (c.add.ensures.head ∙ ap (λ x. x.head) read') (rw read' at c.add.ensures.added) in
-    let all = IsPermutation-trans _ _ _ less (IsPermutation-to_front (held (slice_set c.self.inside.pages.items c.args.first c.take-moved.new.self)) (own.0.head, c.take-moved.result)) in
-    let all' = subst (λ (h : ℕ). IsPermutation (held c.self.inside.pages.items) ((h, c.take-moved.result) ∷ held (slice_set c.self.inside.pages.items c.args.first c.take-moved.new.self))) (own.2 ∙ sym light.2) all in
-    subst (λ (v : Paged). IsPermutation (held v.pages) (held (slice_set (slice_set c.self.inside.pages.items c.args.first c.take-moved.new.self) c.args.page c.add.new.self))) c.self.view_is (IsPermutation-trans _ _ _ all' more)
+    let all = IsPermutation-trans _ _ _ less (IsPermutation-to_front (held_records (slice_set c.self.inside.pages.items c.args.first c.take-moved.new.self)) (own.0.head, c.take-moved.result)) in
+    let all' = subst (λ (h : ℕ). IsPermutation (held_records c.self.inside.pages.items) ((h, c.take-moved.result) ∷ held_records (slice_set c.self.inside.pages.items c.args.first c.take-moved.new.self))) (own.2 ∙ sym light.2) all in
+    subst (λ (v : Paged). IsPermutation (held_records v.pages) (held_records (slice_set (slice_set c.self.inside.pages.items c.args.first c.take-moved.new.self) c.args.page c.add.new.self))) c.self.view_is (IsPermutation-trans _ _ _ all' more)

@@ -4,7 +4,7 @@ use Rattle.std.proofs.lemmas.List.{get_or_append_left}
 use Rattle.std.proofs.lemmas.List.Sorted.{IsPermutation-trans, IsPermutation-to_front}
 use Rattle.std.proofs.lemmas.Option.{slice_get_within}
 use Rattle.cstn_minset.specs.declared.page.Page.{Page}
-use Rattle.cstn_minset.specs.Pages.{Paged, held, IsInOrder, StartsWith}
+use Rattle.cstn_minset.specs.Pages.{Paged, held_records, IsInOrder, StartsWith}
 use Rattle.cstn_minset.proofs.HomeLemmas.{changed}
 use Rattle.cstn_minset.proofs.HeldLemmas.{held_less, page_less}
 use Rattle.cstn_minset.proofs.RowLemmas.{got, read_page, at_all, fit_less, of_row}
@@ -62,9 +62,9 @@ returns-clause-taken c = λ p is.
     let back = sym c.self.view_is in
     let k : ℕ = c.page_to_take_from-page.result in
     let front = subst (λ (v : Paged). IsFront v k p) back (c.page_to_take_from-page.ensures.front p is) in
-    let same = subst (λ (v : Paged). IsPermutation (held c.args.self.now.pages) (held v.pages)) back c.page_to_take_from-page.ensures.same in
+    let same = subst (λ (v : Paged). IsPermutation (held_records c.args.self.now.pages) (held_records v.pages)) back c.page_to_take_from-page.ensures.same in
     let read = read_page c.self.inside.pages.items c.page_to_take_from-page.result front.0 c.index_mut.result.now front.1 c.index_mut.ensures.value in
     let inside : c.args.index < length front.0.records.items = rw front.3.1 (omega (arith, c.requires.index p is, length-append p.records.items front.3.0)) in
     let less = held_less c.self.inside.pages.items k front.0 c.take.new.self _ front.1 (page_less front.0 c.take.new.self c.args.index c.take.result (c.take.ensures.head ∙ ap (λ x. x.head) read) inside (rw read at c.take.ensures.taken) (rw read at c.take.ensures.left)) in
-    let all = IsPermutation-trans _ _ _ same (IsPermutation-trans _ _ _ less (IsPermutation-to_front (held (slice_set c.self.inside.pages.items k c.take.new.self)) (front.0.head, c.take.result))) in
-    subst (λ (h : ℕ). IsPermutation (held c.args.self.now.pages) ((h, c.take.result) ∷ held (slice_set c.self.inside.pages.items k c.take.new.self))) front.2 all
+    let all = IsPermutation-trans _ _ _ same (IsPermutation-trans _ _ _ less (IsPermutation-to_front (held_records (slice_set c.self.inside.pages.items k c.take.new.self)) (front.0.head, c.take.result))) in
+    subst (λ (h : ℕ). IsPermutation (held_records c.args.self.now.pages) ((h, c.take.result) ∷ held_records (slice_set c.self.inside.pages.items k c.take.new.self))) front.2 all

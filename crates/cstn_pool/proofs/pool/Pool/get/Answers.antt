@@ -1,5 +1,5 @@
 use Rattle.std.proofs.Common.{◌∙◌, subst}
-use Rattle.cstn_pool.specs.Slots.{Slots, IsBorn, joined}
+use Rattle.cstn_pool.specs.Slots.{Slots, IsBorn, joined_slots}
 use Rattle.cstn_pool.proofs.PaddedLemmas.{padded_born, shown_value}
 use Rattle.cstn_pool.proofs.pool.Pool.get.Goals as goal
 
@@ -9,4 +9,4 @@ returns-clause-births g c =
 
 pub returns-clause-value : goal.returns-clause-value
 returns-clause-value g c =
-    c.value_in.ensures ∙ rw (c.deref.ensures.value, c.deref-2.ensures.value) (shown_value _ _ c.args.id.slot c.args.id.birth (joined c.self.inside.born.items c.self.inside.values.items) _ c.self.view_is)
+    c.value_in.ensures ∙ rw (c.deref.ensures.value, c.deref-2.ensures.value) (shown_value _ _ c.args.id.slot c.args.id.birth (joined_slots c.self.inside.born.items c.self.inside.values.items) _ c.self.view_is)

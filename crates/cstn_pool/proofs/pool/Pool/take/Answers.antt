@@ -1,5 +1,5 @@
 use Rattle.std.proofs.Common.{◌≡◌, ◌<◌, ◌≤◌, ◌^◌, ◌∷◌, [], inl, arith, ap, length, length-set, length-append, refl}
-use Rattle.cstn_pool.specs.Slots.{joined}
+use Rattle.cstn_pool.specs.Slots.{joined_slots}
 use Rattle.cstn_pool.proofs.PoolLemmas.{taken_free, taken_born, new_free, new_born, last_inside, last_empty}
 use Rattle.cstn_pool.proofs.PaddedLemmas.{past_used, shown_empty, shown_count, shown_taken, shown_new}
 use Rattle.cstn_pool.proofs.JoinedLemmas.{joined_length, refilled, extended}
@@ -38,7 +38,7 @@ invariant_of-self g c =
 pub returns-in-Some-clause-empty : goal.returns-in-Some-clause-empty
 returns-in-Some-clause-empty g c =
     let inv = c.self.invariant in
-    let used = joined c.self.inside.born.items c.self.inside.values.items in
+    let used = joined_slots c.self.inside.born.items c.self.inside.values.items in
     let size = joined_length c.self.inside.born.items c.self.inside.values.items inv.same in
     let free = rw c.in-Some.ensures.items at inv.empty in
     let inside = last_inside _ _ _ free in
@@ -51,7 +51,7 @@ returns-in-Some-clause-taken g c =
     let values = c.self.inside.values.items in
     let birth : c.self.inside.births < 2 ^ 63 = omega (arith, ap (λ p. p.births) c.self.view_is, c.requires) in
     rw (refilled born values c.in-Some.slot c.self.inside.births c.args.value c.self.invariant.same birth)
-    (shown_taken c.self.inside.capacity c.self.inside.births c.in-Some.slot c.args.value (joined born values) _ c.self.view_is (last_inside _ _ _ (rw c.in-Some.ensures.items at c.self.invariant.empty)))
+    (shown_taken c.self.inside.capacity c.self.inside.births c.in-Some.slot c.args.value (joined_slots born values) _ c.self.view_is (last_inside _ _ _ (rw c.in-Some.ensures.items at c.self.invariant.empty)))
 
 pub returns-in-Some-clause-step : goal.returns-in-Some-clause-step
 returns-in-Some-clause-step g c =
@@ -60,7 +60,7 @@ returns-in-Some-clause-step g c =
 pub returns-in-Some-clause-after_calls : goal.returns-in-Some-clause-after_calls
 returns-in-Some-clause-after_calls g c = λ capacity calls after.
     let inv = c.self.invariant in
-    let used = joined c.self.inside.born.items c.self.inside.values.items in
+    let used = joined_slots c.self.inside.born.items c.self.inside.values.items in
     let within : length used ≤ c.self.inside.capacity = omega (arith, joined_length c.self.inside.born.items c.self.inside.values.items inv.same, inv.within) in
     let size = calls_keep_capacity capacity calls c.args.self.now after in
     let popped = length-append c.pop.new.self.items (c.in-Some.slot ∷ []) in
@@ -70,7 +70,7 @@ returns-in-Some-clause-after_calls g c = λ capacity calls after.
 pub returns-then-slot-self-clause-full : goal.returns-then-slot-self-clause-full
 returns-then-slot-self-clause-full g c =
     let inv = c.self.invariant in
-    let used = joined c.self.inside.born.items c.self.inside.values.items in
+    let used = joined_slots c.self.inside.born.items c.self.inside.values.items in
     let long = joined_length c.self.inside.born.items c.self.inside.values.items inv.same in
     let count = shown_count c.self.inside.capacity c.self.inside.births used c.self.inside.free.items _ c.self.view_is (omega (arith, long, inv.within)) inv.empty in
     (λ _. omega (arith, count, long, c.in_default.ensures.cases, c.self.inside.free.ok, c.self.inside.born.ok, c.if-slot-self.true, c.len-slot.ensures), λ _. refl)
@@ -81,7 +81,7 @@ returns-then-slot-self-clause-step g c = inl ((returns-then-slot-self-clause-ful
 pub returns-then-slot-self-clause-after_calls : goal.returns-then-slot-self-clause-after_calls
 returns-then-slot-self-clause-after_calls g c = λ capacity calls after.
     let inv = c.self.invariant in
-    let used = joined c.self.inside.born.items c.self.inside.values.items in
+    let used = joined_slots c.self.inside.born.items c.self.inside.values.items in
     let long = joined_length c.self.inside.born.items c.self.inside.values.items inv.same in
     let size = calls_keep_capacity capacity calls c.args.self.now after in
     let count = shown_count c.self.inside.capacity c.self.inside.births used c.self.inside.free.items _ c.self.view_is (omega (arith, long, inv.within)) inv.empty in
@@ -92,7 +92,7 @@ invariant_of-self-2 g c =
     let inv = c.self.invariant in
     let born = c.self.inside.born.items in
     let values = c.self.inside.values.items in
-    let used = joined born values in
+    let used = joined_slots born values in
     let long = joined_length born values inv.same in
     let birth : c.self.inside.births < 2 ^ 63 = omega (arith, ap (λ p. p.births) c.self.view_is, c.requires) in
     let none = c.in_default.ensures.cases in
@@ -114,7 +114,7 @@ invariant_of-self-2 g c =
 pub returns-clause-full : goal.returns-clause-full
 returns-clause-full g c =
     let inv = c.self.invariant in
-    let used = joined c.self.inside.born.items c.self.inside.values.items in
+    let used = joined_slots c.self.inside.born.items c.self.inside.values.items in
     let long = joined_length c.self.inside.born.items c.self.inside.values.items inv.same in
     let count = shown_count c.self.inside.capacity c.self.inside.births used c.self.inside.free.items _ c.self.view_is (omega (arith, long, inv.within)) inv.empty in
     let last : c.len-slot.result ≡ length c.self.inside.born.items = omega (arith, c.len-slot.ensures, c.self.inside.born.ok) in
@@ -123,7 +123,7 @@ returns-clause-full g c =
 pub returns-clause-empty : goal.returns-clause-empty
 returns-clause-empty g c =
     let inv = c.self.invariant in
-    let used = joined c.self.inside.born.items c.self.inside.values.items in
+    let used = joined_slots c.self.inside.born.items c.self.inside.values.items in
     let long = joined_length c.self.inside.born.items c.self.inside.values.items inv.same in
     let last : c.len-slot.result ≡ length used = omega (arith, c.len-slot.ensures, c.self.inside.born.ok, long) in
     let within : length used ≤ c.self.inside.capacity = omega (arith, long, inv.within) in
@@ -136,9 +136,9 @@ returns-clause-taken g c =
     let values = c.self.inside.values.items in
     let long = joined_length born values inv.same in
     let birth : c.self.inside.births < 2 ^ 63 = omega (arith, ap (λ p. p.births) c.self.view_is, c.requires) in
-    let last : c.len-slot.result ≡ length (joined born values) = omega (arith, c.len-slot.ensures, c.self.inside.born.ok, long) in
+    let last : c.len-slot.result ≡ length (joined_slots born values) = omega (arith, c.len-slot.ensures, c.self.inside.born.ok, long) in
     rw (c.push_reserved.ensures.items, c.push_reserved-2.ensures.items, extended born values c.self.inside.births c.args.value inv.same birth, last)
-    (shown_new c.self.inside.capacity c.self.inside.births c.args.value (joined born values) _ c.self.view_is (omega (arith, c.if-slot-self.false, last, long, inv.within)))
+    (shown_new c.self.inside.capacity c.self.inside.births c.args.value (joined_slots born values) _ c.self.view_is (omega (arith, c.if-slot-self.false, last, long, inv.within)))
 
 pub returns-clause-step : goal.returns-clause-step
 returns-clause-step g c =
@@ -147,7 +147,7 @@ returns-clause-step g c =
 pub returns-clause-after_calls : goal.returns-clause-after_calls
 returns-clause-after_calls g c = λ capacity calls after.
     let inv = c.self.invariant in
-    let used = joined c.self.inside.born.items c.self.inside.values.items in
+    let used = joined_slots c.self.inside.born.items c.self.inside.values.items in
     let long = joined_length c.self.inside.born.items c.self.inside.values.items inv.same in
     let size = calls_keep_capacity capacity calls c.args.self.now after in
     let last : c.len-slot.result ≡ length c.self.inside.born.items = omega (arith, c.len-slot.ensures, c.self.inside.born.ok) in

@@ -6,7 +6,7 @@ use Rattle.cstn_rules.specs.Read.{the_entry}
 use Rattle.cstn_text.specs.PrintedNames.{printed_name}
 use Rattle.cstn_refute.specs.Refutations.{AreSteps}
 use Rattle.cstn_refute.specs.Steps.{printed_step}
-use Rattle.cstn_refute.specs.Texts.{shown}
+use Rattle.cstn_refute.specs.Texts.{refutation_shown}
 use Rattle.std.proofs.lemmas.List.Elements.{All-more, All-get_or}
 use Rattle.cstn_refute.specs.Written.{ArePlaces}
 use Rattle.cstn_refute.proofs.BackLemmas.{listing_grows}
@@ -44,4 +44,4 @@ returns-clause-back c fits =
     (subst AreSteps c.steps-steps.ensures.steps c.steps-steps.ensures.form) c.requires.named
     (subst (All (λ e. ArePlaces e.why)) all c.loop-k.invariant.places) fits
     (c.loop-k.invariant.text
-    ∙ ap (λ steps. shown c.args.names.now c.args.self.now.load (map the_entry steps)) all)
+    ∙ ap (λ steps. refutation_shown c.args.names.now c.args.self.now.load (map the_entry steps)) all)

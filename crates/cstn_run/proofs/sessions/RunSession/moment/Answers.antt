@@ -2,7 +2,7 @@ use Rattle.std.proofs.Common.{length, map, string_bytes, arith, ap, sym, ◌∙�
 use Rattle.cstn_plan.specs.Plans.{the_bounds}
 use Rattle.cstn_lift.specs.Read.{the_labelled}
 use Rattle.cstn_exec.specs.GuideRead.{GuideParts}
-use Rattle.cstn_exec.specs.Read.{the_refusal}
+use Rattle.cstn_exec.specs.Read.{the_event_refusal}
 use Rattle.std.proofs.lemmas.List.{length-map}
 use Rattle.cstn_exec.specs.Running.{spaced, the_nodes}
 use Rattle.cstn_run.proofs.Names.{named_inside, named_few}
@@ -45,5 +45,5 @@ returns-in_default-due-clause-turn c =
 
 pub returns-in-Err-clause-turn : goal.returns-in-Err-clause-turn
 returns-in-Err-clause-turn c =
-    moment_refused c.args.self.now c.self.inside.guide c.moment.new.self (map string_bytes c.self.inside.names.items) c.args.t (the_refusal c.in-Err.error) c.put_refusal.new.text c.self.view_is c.in-Err.ensures.refused c.in-Err.ensures.same
+    moment_refused c.args.self.now c.self.inside.guide c.moment.new.self (map string_bytes c.self.inside.names.items) c.args.t (the_event_refusal c.in-Err.error) c.put_refusal.new.text c.self.view_is c.in-Err.ensures.refused c.in-Err.ensures.same
     (from_empty _ _ _ c.put_refusal.ensures c.requires.empty)
