@@ -1,44 +1,25 @@
 -- What is said by cases.
 use Rattle.std.proofs.Common.{ℕ, ◌≡◌, ◌⊎◌, inl, inr, ◌<◌, ◌≤◌, List, [], ◌∷◌, ◌++◌, Option, Some, None, true, false, refl, sym, subst, ap, ◌∙◌}
-use Rattle.std.specs.List.{All}
-use Rattle.std.proofs.lemmas.List.Elements.{All-nil, All-cons, All-append}
 use Rattle.cstn_label.specs.Bounds.{Bound}
 use Rattle.cstn_net.specs.Networks.{count}
 use Rattle.cstn_lift.specs.Labelled.{Labelled}
 use Rattle.cstn_lift.specs.Lowered.{lowered}
-use Rattle.cstn_history.specs.Histories.{History}
-use Rattle.cstn_history.specs.Facts.{with_told}
 use Rattle.cstn_check.specs.Growth.{log_of, load_of, live_bounds}
 use Rattle.cstn_check.specs.Decisions.{verdict, unless_yes}
 use Rattle.cstn_check.specs.declared.verdicts.Verdict.TheVariants.{Yes}
 use Rattle.cstn_reply.specs.Texts.{Said}
-use Rattle.cstn_outline.specs.Trees.{Tree, TreeLine, IsAmong, lines_of_tree, names_on}
-use Rattle.cstn_outline.specs.Trees.TreeLine.{AtLine, AskLine, DoneLine}
+use Rattle.cstn_outline.specs.Trees.{Tree, TreeLine, IsAmong, lines_of_tree}
 use Rattle.cstn_outline.specs.Read.{the_tree}
-use Rattle.cstn_cases.specs.Limits.{most_branches}
-use Rattle.cstn_cases.specs.Going.{unbegun, with_named, named_then}
-use Rattle.cstn_cases.specs.Cases.{AreCasesFrom, AreCasesOf, IsSoundlyPlanned, branches}
-use Rattle.cstn_cases.specs.Cases.AreCasesFrom.{ends, asks, names}
+use Rattle.cstn_next.specs.Limits.{most_branches}
+use Rattle.cstn_next.specs.Going.{unbegun}
+use Rattle.cstn_next.specs.Cases.{AreCasesOf, IsSoundlyPlanned, branches}
 use Rattle.cstn_cases.specs.Told.{AreCasesSaid, AreCasesUnless, IsCasesText, IsWideText, tree_said, wide_cases}
-use Rattle.cstn_cases.proofs.Branches.{cases_strategy, cases_least, cases_all_executed, cases_none_ruled_out}
-use Rattle.cstn_cases.proofs.Exists.{some_cases}
-use Rattle.cstn_cases.proofs.Written.{named_below}
+use Rattle.cstn_next.proofs.Branches.{cases_strategy, cases_least, cases_all_executed, cases_none_ruled_out}
+use Rattle.cstn_next.proofs.Exists.{some_cases}
+use Rattle.cstn_next.proofs.Written.{among_from}
 
-abbrev NamesBelow : ℕ → TreeLine → Type 0
-NamesBelow n l = All (λ x. x < n) (names_on l)
-
-module _ (m : Labelled) (bounds : List Bound) where
-  among_from : (h : History) (tree : Tree) → AreCasesFrom m bounds h tree → IsAmong (count m.base) tree
-  among_from h tree (ends g over) = All-cons (NamesBelow (count m.base)) DoneLine [] (All-nil (λ x. x < count m.base)) (All-nil (NamesBelow (count m.base)))
-  among_from h tree (asks g t p one other left is found c d) =
-      All-cons (NamesBelow (count m.base)) (AskLine p) (lines_of_tree one ++ lines_of_tree other) (All-nil (λ x. x < count m.base))
-      (All-append (NamesBelow (count m.base)) (lines_of_tree one) (lines_of_tree other) (among_from (with_told g t p true) one c) (among_from (with_told g t p false) other d))
-  among_from h tree (names g t next left is quiet c) =
-      All-cons (NamesBelow (count m.base)) (AtLine t (named_then m bounds g t)) (lines_of_tree next) (named_below m bounds g t)
-      (among_from (with_named g t (named_then m bounds g t)) next c)
-
-  pub cases_among : (tree : Tree) → AreCasesOf m bounds tree → IsAmong (count m.base) tree
-  cases_among tree cases = among_from unbegun tree cases
+pub cases_among : (m : Labelled) (bounds : List Bound) (tree : Tree) → AreCasesOf m bounds tree → IsAmong (count m.base) tree
+cases_among m bounds tree cases = among_from m bounds unbegun tree cases
 
 module _ (texts : List (List ℕ)) (load : ℕ) (bounds : List Bound) (m : Labelled) (plan : IsSoundlyPlanned m bounds)
     (live : bounds ≡ live_bounds (log_of (lowered m))) where

@@ -11,8 +11,8 @@ use Rattle.cstn_reply.specs.Texts.{Said, say}
 use Rattle.cstn_reply.specs.declared.output.Outcome.TheVariants.{Good, Wide}
 use Rattle.cstn_outline.specs.Trees.{Tree, TreeLine, lines_of_tree, table_of}
 use Rattle.cstn_outline.specs.Texts.{tree_shown}
-use Rattle.cstn_cases.specs.Limits.{most_branches}
-use Rattle.cstn_cases.specs.Cases.{AreCasesOf, NamesAllExecuted, NamesNoneRuledOut, branches}
+use Rattle.cstn_next.specs.Limits.{most_branches}
+use Rattle.cstn_next.specs.Cases.{AreCasesOf, NamesAllExecuted, NamesNoneRuledOut, branches}
 
 -- the text of a load and of the lines of a tree
 abbrev pub tree_said : List (List ℕ) → ℕ → List TreeLine → Said

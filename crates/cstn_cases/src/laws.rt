@@ -4,7 +4,7 @@ ghost use Rattle.cstn_label.specs.Bounds.{Bound};
 ghost use Rattle.cstn_lift.specs.Labelled.{Labelled};
 ghost use Rattle.cstn_lift.specs.Strategies.{IsLabelledStrategy, HasLabelledLeasts};
 ghost use Rattle.cstn_outline.specs.Trees.{Tree, table_of};
-ghost use Rattle.cstn_cases.specs.Cases.{AreCasesOf, IsSoundlyPlanned, NamesNoneRuledOut, NamesAllExecuted};
+ghost use Rattle.cstn_next.specs.Cases.{AreCasesOf, IsSoundlyPlanned, NamesNoneRuledOut, NamesAllExecuted};
 
 /// The table that sends each scenario down its own outcomes in the tree by cases is a labelled strategy, and has each time-point
 /// that is executed at its least moment. The branch of a scenario names exactly the time-points that are executed in it.

@@ -15,12 +15,10 @@ ghost use Rattle.cstn_outline.specs.Read.{the_tree};
 ghost use Rattle.cstn_cases.specs.Told.{AreCasesSaid, AreCasesUnless, tree_said};
 ghost use Rattle.std.specs.Prelude.{None};
 
-use crate::unfold;
 use cstn_check::{Check, Judged, growth_is_bounded, judge};
-use cstn_label::NodeId;
 use cstn_lift::{Labelled, Labels};
 use cstn_log::Cap;
-use cstn_net::Network;
+use cstn_next::{observed, unfold};
 use cstn_outline::{Tree, print};
 use cstn_reply::{Outcome, Said};
 use cstn_text::Names;
@@ -86,19 +84,6 @@ fn show(alloc: Global, tree: &Tree, load: u32, names: &Names) -> Result<Said, Al
         outcome: Outcome::Good,
         text: text.into_bytes(),
     })
-}
-
-// How many propositions are observed.
-fn observed(network: &Network) -> u16
-    ensures { result ≡ count_by is_some (the_network network.now).observes }
-{
-    let mut observed = 0;
-    for x in 0..network.count() {
-        if network.observes(NodeId(x)).is_some() {
-            observed += 1;
-        }
-    }
-    observed
 }
 
 fn wide(alloc: Global, observed: u16) -> Result<Said, AllocError>

@@ -350,7 +350,7 @@ module _ (m : Labelled) (h : History) (fresh : ℕ) (good : IsLabelled m) (timel
   left_formed : IsWellFormed left_net
   left_formed = lowered_well_formed (rest m h fresh) left_good room.lowered
 
-  planned : IsPlannedBy m h fresh (live_bounds (log_of left_net))
+  pub planned : IsPlannedBy m h fresh (live_bounds (log_of left_net))
   planned = record {
     labelled = good;
     history = timely.history;
@@ -360,7 +360,7 @@ module _ (m : Labelled) (h : History) (fresh : ℕ) (good : IsLabelled m) (timel
     sound = log_sound left_net left_formed.network left_formed.letters;
   }
 
-says_yes : (cap load : ℕ) (net : Network) → verdict cap net ≡ Yes load → is_refuted net (log_of net) ≡ false
+pub says_yes : (cap load : ℕ) (net : Network) → verdict cap net ≡ Yes load → is_refuted net (log_of net) ≡ false
 says_yes cap load net is = by_tests (nat_lt cap (load_of net)) (is_refuted net (log_of net)) is
   where
     by_tests : (a b : Bool) → (if a then Full else if b then No (load_of net) else Yes (load_of net)) ≡ Yes load → b ≡ false

@@ -1,16 +1,22 @@
 -- What is said to a further question ends a line.
 use Rattle.std.proofs.Common.{ℕ, inr, Bool, true, false, List, [], ◌∷◌, ◌++◌, Option, Some, None, refl, sym}
-use Rattle.std.specs.Prelude.{◌&&◌, if◌then◌else◌, codes, decimal}
+use Rattle.std.specs.Prelude.{◌&&◌, nat_lt, if◌then◌else◌, codes, decimal}
 use Rattle.std.proofs.lemmas.List.{append_assoc}
 use Rattle.cstn_label.specs.Letters.{letter_of}
 use Rattle.cstn_lift.specs.Lowered.{lowered}
 use Rattle.cstn_check.specs.declared.verdicts.Verdict.{Verdict}
 use Rattle.cstn_check.specs.declared.verdicts.Verdict.TheVariants.{Yes, No, Full}
+use Rattle.cstn_outline.specs.Texts.{tree_shown}
+use Rattle.cstn_outline.specs.Trees.{Tree, lines_of_tree}
+use Rattle.cstn_next.specs.Limits.{most_branches}
+use Rattle.cstn_next.specs.Cases.{branches}
 use Rattle.cstn_reply.specs.Texts.{line}
 use Rattle.cstn_reply.specs.Written.{EndsLine}
-use Rattle.cstn_follow.specs.Asking.{FurtherQuestion, asks_verdict, asks_until, asks_each, asks_late, asks_raise, asks_least}
+use Rattle.cstn_follow.specs.Asking.{FurtherQuestion, asks_verdict, asks_until, asks_each, asks_late, asks_raise, asks_least, asks_cases}
+use Rattle.cstn_follow.specs.CaseLines.{tree_text, cases_after}
 use Rattle.cstn_follow.specs.FactLines.{refused_fact}
-use Rattle.cstn_follow.specs.Following.{Following, left_now, verdict_now, verdict_line, too_many}
+use Rattle.cstn_follow.specs.Forecasts.{tree_of, observed_of}
+use Rattle.cstn_follow.specs.Following.{Following, left_now, names_left, verdict_now, verdict_line, too_many}
 use Rattle.cstn_follow.specs.Further.{pause_text, lines_now, each_text, each_after, late_text, raise_text, least_text, answer_to_question}
 use Rattle.cstn_follow.specs.Lateness.{Late, late_until, late_never, late_refused, late_unknown, late_of}
 use Rattle.cstn_follow.specs.LeastDeadline.{least_of}
@@ -74,6 +80,19 @@ module _ (s : Following) where
   each_ends true = after_ends (verdict_now s)
   each_ends false = ends (codes "refused F8")
 
+  tree_ends : (load : ℕ) (tree : Tree) (many : Bool) → EndsLine (tree_text s load tree many)
+  tree_ends load tree true = ends (codes "wide " ++ decimal (observed_of (left_now s)))
+  tree_ends load tree false =
+      let front = tree_shown (names_left s) load (lines_of_tree tree) in
+      inr (front ++ codes "end", sym (append_assoc front (codes "end") (10 ∷ [])))
+
+  cases_ends : (v : Verdict) → EndsLine (cases_after s v)
+  cases_ends (Yes load) =
+      let tree = tree_of s.network s.history s.fresh in
+      tree_ends load tree (nat_lt most_branches (branches tree))
+  cases_ends (No load) = verdict_ends s.cap (No load)
+  cases_ends Full = verdict_ends s.cap Full
+
   pub answer_ends : (question : FurtherQuestion) → EndsLine (answer_to_question s question)
   answer_ends asks_verdict = verdict_ends s.cap (verdict_now s)
   answer_ends asks_until = pause_ends s.cap (verdict_now s) (pause_of s.network s.history s.fresh s.cap (verdict_now s))
@@ -81,3 +100,4 @@ module _ (s : Following) where
   answer_ends (asks_late p) = late_ends s.names s.cap p (late_of s.network s.history s.fresh s.cap p (verdict_now s))
   answer_ends (asks_raise id) = raise_ends s.cap (verdict_now s) id (raise_of s.network s.history s.fresh s.cap id (verdict_now s))
   answer_ends asks_least = least_ends s.cap (least_of s.network s.history s.fresh s.cap)
+  answer_ends asks_cases = cases_ends (verdict_now s)

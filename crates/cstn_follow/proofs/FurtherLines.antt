@@ -10,7 +10,7 @@ use Rattle.cstn_lines.specs.FollowLines.{Follow, IsFollow, followed_read, follow
 use Rattle.cstn_lines.specs.LiveLines.{prop_read}
 use Rattle.cstn_lines.proofs.LiveLemmas.{joined_cut, prop_only}
 use Rattle.cstn_lines.proofs.FollowLemmas.{follow_is}
-use Rattle.cstn_follow.specs.Asking.{FurtherQuestion, asks_verdict, asks_until, asks_each, asks_late, asks_raise, asks_least, IsFurtherQuestion, late_read, raise_read}
+use Rattle.cstn_follow.specs.Asking.{FurtherQuestion, asks_verdict, asks_until, asks_each, asks_late, asks_raise, asks_least, asks_cases, IsFurtherQuestion, late_read, raise_read}
 use Rattle.cstn_follow.specs.Asking.{either_read, asked_read, printed_asked, of_line, of_question, of_amendment, asks_digest, question_read, amended_by, spoken_by, spoken_read, IfLine}
 use Rattle.cstn_follow.specs.Amending.{Amendment, forgives, steps, step_read, amendment_read, printed_amendment, IsAmendment}
 use Rattle.cstn_text.specs.Numbers.{printed_number}
@@ -90,6 +90,7 @@ question_back asks_verdict is = refl
 question_back asks_until is = refl
 question_back asks_each is = refl
 question_back asks_least is = refl
+question_back asks_cases is = refl
 question_back (asks_raise id) is =
     let text = codes "raise" ++ 32 ∷ printed_number id in
     let none : follow_read text ≡ None = ap (option_and_then followed_read) (joined_cut (codes "raise") (printed_number id) refl) in
@@ -127,20 +128,22 @@ operand_only text question (Some other) some so = let same : other ≡ question 
 
 asked_only : (text : List ℕ) (question : FurtherQuestion) → asked_read text ≡ Some question → IsWritten text question
 asked_only text question is =
-    by (bytes_eq text (codes "verdict")) (bytes_eq text (codes "until")) (bytes_eq text (codes "by")) (bytes_eq text (codes "least")) refl refl refl refl is
+    by (bytes_eq text (codes "verdict")) (bytes_eq text (codes "until")) (bytes_eq text (codes "by")) (bytes_eq text (codes "least"))
+    (bytes_eq text (codes "cases")) refl refl refl refl refl is
   where
     here : (a : FurtherQuestion) → IsWritten text a → Some a ≡ Some question → IsWritten text question
     here a written same = let e : a ≡ question = cc in subst (IsWritten text) e written
 
-    by : (a b c d : Bool) → bytes_eq text (codes "verdict") ≡ a → bytes_eq text (codes "until") ≡ b → bytes_eq text (codes "by") ≡ c
-        → bytes_eq text (codes "least") ≡ d
-        → (if a then Some asks_verdict else if b then Some asks_until else if c then Some asks_each else if d then Some asks_least else either_read (late_read text) (raise_read text))
-        ≡ Some question → IsWritten text question
-    by true b c d first second third fourth so = here asks_verdict (spelled text (codes "verdict") first, tt) so
-    by false true c d first second third fourth so = here asks_until (spelled text (codes "until") second, tt) so
-    by false false true d first second third fourth so = here asks_each (spelled text (codes "by") third, tt) so
-    by false false false true first second third fourth so = here asks_least (spelled text (codes "least") fourth, tt) so
-    by false false false false first second third fourth so = operand_only text question (late_read text) refl so
+    by : (a b c d e : Bool) → bytes_eq text (codes "verdict") ≡ a → bytes_eq text (codes "until") ≡ b → bytes_eq text (codes "by") ≡ c
+        → bytes_eq text (codes "least") ≡ d → bytes_eq text (codes "cases") ≡ e
+        → (if a then Some asks_verdict else if b then Some asks_until else if c then Some asks_each else if d then Some asks_least
+        else if e then Some asks_cases else either_read (late_read text) (raise_read text)) ≡ Some question → IsWritten text question
+    by true b c d e first second third fourth fifth so = here asks_verdict (spelled text (codes "verdict") first, tt) so
+    by false true c d e first second third fourth fifth so = here asks_until (spelled text (codes "until") second, tt) so
+    by false false true d e first second third fourth fifth so = here asks_each (spelled text (codes "by") third, tt) so
+    by false false false true e first second third fourth fifth so = here asks_least (spelled text (codes "least") fourth, tt) so
+    by false false false false true first second third fourth fifth so = here asks_cases (spelled text (codes "cases") fifth, tt) so
+    by false false false false false first second third fourth fifth so = operand_only text question (late_read text) refl so
 
 pub question_only : (text : List ℕ) (question : FurtherQuestion) → spoken_read text ≡ Some (of_question question) → IsWritten text question
 question_only text question is = by_line (follow_read text) is

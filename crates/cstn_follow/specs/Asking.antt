@@ -6,14 +6,15 @@ use Rattle.cstn_text.specs.Numbers.{number_within, printed_number}
 use Rattle.cstn_lines.specs.LiveLines.{prop_read}
 use Rattle.cstn_lines.specs.FollowLines.{Follow, the_follow, follow_read, IsNaming}
 use Rattle.cstn_follow.specs.declared.asking.Question.{Question}
-use Rattle.cstn_follow.specs.declared.asking.Question.TheVariants.{Verdict, Until, Each, Late, Raise, Least}
+use Rattle.cstn_follow.specs.declared.asking.Question.TheVariants.{Verdict, Until, Each, Late, Raise, Least, Cases}
 use Rattle.cstn_follow.specs.declared.asking.Spoken.{Spoken as SpokenLine}
 use Rattle.cstn_follow.specs.declared.asking.Spoken.TheVariants.{Line, Ask, Amend, Digest}
 use Rattle.cstn_follow.specs.Amending.{Amendment, the_amendment, amendment_read, IsAmendment, IsStepping}
 use Rattle.cstn_follow.specs.Words.{behind_word}
 
 -- What is asked: how it is, until when nothing at all may happen, until when each time-point that is left to be done can wait, until
--- when the outcome of a proposition may be late, by how much the constraint of an id has to give way, or which deadline is enough.
+-- when the outcome of a proposition may be late, by how much the constraint of an id has to give way, which deadline is enough, or how
+-- it goes on by cases.
 pub data FurtherQuestion : Type 0 where
   asks_verdict : FurtherQuestion
   asks_until : FurtherQuestion
@@ -21,6 +22,7 @@ pub data FurtherQuestion : Type 0 where
   asks_late : ℕ → FurtherQuestion
   asks_raise : ℕ → FurtherQuestion
   asks_least : FurtherQuestion
+  asks_cases : FurtherQuestion
 
 abbrev pub the_further_question : Question → FurtherQuestion
 the_further_question Verdict = asks_verdict
@@ -29,6 +31,7 @@ the_further_question Each = asks_each
 the_further_question (Late prop) = asks_late prop.index
 the_further_question (Raise id) = asks_raise id
 the_further_question Least = asks_least
+the_further_question Cases = asks_cases
 
 -- `late ` and a letter
 abbrev pub late_read : List ℕ → Option FurtherQuestion
@@ -50,6 +53,7 @@ asked_read bytes =
     else if bytes_eq bytes (codes "until") then Some asks_until
     else if bytes_eq bytes (codes "by") then Some asks_each
     else if bytes_eq bytes (codes "least") then Some asks_least
+    else if bytes_eq bytes (codes "cases") then Some asks_cases
     else either_read (late_read bytes) (raise_read bytes)
 
 -- the text of a question
@@ -60,6 +64,7 @@ printed_asked asks_each = codes "by"
 printed_asked (asks_late p) = codes "late" ++ 32 ∷ letter_of p ∷ []
 printed_asked (asks_raise id) = codes "raise" ++ 32 ∷ printed_number id
 printed_asked asks_least = codes "least"
+printed_asked asks_cases = codes "cases"
 
 -- a proposition is one of the 52, and a number is below 2^32
 abbrev pub IsFurtherQuestion : FurtherQuestion → Type 0
@@ -69,6 +74,7 @@ IsFurtherQuestion asks_each = Unit {0}
 IsFurtherQuestion (asks_late p) = p < 52
 IsFurtherQuestion (asks_raise id) = id < 2 ^ 32
 IsFurtherQuestion asks_least = Unit {0}
+IsFurtherQuestion asks_cases = Unit {0}
 
 -- what a line of a session says: it tells, edits or asks as a line of a session that follows a plan, or it asks further, or amends the
 -- plan, or asks which plan it is

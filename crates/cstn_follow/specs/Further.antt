@@ -12,7 +12,8 @@ use Rattle.cstn_text.specs.Numbers.{printed_value}
 use Rattle.cstn_change.specs.Changes.{NoSuch}
 use Rattle.cstn_change.specs.ChangeLines.{refused_change_text}
 use Rattle.cstn_reply.specs.Texts.{line, full_line}
-use Rattle.cstn_follow.specs.Asking.{FurtherQuestion, asks_verdict, asks_until, asks_each, asks_late, asks_raise, asks_least}
+use Rattle.cstn_follow.specs.Asking.{FurtherQuestion, asks_verdict, asks_until, asks_each, asks_late, asks_raise, asks_least, asks_cases}
+use Rattle.cstn_follow.specs.CaseLines.{cases_answer}
 use Rattle.cstn_follow.specs.Following.{Following, Heard, says, left_now, verdict_now, verdict_line, too_many}
 use Rattle.cstn_follow.specs.FactLines.{refused_fact}
 use Rattle.cstn_follow.specs.Lateness.{Late, late_until, late_never, late_refused, late_unknown, late_of}
@@ -114,6 +115,7 @@ answer_to_question s asks_each = each_answer s
 answer_to_question s (asks_late p) = late_answer s p
 answer_to_question s (asks_raise id) = raise_answer s id
 answer_to_question s asks_least = least_answer s
+answer_to_question s asks_cases = cases_answer s
 
 abbrev pub on_asked : Following → FurtherQuestion → Heard
 on_asked s question = says (answer_to_question s question) s

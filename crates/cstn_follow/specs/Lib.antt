@@ -18,6 +18,7 @@ pub mod Replans
 pub mod Forgiving
 pub mod Stepping
 pub mod Answers
+pub mod Forecasts
 -- Sessions that follow what happens in lines.
 pub mod Following
 pub mod Progress
@@ -32,6 +33,7 @@ pub mod ForgivingLines
 pub mod StepLines
 pub mod Digests
 pub mod Asking
+pub mod CaseLines
 pub mod Further
 pub mod Hearing
 pub mod Trials

@@ -1,6 +1,7 @@
 // What a session answers to questions.
 use cstn_history::FactError;
 use cstn_next::NextMoment;
+use cstn_outline::Tree;
 
 /// What is next in a plan that is carried out.
 #[derive(Drop)]
@@ -9,6 +10,20 @@ pub enum Outlook {
     Next(NextMoment),
     /// Nothing is left.
     Finished,
+    /// What has happened can't go on.
+    Impossible,
+    /// The log of what is left is full.
+    Unknown,
+}
+
+/// How a plan that is carried out goes on, by the outcomes that are still to come.
+#[derive(Drop)]
+pub enum Forecast {
+    /// As this tree says, under the numbers that time-points have among those that are left. The log of what is left has `load`
+    /// entries.
+    Tree { load: u32, tree: Tree },
+    /// As a tree of more than 65,536 branches says; so many propositions are observed that aren't told.
+    Wide { observed: u16 },
     /// What has happened can't go on.
     Impossible,
     /// The log of what is left is full.

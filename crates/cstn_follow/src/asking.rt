@@ -28,6 +28,8 @@ pub enum Question {
     Raise { id: u32 },
     /// `least`.
     Least,
+    /// `cases`.
+    Cases,
 }
 
 /// What a line of a session says.
@@ -98,6 +100,9 @@ fn question_of(bytes: &[u8]) -> Option<Question>
     }
     if bytes == b"least".as_slice() {
         return Some(Question::Least);
+    }
+    if bytes == b"cases".as_slice() {
+        return Some(Question::Cases);
     }
     match read_late(bytes) {
         Some(question) => Some(question),

@@ -10,6 +10,7 @@ ghost use Rattle.cstn_follow.specs.Following.{says, begun_following, outcome_by,
 ghost use Rattle.cstn_follow.specs.Read.{IsFollowing, the_following};
 
 mod asked;
+mod cases;
 mod edits;
 mod facts;
 mod forgiving;

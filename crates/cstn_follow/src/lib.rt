@@ -32,7 +32,7 @@ mod verdict_laws;
 mod waits;
 
 pub use amending::Amendment;
-pub use answers::{Lateness, Latest, LeastDeadline, Outlook, Pause, Raise, ToBlame};
+pub use answers::{Forecast, Lateness, Latest, LeastDeadline, Outlook, Pause, Raise, ToBlame};
 pub use asking::{Question, Spoken, read_spoken};
 pub use blames::blame;
 pub use digests::digest_line;

@@ -13,6 +13,7 @@ ghost use Rattle.cstn_follow.specs.Following.{any_below, is_open};
 ghost use Rattle.cstn_follow.specs.Pauses.{is_undone, is_any_undone};
 ghost use Rattle.cstn_follow.specs.Sessions.{IsSession, IsRightNow};
 
+mod cases;
 mod edits;
 mod facts;
 mod forgiving;

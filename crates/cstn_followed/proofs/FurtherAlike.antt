@@ -16,7 +16,8 @@ use Rattle.cstn_history.specs.Facts.{FactRefusal, at_now, observed_since, expect
 use Rattle.cstn_history.specs.Histories.{History}
 use Rattle.cstn_history.specs.Rest.{rest}
 use Rattle.cstn_reply.specs.Texts.{full_line}
-use Rattle.cstn_follow.specs.Asking.{FurtherQuestion, asks_verdict, asks_until, asks_each, asks_late, asks_raise, asks_least}
+use Rattle.cstn_follow.specs.CaseLines.{cases_after}
+use Rattle.cstn_follow.specs.Asking.{FurtherQuestion, asks_verdict, asks_until, asks_each, asks_late, asks_raise, asks_least, asks_cases}
 use Rattle.cstn_follow.specs.Following.{Following, left_now, verdict_now, verdict_line, verdict_left, is_within_limits, too_many}
 use Rattle.cstn_follow.specs.Further.{pause_text, joined_text, wait_line, wait_lines, each_text, each_after, late_text, raise_text, least_text, answer_to_question}
 use Rattle.cstn_follow.specs.Lateness.{late_never, late_most, unless_expected, said_late, late_found, late_from, late_first, late_tried, late_by, late_untold, late_since}
@@ -289,6 +290,9 @@ module _ (s : Following) (larger : ℕ) (upto : s.cap ≤ larger) where
           subst (λ w. SameText (least_text s.cap (least_by latest s.history s.fresh (Some (verdict s.cap (lowered (rest latest s.history s.fresh))))))
           (least_text larger (least_by latest s.history s.fresh (Some w)))) (sym same) (texts (verdict s.cap (lowered (rest latest s.history s.fresh))))
 
+  cases_alike : SameText (answer_to_question s asks_cases) (answer_to_question Other asks_cases)
+  cases_alike = by_verdict (λ cap v. cases_after (with_cap s cap) v) (λ load. inl refl) (λ load. inl refl) refl
+
   pub answers_alike : (question : FurtherQuestion) → SameText (answer_to_question s question) (answer_to_question Other question)
   answers_alike asks_verdict = now_told
   answers_alike asks_until = until_alike
@@ -296,3 +300,4 @@ module _ (s : Following) (larger : ℕ) (upto : s.cap ≤ larger) where
   answers_alike (asks_late p) = late_alike p
   answers_alike (asks_raise id) = raise_alike id
   answers_alike asks_least = least_alike
+  answers_alike asks_cases = cases_alike

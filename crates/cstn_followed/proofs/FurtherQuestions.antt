@@ -12,11 +12,12 @@ use Rattle.cstn_history.specs.Continuations.{Can}
 use Rattle.cstn_reply.specs.Sessions.{more}
 use Rattle.cstn_save.specs.Canonical.{canonical}
 use Rattle.cstn_follow.specs.Answers.{IsLatest}
-use Rattle.cstn_follow.specs.Asking.{FurtherQuestion, asks_verdict, asks_until, asks_each, asks_late, asks_raise, asks_least, Spoken, of_question, asks_digest, spoken_read}
+use Rattle.cstn_follow.specs.Asking.{FurtherQuestion, asks_verdict, asks_until, asks_each, asks_late, asks_raise, asks_least, asks_cases, Spoken, of_question, asks_digest, spoken_read}
 use Rattle.cstn_follow.specs.Digests.{digest_line}
 use Rattle.cstn_follow.specs.Following.{Following, left_now, verdict_now, too_many}
 use Rattle.cstn_follow.specs.Further.{joined_text, wait_lines, line_now, each_after, answer_to_question, on_asked}
 use Rattle.cstn_follow.specs.Hearing.{counted, hear}
+use Rattle.cstn_follow.specs.CaseLines.{cases_after}
 use Rattle.cstn_follow.specs.Pauses.{is_undone}
 use Rattle.cstn_follow.specs.Searches.{has_place_for_one, by_line}
 use Rattle.cstn_follow.specs.Turns.{heard_by}
@@ -24,6 +25,7 @@ use Rattle.cstn_follow.specs.Waiting.{HasRoomToWait, rest_until, tried_until, wa
 use Rattle.cstn_check.proofs.Halves.{none_found}
 use Rattle.cstn_check.proofs.Said.{said_full}
 use Rattle.cstn_follow.proofs.DeadlineFound.{right_least}
+use Rattle.cstn_follow.proofs.Forecasts.{cases_right}
 use Rattle.cstn_follow.proofs.GoesOn.{verdict_right}
 use Rattle.cstn_follow.proofs.LastExpected.{right_late}
 use Rattle.cstn_follow.proofs.LastNow.{right_pause}
@@ -33,7 +35,7 @@ use Rattle.cstn_follow.proofs.States.{IsSound}
 use Rattle.cstn_follow.proofs.Undone.{undone_coming, undone_left}
 use Rattle.cstn_follow.proofs.Until.{last_found}
 use Rattle.cstn_followed.specs.Answers.{IsWaitFull}
-use Rattle.cstn_followed.specs.FurtherAnswers.{AreLatest, AnswersEach, AnswersAsked}
+use Rattle.cstn_followed.specs.FurtherAnswers.{AreLatest, AnswersEach, AnswersCases, AnswersAsked}
 use Rattle.cstn_followed.specs.Sessions.{IsReached, follow_turn}
 use Rattle.cstn_followed.proofs.Questions.{TurnTells, turn_tells}
 use Rattle.cstn_followed.proofs.Verdicts.{reached_sound}
@@ -95,6 +97,12 @@ module _ (s : Following) (sound : IsSound s) where
       let both = and_parts (has_place_for_one (left_now s).base) (has_place_for_one (lowered (left_now s))) is in
       inr (each_tells (verdict_now s) refl (record { base = place_is (left_now s).base both.0; lowered = place_is (lowered (left_now s)) both.1 }))
 
+  cases_tells : (v : Verdict) → verdict_now s ≡ v → AnswersCases s v (cases_after (counted s) v)
+  cases_tells (No load) is = refl
+  cases_tells Full is = refl
+  cases_tells (Yes load) is =
+      (cases_right s.network s.history s.fresh s.cap load sound.labelled sound.timely sound.above (sound.verdict ∙ ap Some is), refl)
+
   asked_tells : (question : FurtherQuestion) → AnswersAsked s question (answer_to_question (counted s) question)
   asked_tells asks_verdict = refl
   asked_tells asks_until = (
@@ -115,6 +123,7 @@ module _ (s : Following) (sound : IsSound s) where
         (deadline_fits s.network most_deadline s.history s.fresh s.cap (verdict_now s) sound.labelled.base.in_time sound.verdict),
     refl,
   )
+  asked_tells asks_cases = cases_tells (verdict_now s) refl
 
 -- the answer to a further question, which changes nothing but the count of lines
 pub asked_answered : (s t : Following) (bytes text : List ℕ) (question : FurtherQuestion) → IsReached s → spoken_read bytes ≡ Some (of_question question)

@@ -20,7 +20,7 @@ use Rattle.cstn_follow.specs.FactLines.{on_result, records, refuses, all_done, o
 use Rattle.cstn_follow.specs.PlanLines.{edited_network, replanned, on_refusal, on_edit, on_deadline}
 use Rattle.cstn_follow.specs.Questions.{next_after, check_after}
 use Rattle.cstn_follow.specs.Searches.{by_number, by_unless, by_after, by_refusal, blame_after}
-use Rattle.cstn_follow.specs.Asking.{FurtherQuestion, asks_verdict, asks_until, asks_each, asks_late, asks_raise, asks_least, Spoken, of_line, of_question, of_amendment, asks_digest}
+use Rattle.cstn_follow.specs.Asking.{FurtherQuestion, asks_verdict, asks_until, asks_each, asks_late, asks_raise, asks_least, asks_cases, Spoken, of_line, of_question, of_amendment, asks_digest}
 use Rattle.cstn_follow.specs.Further.{on_asked}
 use Rattle.cstn_follow.specs.Amending.{Amendment, forgives, steps}
 use Rattle.cstn_follow.specs.Forgiving.{broken_ids, after_removals}
@@ -148,6 +148,7 @@ module _ (s : Following) (n : ℕ) where
   asked_same (asks_late p) = refl
   asked_same (asks_raise id) = refl
   asked_same asks_least = refl
+  asked_same asks_cases = refl
 
   forgive_same : (ids : List ℕ) (b : Bool)
       → (if b then says (line (refused_change_text EditLimit)) Other else says (forgiven_line ids) (replanned Other (after_removals (edited_network Other) ids)))

@@ -4,9 +4,12 @@ use Rattle.cstn_net.specs.Networks.{count}
 use Rattle.cstn_lift.specs.Lowered.{lowered}
 use Rattle.cstn_check.specs.declared.verdicts.Verdict.{Verdict}
 use Rattle.cstn_check.specs.declared.verdicts.Verdict.TheVariants.{Yes, No, Full}
+use Rattle.cstn_next.specs.Left.{AreCasesLeft}
 use Rattle.cstn_follow.specs.Answers.{IsLatest}
-use Rattle.cstn_follow.specs.Asking.{FurtherQuestion, asks_verdict, asks_until, asks_each, asks_late, asks_raise, asks_least}
+use Rattle.cstn_follow.specs.Asking.{FurtherQuestion, asks_verdict, asks_until, asks_each, asks_late, asks_raise, asks_least, asks_cases}
+use Rattle.cstn_follow.specs.CaseLines.{forecast_text}
 use Rattle.cstn_follow.specs.Following.{Following, left_now, verdict_now, verdict_line, too_many}
+use Rattle.cstn_follow.specs.Forecasts.{tree_of}
 use Rattle.cstn_follow.specs.Further.{until_answer, late_answer, raise_answer, least_answer, line_now, lines_now, each_text}
 use Rattle.cstn_follow.specs.Lateness.{IsRightLate, late_of}
 use Rattle.cstn_follow.specs.LeastDeadline.{IsRightLeast, least_of}
@@ -27,6 +30,14 @@ AnswersEach s (Yes load) text = (text ≡ each_text s.cap (lines_now s)) × AreL
 AnswersEach s (No load) text = text ≡ verdict_line s.cap (No load)
 AnswersEach s Full text = text ≡ verdict_line s.cap Full
 
+-- after yes the text is that of the tree of what is left, as which what has happened goes on; after no and full it is the line of the
+-- verdict
+abbrev pub AnswersCases : Following → Verdict → List ℕ → Type 0
+AnswersCases s (Yes load) text =
+    AreCasesLeft s.network s.history (tree_of s.network s.history s.fresh) × (text ≡ forecast_text s load (tree_of s.network s.history s.fresh))
+AnswersCases s (No load) text = text ≡ verdict_line s.cap (No load)
+AnswersCases s Full text = text ≡ verdict_line s.cap Full
+
 -- what is left, or its lowered network, has no place for one constraint more
 abbrev pub HasNoPlace : Following → Type 0
 HasNoPlace s = (has_place_for_one (left_now s).base && has_place_for_one (lowered (left_now s))) ≡ false
@@ -42,3 +53,4 @@ AnswersAsked s (asks_late p) text =
 AnswersAsked s (asks_raise id) text =
     IsRightRaise s.network s.history s.fresh s.cap id (raise_of s.network s.history s.fresh s.cap id (verdict_now s)) × (text ≡ raise_answer s id)
 AnswersAsked s asks_least text = IsRightLeast s.network s.history s.fresh s.cap (least_of s.network s.history s.fresh s.cap) × (text ≡ least_answer s)
+AnswersAsked s asks_cases text = AnswersCases s (verdict_now s) text

@@ -29,11 +29,11 @@ use Rattle.cstn_tree.specs.Made.IsTreeFrom.{ends, asks, names}
 use Rattle.cstn_tree.specs.Unfolded.{how_many_observed, IsTreeText, IsTreeUnless, IsUnfolded}
 use Rattle.cstn_tree.proofs.Following.{Follows, follows_start, follows_at, follows_ask, letter, missing, ready}
 use Rattle.cstn_tree.proofs.TreeLengths.{unseen, unseen_less, unseen_upto}
-use Rattle.cstn_cases.specs.Limits.{most_branches}
-use Rattle.cstn_cases.specs.Going.{unbegun}
-use Rattle.cstn_cases.specs.Cases.{AreCasesOf, IsSoundlyPlanned, branches}
+use Rattle.cstn_next.specs.Limits.{most_branches}
+use Rattle.cstn_next.specs.Going.{unbegun}
+use Rattle.cstn_next.specs.Cases.{AreCasesOf, IsSoundlyPlanned, branches}
 use Rattle.cstn_cases.specs.Told.{IsCasesText, IsWideText, AreCasesUnless, AreCasesSaid, tree_said}
-use Rattle.cstn_cases.proofs.Writes.{one_from}
+use Rattle.cstn_next.proofs.Writes.{one_from}
 use Rattle.cstn_element.specs.Results.{Refusal as DocumentRefusal}
 use Rattle.cstn_graphml.specs.Document.{Parts, document}
 use Rattle.cstn_graphml.specs.Networks.{labelled_of, network_of, constraint_drawn, IsFit}

@@ -44,12 +44,12 @@ use Rattle.cstn_tree.specs.Made.{IsTreeFrom, IsTreeOf}
 use Rattle.cstn_tree.specs.Made.IsTreeFrom.{ends, asks, names}
 use Rattle.cstn_tree.proofs.BranchLemmas.{observed_by}
 use Rattle.cstn_tree.proofs.Following.{Follows, of_agrees, due_may_follow, follows_start, follows_at, follows_ask, letter}
-use Rattle.cstn_cases.specs.Going.{unbegun, with_named, is_still_open, is_all_named, latest_left, ready_moment, ready_moments, going_on, first_awaited, named_then}
-use Rattle.cstn_cases.specs.Cases.{AreCasesFrom, AreCasesOf, IsSoundlyPlanned, IsOnTrack}
-use Rattle.cstn_cases.specs.Cases.AreCasesFrom.{ends as case_ends, asks as case_asks, names as case_names}
-use Rattle.cstn_cases.proofs.Right.{latest_upper, NoneBefore, AllTold, comes_ready, none_before, asked_untold, told_track, named_track}
-use Rattle.cstn_cases.proofs.Branches.{unbegun_track}
-use Rattle.cstn_cases.proofs.Exists.{goes_on}
+use Rattle.cstn_next.specs.Going.{unbegun, with_named, is_still_open, is_all_named, latest_left, ready_moment, ready_moments, going_on, first_awaited, named_then}
+use Rattle.cstn_next.specs.Cases.{AreCasesFrom, AreCasesOf, IsSoundlyPlanned, IsOnTrack}
+use Rattle.cstn_next.specs.Cases.AreCasesFrom.{ends as case_ends, asks as case_asks, names as case_names}
+use Rattle.cstn_next.proofs.Right.{latest_upper, NoneBefore, AllTold, comes_ready, none_before, asked_untold, told_track, named_track}
+use Rattle.cstn_next.proofs.Branches.{unbegun_track}
+use Rattle.cstn_next.proofs.Exists.{goes_on}
 
 module _ (m : Labelled) (bounds : List Bound) (plan : IsSoundlyPlanned m bounds) (unlabelled : (x : ℕ) → x < count m.base → label_of m x ≡ empty) where
   abbrev net : Network

@@ -16,10 +16,10 @@ use Rattle.cstn_closed.specs.Certificates.{fault_words, IsCertificate, IsCertifi
 use Rattle.cstn_outline.specs.Trees.{Tree, lines_of_tree as tree_lines}
 use Rattle.cstn_tree.specs.Made.{IsTreeOf}
 use Rattle.cstn_outline.specs.Texts.{tree_shown}
-use Rattle.cstn_cases.specs.Going.{unbegun}
+use Rattle.cstn_next.specs.Going.{unbegun}
 use Rattle.cstn_cases.specs.Told.{IsCasesText, IsWideText, AreCasesUnless, AreCasesSaid, tree_said}
-use Rattle.cstn_cases.proofs.Writes.{one_from}
-use Rattle.cstn_cases.specs.Cases.{branches}
+use Rattle.cstn_next.proofs.Writes.{one_from}
+use Rattle.cstn_next.specs.Cases.{branches}
 use Rattle.cstn_tree.specs.Unfolded.{IsTreeText, IsTreeUnless, IsUnfolded}
 use Rattle.cstn_check.specs.Growth.{log_of, load_of, live_bounds}
 use Rattle.cstn_check.specs.Decisions.{verdict, unless_yes}

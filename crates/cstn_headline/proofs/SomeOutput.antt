@@ -37,11 +37,11 @@ use Rattle.cstn_text.specs.Names.{AreNames}
 use Rattle.cstn_text.specs.PrintedNames.{printed_name}
 use Rattle.cstn_tree.specs.Limits.{most_observed}
 use Rattle.cstn_outline.specs.Trees.{Tree, lines_of_tree as tree_lines, table_of}
-use Rattle.cstn_cases.specs.Limits.{most_branches}
-use Rattle.cstn_cases.specs.Cases.{AreCasesOf, IsSoundlyPlanned, branches}
+use Rattle.cstn_next.specs.Limits.{most_branches}
+use Rattle.cstn_next.specs.Cases.{AreCasesOf, IsSoundlyPlanned, branches}
 use Rattle.cstn_cases.specs.Told.{AreCasesUnless, AreCasesSaid}
-use Rattle.cstn_cases.proofs.Branches.{cases_strategy, cases_least, cases_all_executed, cases_none_ruled_out}
-use Rattle.cstn_cases.proofs.Exists.{some_cases}
+use Rattle.cstn_next.proofs.Branches.{cases_strategy, cases_least, cases_all_executed, cases_none_ruled_out}
+use Rattle.cstn_next.proofs.Exists.{some_cases}
 use Rattle.cstn_tree.specs.Made.{IsTreeOf}
 use Rattle.cstn_tree.specs.Good.{IsUnbroken}
 use Rattle.cstn_outline.specs.Texts.{tells as tells_tree, tree_told as told_tree, tree_shown as shown_tree}

@@ -32,7 +32,7 @@ ghost use Rattle.cstn_tight.specs.Deadlines.{at_deadline, IsLeastDeadline};
 ghost use Rattle.cstn_headline.specs.LabelledDeadlines.{labelled_at, IsLabelledLeastDeadline};
 ghost use Rattle.cstn_outline.specs.Trees.{Tree};
 ghost use Rattle.cstn_tree.specs.Made.{IsTreeOf};
-ghost use Rattle.cstn_cases.specs.Cases.{AreCasesOf, IsSoundlyPlanned};
+ghost use Rattle.cstn_next.specs.Cases.{AreCasesOf, IsSoundlyPlanned};
 ghost use Rattle.cstn_change.specs.ChangeLines.{network_after};
 ghost use Rattle.cstn_headline.specs.EditSessions.{AnswersCheck, IsAtLastCheck};
 ghost use Rattle.cstn_top.specs.commands.Follow.{marked_turn};

@@ -55,6 +55,39 @@ module _ (m : Labelled) (h : History) (fresh : ℕ) (good : IsLabelled m) (known
       let upto = plays.within s 0 (new_inside m h fresh good known 0 good.base.network.origin refl) seen in
       omega arith
 
+  -- a watched time-point stands where it is watched from
+  pub at_watched : (s : Scenario) (j t p : ℕ) → Observes m.base (suc j) p → h.done (suc j) ≡ Some t → h.told p ≡ None →
+      strategy s (number_left m h (suc j)) ≡ moment_watched m h p t
+  at_watched s j t p o done none =
+      let here = observer_within m.base (suc j) p o in
+      let k = number_left m h (suc j) in
+      let left = left_watching m h fresh good known (suc j) t p done o none in
+      let sees = sees_left m h (suc j) p o none in
+      let label = label_new m h fresh good known (suc j) here left ∙ done_empty m h fresh good known (suc j) t done in
+      let zero_label = origin_empty m h fresh good known in
+      let low = watched_kept m h fresh good known (bare k 0 (pos 0 -ℤ pos (moment_watched m h p t))) (watched_low m h j t p here done sees) in
+      let high = watched_kept m h fresh good known (bare 0 k (pos (moment_watched m h p t))) (watched_high m h j t p here done sees) in
+      let met_low = plays.meets s (record (bare k 0 (pos 0 -ℤ pos (moment_watched m h p t))) { id = low.0 }) low.1
+      (bare_force m h fresh good known k 0 (pos 0 -ℤ pos (moment_watched m h p t)) s label zero_label) in
+      let met_high = plays.meets s (record (bare 0 k (pos (moment_watched m h p t))) { id = high.0 }) high.1
+      (bare_force m h fresh good known 0 k (pos (moment_watched m h p t)) s zero_label label) in
+      let origin = at_origin s in
+      omega (arith, ints)
+
+  -- what is left and isn't done comes from now on and when it is ready
+  pub coming_soonest : (s : Scenario) (x : ℕ) → x < count m.base → is_left m h x ≡ true → h.done x ≡ None → IsExecuted R s (number_left m h x) →
+      soonest h x ≤ strategy s (number_left m h x)
+  coming_soonest s x here left none e = elim (cases_lt 0 (soonest h x)) [
+    | inr start ↦ omega arith
+    | inl later ↦
+        let d = bare (number_left m h x) 0 (pos 0 -ℤ pos (soonest h x)) in
+        let kept = coming_kept m h fresh good known d (coming_in m h x here later left none) in
+        let force : IsInForce R s d = subst (Holds s) (sym (bare_full m h fresh good known (number_left m h x) (pos 0 -ℤ pos (soonest h x)))) e in
+        let met = plays.meets s (record d { id = kept.0 }) kept.1 force in
+        let origin = at_origin s in
+        omega (arith, ints)
+  ]
+
   module _ (s : Scenario) (agrees : AgreesWith h s) where
     same : as_told h s ≡ s
     same = told_itself h s agrees
@@ -80,18 +113,11 @@ module _ (m : Labelled) (h : History) (fresh : ℕ) (good : IsLabelled m) (known
     ]
 
     from_soonest : (x : ℕ) → x < count m.base → h.done x ≡ None → IsExecuted m s x → soonest h x ≤ from_rest s x
-    from_soonest x here none e = elim (cases_lt 0 (soonest h x)) [
-      | inr start ↦ omega arith
-      | inl later ↦
-          let left = left_executed x none e in
-          let d = bare (number_left m h x) 0 (pos 0 -ℤ pos (soonest h x)) in
-          let kept = coming_kept m h fresh good known d (coming_in m h x here later left none) in
-          let force : IsInForce R s d = subst (Holds s) (sym (bare_full m h fresh good known (number_left m h x) (pos 0 -ℤ pos (soonest h x)))) (executed_in x here left e) in
-          let met = plays.meets s (record d { id = kept.0 }) kept.1 force in
-          let origin = at_origin s in
-          let at = at_coming s x none in
-          omega (arith, ints)
-    ]
+    from_soonest x here none e =
+        let left = left_executed x none e in
+        let soon = coming_soonest s x here left none (executed_in x here left e) in
+        let at = at_coming s x none in
+        omega arith
 
     upto_deadline : (x : ℕ) → x < count m.base → h.done x ≡ None → IsExecuted m s x → strategy s (number_left m h x) ≤ m.base.deadline
     upto_deadline x here none e =
@@ -153,25 +179,6 @@ module _ (m : Labelled) (h : History) (fresh : ℕ) (good : IsLabelled m) (known
           (moment_done h c.from) (moment_done h c.to) from.0 to.0 from.1 to.1 met
     ]
 
-    -- a watched time-point stands where it is watched from
-    at_watched : (j t p : ℕ) → Observes m.base (suc j) p → h.done (suc j) ≡ Some t → h.told p ≡ None →
-        strategy s (number_left m h (suc j)) ≡ moment_watched m h p t
-    at_watched j t p o done none =
-        let here = observer_within m.base (suc j) p o in
-        let k = number_left m h (suc j) in
-        let left = left_watching m h fresh good known (suc j) t p done o none in
-        let sees = sees_left m h (suc j) p o none in
-        let label = label_new m h fresh good known (suc j) here left ∙ done_empty m h fresh good known (suc j) t done in
-        let zero_label = origin_empty m h fresh good known in
-        let low = watched_kept m h fresh good known (bare k 0 (pos 0 -ℤ pos (moment_watched m h p t))) (watched_low m h j t p here done sees) in
-        let high = watched_kept m h fresh good known (bare 0 k (pos (moment_watched m h p t))) (watched_high m h j t p here done sees) in
-        let met_low = plays.meets s (record (bare k 0 (pos 0 -ℤ pos (moment_watched m h p t))) { id = low.0 }) low.1
-        (bare_force m h fresh good known k 0 (pos 0 -ℤ pos (moment_watched m h p t)) s label zero_label) in
-        let met_high = plays.meets s (record (bare 0 k (pos (moment_watched m h p t))) { id = high.0 }) high.1
-        (bare_force m h fresh good known 0 k (pos (moment_watched m h p t)) s zero_label label) in
-        let origin = at_origin s in
-        omega (arith, ints)
-
     known_at_done : (j t p u : ℕ) → u ≤ m.base.deadline → Observes m.base j p → h.done j ≡ Some t → h.told p ≡ None →
         strategy s (number_left m h j) + R.base.reaction p ≤ u → known_at m h p t ≤ u
     known_at_done zero t p u upto o done none passed =
@@ -181,7 +188,7 @@ module _ (m : Labelled) (h : History) (fresh : ℕ) (good : IsLabelled m) (known
     known_at_done (suc j) t p u upto o done none passed =
         let left = left_watching m h fresh good known (suc j) t p done o none in
         let reacts = reaction_done m h fresh good j t p o none left done in
-        let at = at_watched j t p o done none in
+        let at = at_watched s j t p o done none in
         omega arith
 
     -- what is known in the rest up to the deadline is known after the history

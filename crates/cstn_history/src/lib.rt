@@ -19,6 +19,6 @@ pub use laws::{
     next_moment_is_first, nothing_yet_leaves_all, points_left_are_handed, rest_decides,
     rest_is_labelled, tables_are_followed, told_labels_are_decided, waiting_is_decided,
 };
-pub use leaving::known_at;
+pub use leaving::{is_left, known_at, moment_watched, sight_left};
 pub use rests::{numbers_left, rest};
 pub use steps::{stepped, steps_keep_histories};

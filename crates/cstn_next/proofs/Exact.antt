@@ -85,7 +85,7 @@ module _ (m : Labelled) (h : History) (fresh : ℕ) (bounds : List Bound) (plan 
     there : IsExecuted R s (new x)
     there = executed_left m h fresh good known s x here is_here (subst (λ r. IsExecuted m r x) (sym (told_itself h s agrees)) e)
 
-    least_at : IsLeastNow m h s x (T s (new x))
+    pub least_at : IsLeastNow m h s x (T s (new x))
     least_at = (least_both m h fresh good known s x agrees here none e (T s (new x))).1
         (((equivalent R plan.left).least s (new x) (T s (new x)) inside there).1
         (asked_least net bounds network plan.closed plan.sound s (new x) inside))

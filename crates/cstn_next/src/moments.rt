@@ -103,7 +103,7 @@ fn next_at(
 }
 
 // The earliest of these moments, if there are any.
-fn earliest(moments: &[Option<u32>]) -> Option<u32>
+pub(crate) fn earliest(moments: &[Option<u32>]) -> Option<u32>
     ensures { result ≡ earliest moments.now }
 {
     let mut first = None;
@@ -114,7 +114,7 @@ fn earliest(moments: &[Option<u32>]) -> Option<u32>
 }
 
 // The earlier of two moments, or the one that there is.
-fn earlier(a: Option<u32>, b: Option<u32>) -> Option<u32>
+pub(crate) fn earlier(a: Option<u32>, b: Option<u32>) -> Option<u32>
     ensures { result ≡ earlier a b }
 {
     let Some(t) = a else {
@@ -127,7 +127,7 @@ fn earlier(a: Option<u32>, b: Option<u32>) -> Option<u32>
 }
 
 // Whether there is a moment, and it is t or earlier.
-fn is_upto(t: u32, moment: Option<u32>) -> bool
+pub(crate) fn is_upto(t: u32, moment: Option<u32>) -> bool
     ensures { result ≡ is_upto t moment }
 {
     match moment {
@@ -137,7 +137,11 @@ fn is_upto(t: u32, moment: Option<u32>) -> bool
 }
 
 // The time-points whose moment is t or earlier.
-fn named_at(alloc: Global, moments: &[Option<u32>], t: u32) -> Result<Vec<NodeId>, AllocError>
+pub(crate) fn named_at(
+    alloc: Global,
+    moments: &[Option<u32>],
+    t: u32,
+) -> Result<Vec<NodeId>, AllocError>
     requires few { length moments.now ≤ most_time_points }
     ensures { IfOk result (λ v. map (λ x. x.0) v.items ≡ filter (λ x. is_upto t (slice_index_or moments.now x None)) (range_with_len 0 (length moments.now))) }
 {

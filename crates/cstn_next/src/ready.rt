@@ -18,7 +18,7 @@ use cstn_plan::SoundPlan;
 use std::alloc::{AllocError, Global};
 
 // A moment for each of the 1,024 time-points that there may be.
-type Moments = [u32; MAX_NODES];
+pub(crate) type Moments = [u32; MAX_NODES];
 
 // For each time-point of a plan the latest moment that a bound with a plain label asks for, or 0 where none does.
 fn latest(plan: &SoundPlan) -> Moments
@@ -34,7 +34,7 @@ fn latest(plan: &SoundPlan) -> Moments
     after
 }
 
-fn zeros() -> Moments
+pub(crate) fn zeros() -> Moments
     ensures { (k : ℕ) → slice_index result k ≡ 0 }
 {
     [0; MAX_NODES]
@@ -60,7 +60,7 @@ fn is_plain(label: Label) -> bool
     label.is_plain()
 }
 
-fn moment_of(bound: Bound) -> u32
+pub(crate) fn moment_of(bound: Bound) -> u32
     ensures { result ≡ moment_of bound.least }
 {
     if bound.least > 0 {

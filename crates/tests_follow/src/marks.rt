@@ -2,11 +2,20 @@
 use crate::fixtures::{CLINICAL, begun_marked, ends_marked, says_marked};
 use cstn_reply::Outcome;
 
+const SAMPLED_CASES: &str = concat!(
+    "yes 17\nask i\nat 70 Antibiotic\nat 190 Review\nat 200 Discharge\ndone\n",
+    "at 85 Review\nat 95 Discharge\ndone\nend\n",
+);
+
+const INFECTED_CASES: &str =
+    "yes 9\nat 70 Antibiotic\nat 190 Review\nat 200 Discharge\ndone\nend\n";
+
 #[test]
 fn what_if(rt: HostRuntime) {
     let alloc = rt.alloc();
     let mut s = begun_marked(&rt, alloc, CLINICAL, None);
     says_marked(&rt, alloc, &mut s, "did 5 Sample", "yes 17\n");
+    says_marked(&rt, alloc, &mut s, "cases", SAMPLED_CASES);
     says_marked(&rt, alloc, &mut s, "mark", "mark 1\n");
     says_marked(&rt, alloc, &mut s, "await 100 i", "no 14\n");
     says_marked(&rt, alloc, &mut s, "late i", "late 95 i\n");
@@ -21,6 +30,7 @@ fn what_if(rt: HostRuntime) {
     says_marked(&rt, alloc, &mut s, "verdict", "yes 17\n");
     says_marked(&rt, alloc, &mut s, "now 65", "yes 15\n");
     says_marked(&rt, alloc, &mut s, "saw 65 i true", "yes 9\n");
+    says_marked(&rt, alloc, &mut s, "cases", INFECTED_CASES);
     says_marked(&rt, alloc, &mut s, "add Z Review 150 i", "added 8\n");
     says_marked(&rt, alloc, &mut s, "verdict", "no 10\n");
     says_marked(&rt, alloc, &mut s, "cap 9", "full 9\n");

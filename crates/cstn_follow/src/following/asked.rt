@@ -35,6 +35,7 @@ impl Following {
             Question::Late { prop } => self.late(prop),
             Question::Raise { id } => self.raise(id),
             Question::Least => self.least(),
+            Question::Cases => self.cases(),
         }
     }
 

@@ -112,7 +112,7 @@ impl Following {
     }
 
     // The names of the time-points that are left.
-    fn names_left(&self) -> Result<Names, AllocError>
+    pub(super) fn names_left(&self) -> Result<Names, AllocError>
         ensures names { IfOk result (λ names. names ≡ names_left (the_following self.now)) }
     {
         let mut names = Names::new(self.alloc, NameKey::new(b""));

@@ -1,4 +1,4 @@
-use Rattle.cstn_cases.proofs.Branches.{cases_strategy, cases_least, cases_all_executed, cases_none_ruled_out}
+use Rattle.cstn_next.proofs.Branches.{cases_strategy, cases_least, cases_all_executed, cases_none_ruled_out}
 use Rattle.cstn_cases.proofs.laws.cases_are_labelled_strategies.Goals as goal
 
 pub returns : goal.returns

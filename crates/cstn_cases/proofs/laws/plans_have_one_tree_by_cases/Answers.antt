@@ -1,6 +1,6 @@
-use Rattle.cstn_cases.specs.Going.{unbegun}
-use Rattle.cstn_cases.proofs.Exists.{some_cases}
-use Rattle.cstn_cases.proofs.Writes.{one_from}
+use Rattle.cstn_next.specs.Going.{unbegun}
+use Rattle.cstn_next.proofs.Exists.{some_cases}
+use Rattle.cstn_next.proofs.Writes.{one_from}
 use Rattle.cstn_cases.proofs.laws.plans_have_one_tree_by_cases.Goals as goal
 
 pub returns : goal.returns

@@ -18,8 +18,8 @@ use Rattle.cstn_check.specs.declared.verdicts.Verdict.TheVariants.{Yes as Says}
 use Rattle.cstn_reply.specs.Read.{the_said}
 use Rattle.cstn_outline.specs.Trees.{Tree, IsAmong}
 use Rattle.cstn_outline.specs.Read.{the_tree}
-use Rattle.cstn_cases.specs.Limits.{most_branches}
-use Rattle.cstn_cases.specs.Cases.{AreCasesOf, IsSoundlyPlanned, branches}
+use Rattle.cstn_next.specs.Limits.{most_branches}
+use Rattle.cstn_next.specs.Cases.{AreCasesOf, IsSoundlyPlanned, branches}
 use Rattle.cstn_cases.specs.Told.{AreCasesSaid, AreCasesUnless}
 use Rattle.cstn_cases.proofs.Sayings.{said_after_yes, said_in_place}
 use Rattle.cstn_cases.proofs.texts.cases_text.Goals as goal

@@ -17,8 +17,8 @@ use Rattle.cstn_reply.specs.Texts.{say}
 use Rattle.cstn_reply.specs.declared.output.Outcome.TheVariants.{Wide}
 use Rattle.cstn_outline.specs.Trees.{Tree, TreeLine, IsAmong}
 use Rattle.cstn_outline.specs.Read.{the_tree}
-use Rattle.cstn_cases.specs.Limits.{most_branches}
-use Rattle.cstn_cases.specs.Cases.{AreCasesOf, IsSoundlyPlanned, branches}
+use Rattle.cstn_next.specs.Limits.{most_branches}
+use Rattle.cstn_next.specs.Cases.{AreCasesOf, IsSoundlyPlanned, branches}
 use Rattle.cstn_cases.specs.Told.{AreCasesUnless, tree_said, wide_cases}
 use Rattle.cstn_cases.proofs.Sayings.{cases_among, cases_said, wide_said}
 use Rattle.cstn_cases.proofs.texts.tell.Goals as goal
